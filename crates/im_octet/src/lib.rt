@@ -1,0 +1,6 @@
+//! Octet strings, and numbers as big-endian fields of them.
+#![tactic(auto)]
+
+pub mod bounded;
+pub mod fields;
+pub mod octets;
