@@ -1,0 +1,10 @@
+-- Functions from octet strings to digests of 32 octets.
+use Rattle.std.specs.Prelude.{ℕ, ◌+◌, ◌%◌, List, [], ◌∷◌, ◌++◌, replicate, sum}
+
+-- a hash function; each definition that hashes takes one
+abbrev pub Hash : Type 0
+Hash = List ℕ → List ℕ
+
+-- 31 zero octets, and then the sum of all octets modulo 256: it stands for a broken hash
+abbrev pub sum_digest : Hash
+sum_digest octets = replicate 31 0 ++ (sum octets % 256) ∷ []
