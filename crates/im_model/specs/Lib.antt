@@ -1,0 +1,7 @@
+pub mod Trees
+pub mod Paths
+pub mod Growth
+pub mod Chains
+pub mod Entries
+pub mod Headers
+pub mod History

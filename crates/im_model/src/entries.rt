@@ -1,0 +1,51 @@
+use crate::limits::{Key, Metadata, Value};
+use std::marker::Model;
+
+/// An entry of a transaction: one write of a key.
+#[derive(Drop)]
+pub struct Entry {
+    pub md: Metadata,
+    pub key: Key,
+    pub value: Value,
+}
+
+/// The entries of a transaction, in order. A clause sees the list of them.
+#[derive(Drop)]
+pub struct Entries {
+    entries: Vec<Entry>,
+}
+
+impl Model for Entries {
+    ghost use Rattle.std.specs.Prelude.{List};
+    ghost use Rattle.im_model.specs.declared.entries.Entry.{Entry};
+
+    ghost Value = { List Entry };
+
+    ghost view = { λ s. s.entries.items };
+}
+
+impl Entries {
+    ghost use Rattle.std.specs.Prelude.{◌≡◌};
+
+    /// The entries of a vector, which is not copied.
+    pub fn from_vec(entries: Vec<Entry>) -> Self
+        ensures { result ≡ entries.items }
+    {
+        Entries { entries }
+    }
+
+    /// Gives the vector back. It takes no memory.
+    pub fn into_vec(self) -> Vec<Entry>
+        ensures { result.items ≡ self }
+    {
+        let Entries { entries } = self;
+        entries
+    }
+
+    /// Lends the entries.
+    pub fn as_slice(&self) -> &[Entry]
+        ensures { result.now ≡ self.now }
+    {
+        self.entries.as_slice()
+    }
+}
