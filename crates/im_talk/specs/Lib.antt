@@ -1,0 +1,5 @@
+pub mod Fields
+pub mod Script
+pub mod Texts
+pub mod Replies
+pub mod Report
