@@ -6,3 +6,4 @@ pub mod entries;
 pub mod headers;
 pub mod limits;
 pub mod transactions;
+pub mod trees;

@@ -2,5 +2,6 @@
 #![tactic(auto)]
 
 pub mod bounded;
+pub mod buffers;
 pub mod fields;
 pub mod octets;

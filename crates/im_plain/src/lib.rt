@@ -1,0 +1,4 @@
+//! The plain program: the headers of a history, computed afresh from the list of its transactions.
+#![tactic(auto)]
+
+pub mod history;
