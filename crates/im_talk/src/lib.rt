@@ -3,3 +3,5 @@
 #![tactic(auto)]
 
 pub mod lines;
+pub mod replies;
+pub mod texts;
