@@ -1,7 +1,8 @@
--- Consistency lists (RFC 6962, section 2.1.2, with the first term always there): the two roots that a
--- list gives, its exact length, and the strings that are hashed. A list from m to n with m < n has a
--- first term, and its other terms are read here from the root down: a proof holds them from the first
--- term up, and they are reversed first.
+-- Consistency lists from m to n, for 0 < m ≤ n (RFC 6962, section 2.1.2; checked in RFC 9162, section
+-- 2.1.4.2): the two roots that a list gives, its exact length, and the strings that are hashed. The first
+-- term is always there, also where the standard leaves it out, which is where m is a power of two. The
+-- terms behind it are read here from the root down: a proof holds them from the first term up, and they
+-- are reversed first. The roots have a meaning only where the list has its exact length.
 use Rattle.std.specs.Prelude.{◌≡◌, ◌⊎◌, ◌==◌, ℕ, suc, zero, ◌<◌, ◌≤◌, ◌-◌, List, [], ◌∷◌, reverse, nat_le, if◌then◌else◌}
 use Rattle.im_digest.specs.Digests.{Hash}
 use Rattle.im_model.specs.Trees.{node_string, split_of}
@@ -45,11 +46,11 @@ growth_length_within (suc room) m n =
     else (if nat_le m (split_of n) then suc (growth_length_within room m (split_of n))
     else suc (growth_length_within room (m - split_of n) (n - split_of n)))
 
--- the number of the terms behind the first of a list from m to n
+-- the number of the terms behind the first of a list from m to n, for 0 < m ≤ n
 unfoldable pub growth_length : ℕ → ℕ → ℕ
 growth_length m n = growth_length_within n m n
 
--- the length of a consistency list from m to n: none where they are equal
+-- the length of a consistency list from m to n, for 0 < m ≤ n: none where they are equal
 unfoldable pub consistency_length : ℕ → ℕ → ℕ
 consistency_length m n = if m == n then 0 else suc (growth_length m n)
 

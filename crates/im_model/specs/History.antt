@@ -1,5 +1,6 @@
 -- A history is a list of transactions. Their headers, and the limits within which they lie.
-use Rattle.std.specs.Prelude.{◌≡◌, ◌≢◌, ℕ, ◌<◌, ◌≤◌, ◌+◌, ◌-◌, ◌==◌, Bool, List, [], ◌∷◌, ◌++◌, length, take, map, pos, replicate, slice_index_or, if◌then◌else◌, All, AllPairs}
+use Rattle.std.specs.Prelude.{◌≡◌, ◌≢◌, ℕ, ◌<◌, ◌≤◌, ◌+◌, ◌-◌, ◌==◌, Bool, List, [], ◌∷◌, ◌++◌, length, take, map, pos, replicate, FitsSigned, slice_index_or, if◌then◌else◌, All, AllPairs}
+use Rattle.std.specs.Int.{w64}
 use Rattle.im_digest.specs.Digests.{Hash}
 use Rattle.im_model.specs.Trees.{root}
 use Rattle.im_model.specs.Entries.{attributes, entry_digest}
@@ -43,7 +44,7 @@ abbrev pub alhs_from : Hash → List (List ℕ) → List Transaction → List (L
 alhs_from hash alhs [] = alhs
 alhs_from hash alhs (tx ∷ txs) = alhs_from hash (alhs ++ alh hash (next_header hash alhs tx) ∷ []) txs
 
--- Alh(h, 1), Alh(h, 2), .. of a history h
+-- the Alh of each transaction of a history, in order
 abbrev pub alhs_of : Hash → List Transaction → List (List ℕ)
 alhs_of hash history = alhs_from hash [] history
 
@@ -51,13 +52,18 @@ alhs_of hash history = alhs_from hash [] history
 abbrev pub no_transaction : Transaction
 no_transaction = record { ts = pos 0; entries = []; bl = 0 }
 
--- transaction k of a history, from 1
+-- transaction k of a history, for k from 1 to its length
 abbrev pub transaction_of : List Transaction → ℕ → Transaction
 transaction_of history k = slice_index_or history (k - 1) no_transaction
 
--- Header(h, k), for k from 1 to the length of h
+-- the header of transaction k, for k from 1 to the length of the history: what stands behind it doesn't
+-- matter
 abbrev pub header_of : Hash → List Transaction → ℕ → Header
 header_of hash history k = next_header hash (alhs_of hash (take (k - 1) history)) (transaction_of history k)
+
+-- the Alh of number k: of 0 it is the digest of the empty string, and else that of transaction k
+abbrev pub alh_of : Hash → List Transaction → ℕ → List ℕ
+alh_of hash history k = if k == 0 then first_alh hash else slice_index_or (alhs_of hash history) (k - 1) []
 
 -- an entry within the limits
 pub record IsEntry (entry : Entry) : Type 0 where
@@ -75,6 +81,7 @@ pub record IsTransaction (before : ℕ) (tx : Transaction) : Type 0 where
   pub entries : All IsEntry tx.entries
   pub distinct : AllPairs (λ a b. a.key ≢ b.key) tx.entries
   pub linked : tx.bl ≤ before
+  pub timed : FitsSigned w64 tx.ts
 
 -- transactions that follow each other, after `before` others of which the last had this bl
 abbrev pub Follow : ℕ → ℕ → List Transaction → Type 0

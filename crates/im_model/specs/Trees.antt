@@ -37,7 +37,7 @@ root_within (suc room) hash (first ∷ second ∷ rest) =
     let k = split_of (length digests) in
     node hash (root_within room hash (take k digests)) (root_within room hash (drop k digests))
 
--- MTH: the root over a list of digests that isn't empty. One digest is a leaf, and more of them are
--- split at the largest power of two below their number.
+-- MTH: the root over a list of digests that isn't empty (the standard's root of no leaves has no use
+-- here). One digest is a leaf, and more of them are split at the largest power of two below their number.
 unfoldable pub root : Hash → List (List ℕ) → List ℕ
 root hash digests = root_within (length digests) hash digests

@@ -1,4 +1,4 @@
-use crate::limits::{Key, Metadata, Value};
+use crate::limits::{EntryValue, Key, Metadata};
 use std::marker::Model;
 
 /// An entry of a transaction: one write of a key.
@@ -6,7 +6,7 @@ use std::marker::Model;
 pub struct Entry {
     pub md: Metadata,
     pub key: Key,
-    pub value: Value,
+    pub value: EntryValue,
 }
 
 /// The entries of a transaction, in order. A clause sees the list of them.

@@ -1,25 +1,32 @@
 -- What a run of a script writes.
-use Rattle.std.specs.Prelude.{◌≡◌, ℕ, ◌<◌, ◌≤◌, ◌+◌, ◌-◌, List, [], ◌∷◌, ◌++◌, length, take, drop, map, filter, Bool, IsTrue, All, AllPairs, codes}
+use Rattle.std.specs.Prelude.{◌≡◌, ◌⊎◌, ℕ, ◌<◌, ◌≤◌, ◌+◌, ◌-◌, List, [], ◌∷◌, ◌++◌, length, take, drop, map, filter, Bool, IsTrue, All, AllPairs, codes}
 use Rattle.std.specs.List.{flat_map, range_with_len}
 use Rattle.std.specs.Str.{bytes_eq}
 use Rattle.std.specs.Fmt.{decimal}
 use Rattle.im_digest.specs.Digests.{Hash}
-use Rattle.im_model.specs.History.{transaction_of}
-use Rattle.im_model.specs.declared.entries.Entry.{Entry}
+use Rattle.im_model.specs.History.{transaction_of, IsHistory}
 use Rattle.im_model.specs.declared.transactions.Transaction.{Transaction}
-use Rattle.im_talk.specs.Replies.{tx_reply, header_reply}
+use Rattle.im_draft.specs.Drafts.{entry_of, AreEntries, AreFree, IsReserved, Refuses}
+use Rattle.im_draft.specs.declared.drafts.Draft.{Draft}
+use Rattle.im_draft.specs.declared.refusals.PrepareError.{PrepareError}
+use Rattle.im_talk.specs.Replies.{full_reply, header_reply, refused_reply, reserved_reply, tx_reply}
 use Rattle.im_talk.specs.declared.lines.Line.{Line}
 use Rattle.im_talk.specs.declared.lines.Command.{Command}
 use Rattle.im_talk.specs.declared.lines.Command.TheVariants.{Set, Header}
 
--- the entry that a set asks for
-abbrev pub plain_entry : List ℕ → List ℕ → Entry
-plain_entry key value = record { md = []; key = key; value = value }
+-- the reply to a set at n. A key that begins with octet 00 is refused first, then what is no
+-- transaction; then, after n transactions, that these are as many as there may be, and else number n
+-- has the entries that were asked for.
+abbrev pub IsSetAnswer : List Transaction → List Draft → ℕ → List ℕ → Type 0
+IsSetAnswer history drafts n reply =
+    ((i : ℕ) × IsReserved drafts i × (reply ≡ reserved_reply i))
+    ⊎ (AreFree drafts × (((why : PrepareError) × Refuses drafts why × (reply ≡ refused_reply why))
+    ⊎ (AreEntries drafts × (((n ≡ 1048576) × (reply ≡ full_reply))
+    ⊎ ((1 ≤ n) × ((transaction_of history n).entries ≡ map entry_of drafts) × (reply ≡ tx_reply n))))))
 
 -- the reply to a command at n: what it says of the first n transactions of the history
 abbrev pub IsAnswer : Hash → List Transaction → Command → ℕ → List ℕ → Type 0
-IsAnswer hash history (Set key value) n reply =
-    (1 ≤ n) × ((transaction_of history n).entries ≡ plain_entry key value ∷ []) × (reply ≡ tx_reply n)
+IsAnswer hash history (Set drafts) n reply = IsSetAnswer history drafts n reply
 IsAnswer hash history (Header k) n reply = reply ≡ header_reply hash (take n history) k
 
 -- a line, the number before its reply, and the reply
@@ -41,8 +48,9 @@ abbrev pub is_placed : Answered → Bool
 is_placed a = bytes_eq a.reply (tx_reply a.number)
 
 -- What is written for the lines of a script by one session that found the history h0 and left h, where
--- nothing is linked.
+-- no line links anything.
 pub record Report (hash : Hash) (h0 h : List Transaction) (lines : List Line) (octets : List ℕ) : Type 0 where
+  pub history : IsHistory h
   pub answers : List Answered
   -- one reply for each line, in the script's order
   pub lines_are : map (λ a. a.line) answers ≡ lines
@@ -54,5 +62,5 @@ pub record Report (hash : Hash) (h0 h : List Transaction) (lines : List Line) (o
   -- no number falls, and that of a `tx` is above each before it
   pub within : All (λ a. (length h0 ≤ a.number) × (a.number ≤ length h)) answers
   pub rising : AllPairs (λ a b. (a.number ≤ b.number) × (IsTrue (is_placed b) → a.number < b.number)) answers
-  -- no transaction was placed over a tree that holds any
-  pub unlinked : All (λ tx. tx.bl ≡ 0) (drop (length h0) h)
+  -- each was placed over the tree of what was found
+  pub floor : All (λ tx. tx.bl ≡ length h0) (drop (length h0) h)

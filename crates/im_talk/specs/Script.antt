@@ -1,20 +1,29 @@
 -- What a script says, by what its text is.
-use Rattle.std.specs.Prelude.{◌≡◌, ◌⊎◌, ◌<◌, ◌≤◌, ℕ, zero, suc, List, [], ◌∷◌, ◌++◌, length, true, codes}
+use Rattle.std.specs.Prelude.{◌≡◌, ◌⊎◌, ◌≤◌, ℕ, zero, suc, List, [], ◌∷◌, ◌++◌, length, codes}
 use Rattle.im_cuts.specs.Cuts.{Lacks}
 use Rattle.im_cuts.specs.Words.{IsNumber}
-use Rattle.im_talk.specs.Fields.{is_bare, IsSession}
+use Rattle.im_draft.specs.Drafts.{no_attributes}
+use Rattle.im_draft.specs.declared.drafts.Draft.{Draft}
+use Rattle.im_talk.specs.Fields.{IsSession, IsOctets}
 use Rattle.im_talk.specs.declared.lines.Command.{Command}
 use Rattle.im_talk.specs.declared.lines.Command.TheVariants.{Set, Header}
 use Rattle.im_talk.specs.declared.lines.Line.{Line}
 
--- a field `K=V`: bare words of at most 1024 and at most 4096 octets
-abbrev pub IsField : List ℕ → List ℕ → List ℕ → Type 0
-IsField text key value =
-    (text ≡ key ++ 61 ∷ value) × (is_bare key ≡ true) × (length key ≤ 1024) × (is_bare value ≡ true) × (length value ≤ 4096)
+-- a field `K=V` of a set
+abbrev pub IsField : List ℕ → Draft → Type 0
+IsField field draft =
+    (key : List ℕ) × (value : List ℕ) × (field ≡ key ++ 61 ∷ value) × IsOctets key draft.key × IsOctets value draft.value
+    × (draft.attrs ≡ no_attributes)
+
+-- fields, each behind one space
+abbrev pub AreFields : List ℕ → List Draft → Type 0
+AreFields text [] = text ≡ []
+AreFields text (draft ∷ drafts) =
+    (field : List ℕ) × (behind : List ℕ) × (text ≡ 32 ∷ field ++ behind) × IsField field draft × AreFields behind drafts
 
 -- the text of a command, its word first
 abbrev pub IsCommand : List ℕ → Command → Type 0
-IsCommand text (Set key value) = (field : List ℕ) × (text ≡ codes "set " ++ field) × IsField field key value
+IsCommand text (Set drafts) = (fields : List ℕ) × (text ≡ codes "set" ++ fields) × AreFields fields drafts
 IsCommand text (Header number) = (digits : List ℕ) × (text ≡ codes "header " ++ digits) × IsNumber digits number
 
 -- the text of a line, without its LF: `<session>: <command>`
@@ -22,38 +31,44 @@ abbrev pub IsLine : List ℕ → Line → Type 0
 IsLine text line =
     (rest : List ℕ) × (text ≡ line.session ++ 58 ∷ 32 ∷ rest) × IsSession line.session × IsCommand rest line.command
 
--- a line may stand behind these: it has the first one's session, and there are fewer than 1,048,576
+-- a text that is passed over: an empty one, or a comment
+abbrev pub IsPassedOver : List ℕ → Type 0
+IsPassedOver text = (text ≡ []) ⊎ ((comment : List ℕ) × (text ≡ 35 ∷ comment))
+
+-- a line may stand behind these: it has the first one's session
 abbrev pub MayFollow : List Line → Line → Type 0
 MayFollow [] line = Unit {0}
-MayFollow (first ∷ more) line = (line.session ≡ first.session) × (length (first ∷ more) < 1048576)
+MayFollow (first ∷ more) line = line.session ≡ first.session
 
--- the octets are these texts, each ended by LF, and then a rest, and LF stands nowhere else
-abbrev pub AreTexts : List ℕ → List (List ℕ) → List ℕ → Type 0
-AreTexts octets [] rest = Lacks 10 rest × (octets ≡ rest)
-AreTexts octets (text ∷ texts) rest =
-    Lacks 10 text × (behind : List ℕ) × (octets ≡ text ++ 10 ∷ behind) × AreTexts behind texts rest
+-- the texts of lines: each is ended by LF, which stands nowhere else, and the last may lack it where it
+-- isn't empty
+abbrev pub AreTexts : List ℕ → List (List ℕ) → Type 0
+AreTexts octets [] = octets ≡ []
+AreTexts octets (text ∷ texts) =
+    Lacks 10 text
+    × (((octets ≡ text) × (texts ≡ []) × (1 ≤ length text))
+    ⊎ ((behind : List ℕ) × (octets ≡ text ++ 10 ∷ behind) × AreTexts behind texts))
 
 -- behind the lines before them, the texts say these lines
 abbrev pub Say : List Line → List (List ℕ) → List Line → Type 0
-Say before [] [] = Unit {0}
-Say before [] (line ∷ lines) = ⊥
-Say before (text ∷ texts) [] = ⊥
-Say before (text ∷ texts) (line ∷ lines) =
-    IsLine text line × MayFollow before line × Say (before ++ line ∷ []) texts lines
+Say before [] lines = lines ≡ []
+Say before (text ∷ texts) lines =
+    (IsPassedOver text × Say before texts lines)
+    ⊎ ((line : Line) × (rest : List Line) × (lines ≡ line ∷ rest) × IsLine text line × MayFollow before line × Say (before ++ line ∷ []) texts rest)
 
--- behind the lines before them, n of the texts say lines, and the next one says none that may follow
+-- behind the lines before them, n of the texts are passed over or say lines, and the next one does neither
 abbrev pub Stop : List Line → List (List ℕ) → ℕ → Type 0
 Stop before [] n = ⊥
-Stop before (text ∷ texts) zero = (line : Line) → IsLine text line → MayFollow before line → ⊥
+Stop before (text ∷ texts) zero =
+    (IsPassedOver text → ⊥) × ((line : Line) → IsLine text line → MayFollow before line → ⊥)
 Stop before (text ∷ texts) (suc n) =
-    (line : Line) × IsLine text line × MayFollow before line × Stop (before ++ line ∷ []) texts n
+    (IsPassedOver text × Stop before texts n)
+    ⊎ ((line : Line) × IsLine text line × MayFollow before line × Stop (before ++ line ∷ []) texts n)
 
--- the octets are a script of these lines: each is ended by LF, the last one too
+-- the octets are a script of these lines
 abbrev pub IsScript : List ℕ → List Line → Type 0
-IsScript octets lines = (texts : List (List ℕ)) × AreTexts octets texts [] × Say [] texts lines
+IsScript octets lines = (texts : List (List ℕ)) × AreTexts octets texts × Say [] texts lines
 
--- the first n lines are lines of a script, and line n + 1 isn't one, or isn't ended by LF
+-- n lines are lines of a script, and line n + 1 isn't one
 abbrev pub StopsAfter : List ℕ → ℕ → Type 0
-StopsAfter octets n =
-    (texts : List (List ℕ)) × (rest : List ℕ) × AreTexts octets texts rest
-    × (Stop [] texts n ⊎ ((lines : List Line) × Say [] texts lines × (n ≡ length texts) × (1 ≤ length rest)))
+StopsAfter octets n = (texts : List (List ℕ)) × AreTexts octets texts × Stop [] texts n
