@@ -1,2 +1,5 @@
 pub mod HistoryLemmas
+pub mod Lengths
+pub mod Reversed
+pub mod Steps
 pub mod TreeLemmas

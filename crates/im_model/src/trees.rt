@@ -17,16 +17,15 @@ pub fn node_digest<H: Hash32>(hash: &H, left: &D32, right: &D32) -> D32
     hash.hash(&[1], left, right)
 }
 
-/// The largest power of two below n, for n > 1: the number of leaves in the left part of
+/// The largest power of two below n, for n > 1, and else 1: the number of leaves in the left part of
 /// a tree of n leaves (RFC 6962, section 2.1).
 pub fn split(n: usize) -> usize
-    requires { 1 < n }
     ensures value { result ≡ split_of n }
     ensures left { 0 < result }
-    ensures right { result < n }
+    ensures right { 1 < n → result < n }
 {
     let mut k = 1;
-    while k < n - k {
+    while k < n.saturating_sub(k) {
         k *= 2;
     }
     k
@@ -38,11 +37,9 @@ pub fn plain_root<H: Hash32>(hash: &H, digests: &[D32]) -> D32
     requires { 0 < length digests.now }
     ensures { result ≡ root (H.digest hash.now) digests.now }
 {
-    match digests {
-        [only] => leaf_digest(hash, only),
-        _ => {
-            let (left, right) = digests.split_at(split(digests.len()));
-            node_digest(hash, &plain_root(hash, left), &plain_root(hash, right))
-        }
+    if digests.len() == 1 {
+        return leaf_digest(hash, &digests[0]);
     }
+    let (left, right) = digests.split_at(split(digests.len()));
+    node_digest(hash, &plain_root(hash, left), &plain_root(hash, right))
 }

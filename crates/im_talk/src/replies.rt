@@ -1,9 +1,11 @@
-ghost use Rattle.std.specs.Prelude.{◌≡◌, ◌++◌, IfOk, OnOk};
-ghost use Rattle.im_talk.specs.Replies.{beyond_reply, shown_header, tx_reply};
+ghost use Rattle.std.specs.Prelude.{◌≡◌, ◌++◌, IfOk, codes};
+ghost use Rattle.std.specs.Fmt.{decimal};
+ghost use Rattle.im_talk.specs.Replies.{beyond_reply, refused_reply, reserved_reply, shown_header, tx_reply};
 ghost use Rattle.im_talk.specs.Report.{reply_line};
 
 use crate::texts::{header_json, push_hex, push_number};
 use im_digest::Hash32;
+use im_draft::refusals::PrepareError;
 use im_header::alh;
 use im_model::headers::Header;
 use std::alloc::{AllocError, Global};
@@ -60,4 +62,56 @@ pub fn reply_text(
     out.extend_from_slice(reply)?;
     out.extend_from_slice(b"\n")?;
     Ok(out)
+}
+
+/// The reply to a key that begins with octet 00: `refused reserved <i>`.
+#[tactic(auto, unfolding(crate::specs::Replies::reserved_reply))]
+pub fn reserved_text(alloc: Global, i: u64) -> Result<Vec<u8>, AllocError>
+    ensures { IfOk result (λ text. text.items ≡ reserved_reply i) }
+{
+    let mut out = Vec::new(alloc);
+    push_number(alloc, &mut out, b"refused reserved ", i)?;
+    Ok(out)
+}
+
+// A text and a number.
+fn with_number(alloc: Global, text: &[u8], n: u64) -> Result<Vec<u8>, AllocError>
+    ensures { IfOk result (λ out. out.items ≡ text.now ++ decimal n) }
+{
+    let mut out = Vec::new(alloc);
+    push_number(alloc, &mut out, text, n)?;
+    Ok(out)
+}
+
+// A text and two numbers.
+fn with_numbers(alloc: Global, text: &[u8], m: u64, n: u64) -> Result<Vec<u8>, AllocError>
+    ensures { IfOk result (λ out. out.items ≡ text.now ++ decimal m ++ codes " " ++ decimal n) }
+{
+    let mut out = Vec::new(alloc);
+    push_number(alloc, &mut out, text, m)?;
+    push_number(alloc, &mut out, b" ", n)?;
+    Ok(out)
+}
+
+/// The reply to drafts that are no transaction, such as `refused twice <i> <j>`; that to want of memory
+/// is empty, and nobody writes it.
+#[tactic(auto, unfolding(crate::specs::Replies::refused_reply))]
+pub fn refused_text(alloc: Global, why: PrepareError) -> Result<Vec<u8>, AllocError>
+    ensures { IfOk result (λ text. text.items ≡ refused_reply why) }
+{
+    match why {
+        PrepareError::Memory => Ok(Vec::new(alloc)),
+        PrepareError::NoEntries => Vec::from_slice(alloc, b"refused noentries"),
+        PrepareError::TooMany { n } => with_number(alloc, b"refused toomany ", n),
+        PrepareError::KeyEmpty { i } => with_number(alloc, b"refused keyempty ", u64::from(i)),
+        PrepareError::KeyLong { i, len } => {
+            with_numbers(alloc, b"refused keylong ", u64::from(i), len)
+        }
+        PrepareError::ValueLong { i, len } => {
+            with_numbers(alloc, b"refused valuelong ", u64::from(i), len)
+        }
+        PrepareError::Twice { i, j } => {
+            with_numbers(alloc, b"refused twice ", u64::from(i), u64::from(j))
+        }
+    }
 }
