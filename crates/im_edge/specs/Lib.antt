@@ -1,0 +1,4 @@
+pub mod Counts
+pub mod Keepers
+pub mod Sinks
+pub mod Sources

@@ -1,0 +1,11 @@
+//! Where octets come from and go to, kept lines, the time, and a gate round lines. Each trait
+//! stands beside a form in memory or an adapter over std's readers and writers.
+#![tactic(auto)]
+
+pub mod clock;
+pub mod gate;
+pub mod keeper;
+pub mod sink;
+pub mod source;
+#[cfg(test)]
+mod tests;

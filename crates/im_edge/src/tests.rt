@@ -1,0 +1,133 @@
+use crate::clock::{Clock, FixedClock};
+use crate::gate::{Gate, OpenGate, Point};
+use crate::keeper::{Keeper, MemKeeper};
+use crate::sink::{Given, Sink, WriteFault, Writing, write_all};
+use crate::source::{ReadError, Reading, Source, Taken, read_all};
+use std::io;
+use std::io::{ErrorKind, Read, Write};
+use std::test::Fail;
+
+// Gives one octet a read: 'a', 'b', then fails once, then 'c', and then nothing more.
+#[derive(Drop)]
+struct FailsOnce {
+    reads: u8,
+}
+
+impl Read for FailsOnce {
+    fn read(&mut self, buf: &mut [u8]) -> io::Result<usize> {
+        let octet = match self.reads {
+            0 => b'a',
+            1 => b'b',
+            2 => {
+                self.reads = 3;
+                return Err(io::Error::from(ErrorKind::Other));
+            }
+            3 => b'c',
+            _ => return Ok(0),
+        };
+        match buf.first_mut() {
+            None => Ok(0),
+            Some(first) => {
+                *first = octet;
+                self.reads += 1;
+                Ok(1)
+            }
+        }
+    }
+}
+
+// Takes one octet a write, and fails once its room is used up.
+#[derive(Drop)]
+struct OneByOne {
+    octets: Vec<u8>,
+    room: usize,
+}
+
+impl Write for OneByOne {
+    fn write(&mut self, buf: &[u8]) -> io::Result<usize> {
+        match buf.first() {
+            None => Ok(0),
+            Some(_) if self.octets.len() >= self.room => Err(io::Error::from(ErrorKind::Other)),
+            Some(octet) => {
+                self.octets.push(*octet)?;
+                Ok(1)
+            }
+        }
+    }
+
+    fn flush(&mut self) -> io::Result<()> {
+        Ok(())
+    }
+}
+
+#[test]
+fn a_source_that_fails_in_mid_stream(rt: HostRuntime) -> Result<(), Fail> {
+    let mut source = Reading::new(FailsOnce { reads: 0 });
+    let first = read_all(rt.alloc(), &mut source, 10);
+    assert!(rt; matches!(first, Err(ReadError::Failed)));
+    assert_eq!(rt; source.failures, 1);
+    let second = read_all(rt.alloc(), &mut source, 10)?;
+    assert_eq!(rt; second.as_slice(), b"c".as_slice());
+    assert_eq!(rt; source.failures, 1);
+    Ok(())
+}
+
+#[test]
+fn a_source_in_memory(rt: HostRuntime) -> Result<(), Fail> {
+    let mut source = Reading::new(b"abc".as_slice());
+    let mut buffer = [0u8; 2];
+    assert_eq!(rt; source.take(&mut buffer), Taken::Took(2));
+    assert_eq!(rt; buffer, *b"ab");
+    assert_eq!(rt;
+        read_all(rt.alloc(), &mut source, 1)?.as_slice(),
+        b"c".as_slice()
+    );
+    let long = read_all(rt.alloc(), &mut Reading::new(b"abc".as_slice()), 2);
+    assert!(rt; matches!(long, Err(ReadError::Long)));
+    Ok(())
+}
+
+#[test]
+fn a_writer_of_one_octet_a_write(rt: HostRuntime) -> Result<(), Fail> {
+    let octets = Vec::new(rt.alloc());
+    let mut sink = Writing::new(OneByOne { octets, room: 5 });
+    assert_eq!(rt; write_all(&mut sink, b"abc"), Ok(()));
+    assert_eq!(rt; sink.failures, 0);
+    assert_eq!(rt; write_all(&mut sink, b"def"), Err(WriteFault));
+    assert_eq!(rt; sink.failures, 1);
+    assert_eq!(rt; sink.inner.octets.as_slice(), b"abcde".as_slice());
+    Ok(())
+}
+
+#[test]
+fn a_sink_in_memory(rt: HostRuntime) -> Result<(), Fail> {
+    let mut sink = Writing::new(Vec::new(rt.alloc()));
+    assert_eq!(rt; sink.give(b"ab"), Given::Gave(2));
+    assert_eq!(rt; write_all(&mut sink, b"cd"), Ok(()));
+    assert_eq!(rt; sink.inner.as_slice(), b"abcd".as_slice());
+    Ok(())
+}
+
+#[test]
+fn lines_that_are_kept(rt: HostRuntime) -> Result<(), Fail> {
+    let mut keeper = MemKeeper::new(rt.alloc());
+    keeper.append(b"one")?;
+    keeper.append(b"two")?;
+    let lines = keeper.lines(rt.alloc())?;
+    assert_eq!(rt; lines.len(), 2);
+    assert_eq!(rt; lines[0].as_slice(), b"one".as_slice());
+    assert_eq!(rt; lines[1].as_slice(), b"two".as_slice());
+    Ok(())
+}
+
+#[test]
+fn a_clock_and_a_gate(rt: HostRuntime) -> Result<(), Fail> {
+    let mut clock = FixedClock { time: -1 };
+    assert_eq!(rt; clock.now(), -1);
+    let point = Point::Before {
+        session: 0,
+        line: 1,
+    };
+    OpenGate.pause(point);
+    Ok(())
+}
