@@ -1,4 +1,10 @@
-//! The digest of an entry (immudb's embedded store, header version 1).
+//! An entry of a transaction: its attributes, its limits and its digest (immudb's embedded store, header
+//! version 1).
 #![tactic(auto)]
 
+pub mod attrs;
 pub mod digests;
+pub mod laws;
+pub mod make;
+#[cfg(test)]
+mod tests;

@@ -1,4 +1,4 @@
-ghost use Rattle.std.specs.Prelude.{◌≡◌, ◌++◌, IfOk, codes};
+ghost use Rattle.std.specs.Prelude.{◌≡◌, ◌≢◌, ◌++◌, IfOk, OnOk, codes};
 ghost use Rattle.std.specs.Fmt.{decimal};
 ghost use Rattle.im_talk.specs.Replies.{beyond_reply, refused_reply, reserved_reply, shown_header, tx_reply};
 ghost use Rattle.im_talk.specs.Report.{reply_line};
@@ -93,14 +93,15 @@ fn with_numbers(alloc: Global, text: &[u8], m: u64, n: u64) -> Result<Vec<u8>, A
     Ok(out)
 }
 
-/// The reply to drafts that are no transaction, such as `refused twice <i> <j>`; that to want of memory
-/// is empty, and nobody writes it.
+/// The reply to drafts that are no transaction, such as `refused twice <i> <j>`. Want of memory has no
+/// reply, and is handed on.
 #[tactic(auto, unfolding(crate::specs::Replies::refused_reply))]
 pub fn refused_text(alloc: Global, why: PrepareError) -> Result<Vec<u8>, AllocError>
-    ensures { IfOk result (λ text. text.items ≡ refused_reply why) }
+    ensures text { IfOk result (λ text. text.items ≡ refused_reply why) }
+    ensures refused { OnOk result (why ≢ PrepareError.Memory) }
 {
     match why {
-        PrepareError::Memory => Ok(Vec::new(alloc)),
+        PrepareError::Memory => Err(AllocError),
         PrepareError::NoEntries => Vec::from_slice(alloc, b"refused noentries"),
         PrepareError::TooMany { n } => with_number(alloc, b"refused toomany ", n),
         PrepareError::KeyEmpty { i } => with_number(alloc, b"refused keyempty ", u64::from(i)),

@@ -1,0 +1,10 @@
+//! The reader of a script: from octets to its lines, or to the number of the first line that isn't one.
+#![tactic(auto)]
+
+mod fields;
+pub mod laws;
+pub mod lines;
+pub mod scripts;
+mod sets;
+#[cfg(test)]
+mod tests;

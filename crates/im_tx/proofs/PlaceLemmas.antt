@@ -1,0 +1,86 @@
+-- The places of keys that are looked up one after the other.
+use Rattle.std.specs.Map.{update}
+use Rattle.std.specs.Str.{bytes_eq}
+use Rattle.std.specs.Prelude.{All}
+use Rattle.std.proofs.Common.{◌≡◌, ◌≢◌, ◌⊎◌, inl, inr, ◌<◌, ◌≤◌, ◌+◌, ℕ, List, length, take, get_or, arith, refl, sym, ◌∙◌, ap, subst, true, false, Bool, Option, Some, None, cond}
+use Rattle.std.proofs.lemmas.List.{take_more, length-take, get_or-take, get_or_default}
+use Rattle.std.proofs.lemmas.Bool.{both_ways, cases_lt}
+use Rattle.std.proofs.lemmas.List.Quantifiers.{all_pairs_push}
+use Rattle.std.proofs.lemmas.Slice.Eq.{bytes_eq-Decides}
+use Rattle.im_draft.specs.Drafts.{draft_of, no_draft, IsFine, HaveDistinctKeys, Refuses}
+use Rattle.im_draft.specs.declared.drafts.Draft.{Draft}
+use Rattle.im_draft.specs.declared.refusals.PrepareError.TheVariants.{Twice}
+
+-- a look-up gives the place of each key of the first n drafts, whose keys are distinct, and of no other
+pub record ArePlaces (drafts : List Draft) (n : ℕ) (find : List ℕ → Option ℕ) : Type 0 where
+  pub distinct : HaveDistinctKeys (take n drafts)
+  pub found : (key : List ℕ) (i : ℕ) → find key ≡ Some i → (i < n) × ((draft_of drafts i).key ≡ key)
+  pub absent : (key : List ℕ) (i : ℕ) → find key ≡ None → i < n → (draft_of drafts i).key ≢ key
+
+-- before the first draft nothing is found
+pub ArePlaces-zero : (drafts : List Draft) (find : List ℕ → Option ℕ) → ((key : List ℕ) → find key ≡ None) → ArePlaces drafts 0 find
+ArePlaces-zero drafts find none = record {
+  distinct = λ i j d h k. absurd (omega (arith, length-take 0 drafts));
+  found = λ key i e. absurd (let n = none key in cc);
+  absent = λ key i e h. absurd (omega arith);
+}
+
+-- what a look-up gives after a key was put at place n
+put-cases : (find : List ℕ → Option ℕ) (put key : List ℕ) (n : ℕ) (place : Option ℕ) → update bytes_eq find put (Some n) key ≡ place
+    → ((put ≡ key) × (Some n ≡ place)) ⊎ ((put ≢ key) × (find key ≡ place))
+put-cases find put key n place h =
+    let decided = bytes_eq-Decides put key in
+    elim (bytes_eq put key) as (λ (b : Bool). bytes_eq put key ≡ b → cond b (Some n) (find key) ≡ place
+    → ((put ≡ key) × (Some n ≡ place)) ⊎ ((put ≢ key) × (find key ≡ place))) [
+      | true ↦ λ t e. inl (decided.0 t, e)
+      | false ↦ λ f e. inr (λ same. both_ways (bytes_eq put key) f (decided.1 same), e)
+    ] refl h
+
+-- keys stay distinct where the next isn't among them
+distinct-suc : (drafts : List Draft) (n : ℕ) → n < length drafts → HaveDistinctKeys (take n drafts)
+    → ((i : ℕ) → i < n → (draft_of drafts i).key ≢ (draft_of drafts n).key) → HaveDistinctKeys (take (n + 1) drafts)
+distinct-suc drafts n h distinct other =
+    let differ : (k : ℕ) (d : Draft) → k < length (take n drafts) → (get_or (take n drafts) k d).key ≢ (draft_of drafts n).key =
+    λ k d less e.
+    let before : k < n = omega (arith, length-take n drafts) in
+    other k before
+    (sym (ap (λ (x : Draft). x.key) (get_or-take n drafts k d before ∙ get_or_default drafts k d no_draft (omega arith))) ∙ e) in
+    subst HaveDistinctKeys (sym (take_more drafts n no_draft h))
+    (all_pairs_push (λ (a b : Draft). a.key ≢ b.key) (take n drafts) (draft_of drafts n) distinct differ)
+
+-- the key that was lent of draft n is its key
+pub key-at : (drafts : List Draft) (n : ℕ) (draft : Draft) (key : List ℕ) → n < length drafts → draft ≡ get_or drafts n draft
+    → key ≡ draft.key → key ≡ (draft_of drafts n).key
+key-at drafts n draft key h read lent =
+    lent ∙ ap (λ (d : Draft). d.key) (read ∙ get_or_default drafts n draft no_draft h)
+
+-- a key that isn't found is put at its place
+pub ArePlaces-suc : (drafts : List Draft) (n : ℕ) (put : List ℕ) (find next : List ℕ → Option ℕ) → n < length drafts
+    → put ≡ (draft_of drafts n).key → find put ≡ None
+    → ((key : List ℕ) → next key ≡ update bytes_eq find put (Some n) key)
+    → ArePlaces drafts n find → ArePlaces drafts (n + 1) next
+ArePlaces-suc drafts n put find next h is none steps places = record {
+  distinct = distinct-suc drafts n h places.distinct
+      (λ i less e. places.absent put i none less (e ∙ sym is));
+  found = λ key i e. elim (put-cases find put key n (Some i) (sym (steps key) ∙ e)) [
+    | inl new ↦ (let same : n ≡ i = (let e = new.1 in cc) in
+        (omega arith, subst (λ (k : ℕ). (draft_of drafts k).key ≡ key) same (sym is ∙ new.0)))
+    | inr kept ↦ (let found = places.found key i kept.1 in (omega (arith, found.0), found.1))
+  ];
+  absent = λ key i e less. elim (put-cases find put key n None (sym (steps key) ∙ e)) [
+    | inl new ↦ absurd (let odd = new.1 in cc)
+    | inr kept ↦ elim (cases_lt i n) [
+      | inl before ↦ places.absent key i kept.1 before
+      | inr here ↦ (let same : n ≡ i = omega arith in
+          subst (λ (k : ℕ). (draft_of drafts k).key ≢ key) same (λ same. kept.0 (is ∙ same)))
+    ]
+  ];
+}
+
+-- a key that is found stood earlier
+pub ArePlaces-twice : (drafts : List Draft) (n i : ℕ) (key : List ℕ) (find : List ℕ → Option ℕ) → n < length drafts
+    → length drafts ≤ 1024 → All IsFine drafts
+    → key ≡ (draft_of drafts n).key → find key ≡ Some i → ArePlaces drafts n find → Refuses drafts (Twice i n)
+ArePlaces-twice drafts n i key find h few fine is e places =
+    let found = places.found key i e in
+    (few, fine, found.0, h, found.1 ∙ is, places.distinct)

@@ -1,0 +1,11 @@
+//! What is asked to be placed: drafts become entries within the limits with distinct keys.
+#![tactic(auto)]
+
+mod distinct;
+pub mod laws;
+mod lengths;
+pub mod prepare;
+pub mod prepared;
+pub mod reserved;
+#[cfg(test)]
+mod tests;
