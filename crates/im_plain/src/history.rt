@@ -8,7 +8,7 @@ use im_model::entries::Entry;
 use im_model::headers::Header;
 use im_model::limits::Metadata;
 use im_model::transactions::Transaction;
-use im_model::trees::plain_root;
+use im_mtree::roots::root;
 use im_octet::octets::Octets;
 use std::alloc::{AllocError, Global};
 
@@ -21,7 +21,7 @@ pub fn entry_root<H: Hash32>(alloc: Global, hash: &H, entries: &[Entry]) -> Resu
     for entry in entries {
         digests.push(digest(hash, entry))?;
     }
-    Ok(plain_root(hash, digests.as_slice()))
+    Ok(root(hash, digests.as_slice()))
 }
 
 /// The header of a transaction, where `alhs` are the Alh of all those before it.
@@ -45,7 +45,7 @@ pub fn header_after<H: Hash32>(
         bl_root: if tx.bl == 0 {
             [0; 32]
         } else {
-            plain_root(hash, &alhs[..tx.bl as usize])
+            root(hash, &alhs[..tx.bl as usize])
         },
         prev_alh: match alhs.last() {
             Some(alh) => *alh,

@@ -1,0 +1,5 @@
+pub mod InclusionLemmas
+pub mod SideLemmas
+pub mod SubtreeLemmas
+pub mod UpLemmas
+pub mod WayLemmas

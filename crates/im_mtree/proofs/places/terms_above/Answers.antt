@@ -1,0 +1,34 @@
+use Rattle.std.proofs.Common.{◌≡◌, ◌+◌, length, arith, refl, ap}
+use Rattle.im_mtree.specs.Ways.{sides}
+use Rattle.im_mtree.proofs.SideLemmas.{sides-one}
+use Rattle.im_mtree.proofs.WayLemmas.{meet_level, sides-next}
+use Rattle.im_mtree.proofs.UpLemmas.{length-short}
+use Rattle.im_mtree.proofs.places.terms_above.Goals as goal
+
+pub overflow_add-count : goal.overflow_add-count
+overflow_add-count c =
+    let all = length-short c.args.place.last c.args.place.index in
+    let i = c.loop-place.invariant in
+    let met = ap length (meet_level c.loop-place.place.last c.loop-place.place.index c.loop-place-test.true i.within (i.meets c.loop-place-test.true).1) in
+    omega (arith, i.counted, all, met)
+
+pub loop-place-preserved : goal.loop-place-preserved
+loop-place-preserved c =
+    let i = c.loop-place.invariant in
+    let low = c.above.ensures in
+    let up = c.meeting-place-in-loop-place.ensures in
+    let met = meet_level c.loop-place.place.last c.loop-place.place.index c.loop-place-test.true i.within (i.meets c.loop-place-test.true).1 in
+    let here = ap length (sides-next c.loop-place.place.last c.loop-place.place.index c.loop-place.place.last c.loop-place.place.index c.above.result.last c.above.result.index _ refl met low.last low.index) in
+    let next = ap length up.same in
+    record {
+      within = up.within;
+      meets = up.met;
+      counted = omega (arith, i.counted, here, next);
+    }
+
+pub returns : goal.returns
+returns c =
+    let none : c.loop-place.place.last ≡ 0 = omega (arith, c.loop-place-test.false) in
+    let e = ap (λ r. length (sides (r + 1) c.loop-place.place.index)) none in
+    let f = ap length (sides-one c.loop-place.place.index) in
+    omega (arith, c.loop-place.invariant.counted, e, f)

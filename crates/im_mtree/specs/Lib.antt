@@ -1,0 +1,5 @@
+pub mod Checks
+pub mod Inclusion
+pub mod PathChecks
+pub mod Subtrees
+pub mod Ways

@@ -1,0 +1,11 @@
+//! Hash trees over a list of digests (RFC 6962, section 2.1): roots, inclusion paths, and their check.
+#![tactic(auto)]
+
+pub mod digests;
+pub mod faults;
+pub mod laws;
+pub mod paths;
+mod places;
+pub mod roots;
+#[cfg(test)]
+mod tests;
