@@ -1,6 +1,6 @@
 -- The path that a list of digests gives: its steps, its length, and where it leads.
-use Rattle.std.proofs.Common.{◌≡◌, ◌<◌, ◌≤◌, ℕ, suc, zero, ◌+◌, ◌-◌, Bool, true, false, List, [], ◌∷◌, ◌++◌, length, take, drop, reverse, refl, arith, ap, subst, ◌∙◌, sym, nat_lt, nat_le, nat_eq, if◌then◌else◌, inl, inr, get_or, length-drop}
-use Rattle.std.specs.Prelude.{Result, Ok, Err, bytes_eq}
+use Rattle.std.proofs.Common.{◌≡◌, ◌<◌, ◌≤◌, ℕ, suc, zero, ◌+◌, ◌-◌, Bool, true, List, [], ◌∷◌, length, take, drop, reverse, refl, arith, ap, subst, ◌∙◌, sym, nat_lt, if◌then◌else◌, inl, inr, get_or, length-drop}
+use Rattle.std.specs.Prelude.{Ok}
 use Rattle.std.proofs.lemmas.Bool.{cases_lt, le-leb, lt-leb, lt-ltb, le-ltb, eq-eqb}
 use Rattle.std.proofs.lemmas.List.{length-take-le, length-reverse, reverse-reverse, get_or-take, get_or-drop}
 use Rattle.std.proofs.lemmas.Slice.Eq.{bytes_eq-Decides}
@@ -10,11 +10,9 @@ use Rattle.im_model.specs.Paths.{IsPath, path_length, up}
 use Rattle.im_model.proofs.TreeLemmas.{split-within, root-one, root-split}
 use Rattle.im_model.proofs.Lengths.{path-fits}
 use Rattle.im_model.proofs.Steps.{up-leaf, up-left, up-right}
-use Rattle.im_mtree.specs.Checks.{Check, first_fail}
+use Rattle.im_mtree.specs.Checks.{first_fail}
 use Rattle.im_mtree.specs.Inclusion.{inclusion_within, inclusion}
 use Rattle.im_mtree.specs.PathChecks.{path_checks}
-use Rattle.im_mtree.specs.declared.faults.PathFault.{PathFault}
-use Rattle.im_mtree.specs.declared.faults.PathFault.TheVariants.{Index, Length, Root}
 
 few-within : (room : ℕ) (hash : Hash) (digests : List (List ℕ)) (i : ℕ) → length digests ≤ 1 → inclusion_within room hash digests i ≡ []
 unfolding inclusion_within

@@ -1,4 +1,5 @@
 pub mod InclusionLemmas
+pub mod JoinLemmas
 pub mod SideLemmas
 pub mod SubtreeLemmas
 pub mod UpLemmas

@@ -4,7 +4,7 @@ use Rattle.std.proofs.lemmas.Bool.{ltb-true, lt-ltb, le-ltb, le-leb, lt-leb}
 use Rattle.im_model.specs.Trees.{split_of}
 use Rattle.im_model.proofs.TreeLemmas.{split-within, split-reaches, split-power}
 use Rattle.im_mtree.specs.Ways.{sides_within, sides, rise}
-use Rattle.im_mtree.proofs.SubtreeLemmas.{split-is, power-twice}
+use Rattle.im_mtree.proofs.JoinLemmas.{split-is, power-twice}
 
 -- half of n, rounded up, is split at half of the place
 pub split-half : (n m : ℕ) → 2 < n → n ≤ 2 * m → 2 * m ≤ n + 1 → split_of n ≡ 2 * split_of m
@@ -37,10 +37,12 @@ sides-room (suc a) (suc b) n i p q =
           ∙ ap (λ x. if nat_lt i k then sides_within b k i ++ false ∷ [] else x ++ true ∷ []) (sides-room a b (n - k) (i - k) (omega arith) (omega arith))
     ] refl
 
+-- the only leaf has no term
 pub sides-one : (i : ℕ) → sides 1 i ≡ []
 unfolding sides sides_within
 sides-one i = refl
 
+-- below the split the last term stands right
 pub sides-right : (n i k : ℕ) → 1 < n → k ≡ split_of n → i < k → sides n i ≡ sides k i ++ false ∷ []
 unfolding sides sides_within
 sides-right zero i k p s q = absurd (omega arith)
@@ -51,6 +53,7 @@ sides-right (suc n) i k p s q =
     ∙ ap (λ x. sides_within n x i ++ false ∷ []) (sym s)
     ∙ ap (λ x. x ++ false ∷ []) (sides-room n k k i (omega arith) (omega arith))
 
+-- from the split on the last term stands left
 pub sides-left : (n i k : ℕ) → 1 < n → k ≡ split_of n → k ≤ i → sides n i ≡ sides (n - k) (i - k) ++ true ∷ []
 unfolding sides sides_within
 sides-left zero i k p s q = absurd (omega arith)

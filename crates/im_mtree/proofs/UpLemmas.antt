@@ -1,6 +1,6 @@
 -- The recursion from the root down is the walk from the leaf up.
 use Rattle.std.proofs.Common.{◌≡◌, ◌<◌, ◌≤◌, ℕ, suc, zero, ◌+◌, ◌-◌, List, [], ◌∷◌, ◌++◌, length, take, reverse, refl, arith, ap, ◌∙◌, sym, nat_lt, nat_le, true, false, if◌then◌else◌, length-append, inl, inr, get_or}
-use Rattle.std.proofs.lemmas.Bool.{cases_lt, le-leb, lt-leb, lt-ltb, le-ltb}
+use Rattle.std.proofs.lemmas.Bool.{cases_lt, lt-leb, lt-ltb, le-ltb}
 use Rattle.std.proofs.lemmas.List.{length-take-le, take_more, take_all}
 use Rattle.im_digest.specs.Digests.{Hash}
 use Rattle.im_model.specs.Trees.{leaf, node, split_of}
@@ -113,9 +113,6 @@ short-within (suc room) n i p q = elim (cases_lt 1 n) [
 ]
 
 -- a path has fewer terms than its tree has leaves
-pub length-short : (r i : ℕ) → length (sides (r + 1) i) ≤ r
-unfolding sides
-length-short r i =
-    let e = length-within (r + 1) (r + 1) i in
-    let h = short-within (r + 1) (r + 1) i (omega arith) (omega arith) in
-    omega arith
+pub path-short : (n i : ℕ) → 1 ≤ n → path_length n i + 1 ≤ n
+unfolding path_length
+path-short n i h = short-within n n i (omega arith) h

@@ -28,6 +28,7 @@ pub rise-on : {X : Type 0} → (step : Bool → X → List ℕ → X) (sides : L
 unfolding rise
 rise-on step sides b more x z path e = ap (λ s. rise step s x (z ∷ path)) e
 
+-- a walk with no side ends where it begins
 pub rise-end : {X : Type 0} → (step : Bool → X → List ℕ → X) (sides : List Bool) (x : X) (path : List (List ℕ))
     → length sides ≡ 0 → rise step sides x path ≡ x
 unfolding rise
@@ -59,6 +60,7 @@ walk-next step r i r1 i1 r2 i2 b x y path t w same met lasts indices within made
     ∙ ap (λ p. rise step (sides (r + 1) i) x p) (sym (drop-cons path t [] within))
     ∙ before
 
+-- the number of terms, one term on
 pub left-next : (r i r1 i1 r2 i2 : ℕ) (b : Bool) (long t : ℕ)
     → sides (r1 + 1) i1 ≡ sides (r + 1) i → sides (r1 + 1) i1 ≡ b ∷ sides (r1 / 2 + 1) (i1 / 2)
     → r2 ≡ r1 / 2 → i2 ≡ i1 / 2 → long ≡ t + length (sides (r + 1) i) → long ≡ t + 1 + length (sides (r2 + 1) i2)

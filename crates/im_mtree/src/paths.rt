@@ -9,15 +9,16 @@ ghost use Rattle.im_mtree.specs.Ways.{sides, rise, meet};
 
 use crate::digests::Digests;
 use crate::faults::PathFault;
-use crate::places::{Place, above, is_left, meeting, terms_above};
+use crate::places::{Place, above, is_left, meeting};
 use crate::roots::root;
 use im_digest::{D32, Hash32};
 use im_model::trees::{leaf_digest, node_digest, split};
 use std::alloc::{AllocError, Global};
 
-#[tactic(auto, using(crate::proofs::InclusionLemmas::path_exact, crate::proofs::InclusionLemmas::path_leads, crate::proofs::InclusionLemmas::path_turned))]
 /// The path of leaf i, from 0, to the root over the digests: PATH of RFC 6962, section 2.1.1, its terms
 /// from the leaf up. It hashes each other leaf once, and each node once that isn't above leaf i.
+/// Its only error is want of memory.
+#[tactic(auto, using(crate::proofs::InclusionLemmas::path_exact, crate::proofs::InclusionLemmas::path_leads, crate::proofs::InclusionLemmas::path_turned))]
 pub fn path<H: Hash32>(
     alloc: Global,
     hash: &H,
@@ -33,10 +34,9 @@ pub fn path<H: Hash32>(
 }
 
 // The terms in the other order.
-fn turned(terms: Vec<D32>) -> Digests
+fn turned(mut terms: Vec<D32>) -> Digests
     ensures { result ≡ reverse terms.items }
 {
-    let mut terms = terms;
     terms.as_mut_slice().reverse();
     Digests::from_vec(terms)
 }
@@ -97,8 +97,9 @@ fn part_of<'a>(digests: &'a [D32], i: usize) -> Parts<'a>
     }
 }
 
-/// Whether a path, its terms from the leaf up, leads from the leaf of a digest to a root (RFC 9162,
-/// section 2.1.3.2): the leaf has the index i, from 0, in a tree of `width` leaves. It takes no memory.
+/// Whether a path, its terms from the leaf up, leads from the leaf of a digest to a root, as that of leaf
+/// i, from 0, of `width` leaves (RFC 9162, section 2.1.3.2). It takes no memory. A path doesn't fix the
+/// width, and may pass with other widths too: the caller knows the width from elsewhere.
 ///
 /// # Errors
 ///
@@ -134,10 +135,16 @@ fn terms_of(i: u32, width: u32) -> u64
     requires { i < width }
     ensures { result ≡ path_length width i }
 {
-    terms_above(Place {
+    let mut count = 0;
+    let mut place = meeting(Place {
         index: i,
         last: width - 1,
-    })
+    });
+    while 0 < place.last {
+        place = meeting(above(place));
+        count += 1;
+    }
+    count
 }
 
 // The root that a path of the exact length gives for leaf i.
@@ -158,13 +165,12 @@ fn root_by_path<H: Hash32>(hash: &H, digest: &D32, i: u32, width: u32, path: &[D
 }
 
 // The root that a walk from a place up gives, a term at each meeting.
-fn climb<H: Hash32>(hash: &H, digest: &D32, place: Place, path: &[D32]) -> D32
+fn climb<H: Hash32>(hash: &H, digest: &D32, mut place: Place, path: &[D32]) -> D32
     requires within { place.index ≤ place.last }
     requires exact { length path.now ≡ length (sides (place.last + 1) place.index) }
     ensures { result ≡ rise (meet (H.digest hash.now)) (sides (place.last + 1) place.index) digest.now path.now }
 {
     let mut digest = *digest;
-    let mut place = place;
     for term in path {
         let met = meeting(place);
         digest = meet(hash, is_left(met), &digest, term);

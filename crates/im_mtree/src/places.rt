@@ -1,4 +1,4 @@
-ghost use Rattle.std.specs.Prelude.{◌≡◌, ◌<◌, ◌≤◌, ◌+◌, ◌/◌, ◌∷◌, length};
+ghost use Rattle.std.specs.Prelude.{◌≡◌, ◌<◌, ◌≤◌, ◌+◌, ◌/◌, ◌∷◌};
 ghost use Rattle.im_mtree.specs.Ways.{sides, Meets};
 
 /// A node on the way from a leaf to the root: its index on its level, and that of the level's last node.
@@ -11,14 +11,13 @@ pub struct Place {
 /// The lowest place from here up at which a term is met, or else the root: it passes over the levels on
 /// which the last node stands alone (RFC 9162, section 2.1.3.2).
 #[tactic(auto, using(crate::proofs::WayLemmas::pass_level))]
-pub fn meeting(place: Place) -> Place
+pub fn meeting(mut place: Place) -> Place
     requires { place.index ≤ place.last }
     ensures within { result.index ≤ result.last }
     ensures same { sides (result.last + 1) result.index ≡ sides (place.last + 1) place.index }
     ensures lower { result.last ≤ place.last }
     ensures met { 0 < result.last → Meets result }
 {
-    let mut place = place;
     while 0 < place.last && place.index == place.last && place.last % 2 == 0 {
         place = Place {
             index: place.index / 2,
@@ -49,19 +48,4 @@ pub fn above(place: Place) -> Place
         index: place.index / 2,
         last: place.last / 2,
     }
-}
-
-/// The number of terms from here to the root.
-pub fn terms_above(place: Place) -> u64
-    requires { place.index ≤ place.last }
-    ensures { result ≡ length (sides (place.last + 1) place.index) }
-{
-    let mut count = 0;
-    let _most = place.last;
-    let mut place = meeting(place);
-    while 0 < place.last {
-        place = meeting(above(place));
-        count += 1;
-    }
-    count
 }

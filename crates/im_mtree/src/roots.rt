@@ -48,11 +48,10 @@ fn merge<H: Hash32>(hash: &H, stack: &mut ArrayVec<D32, 64>, right: &D32) -> D32
 }
 
 // The root over whole subtrees and a last part behind them.
-fn fold<H: Hash32>(hash: &H, stack: ArrayVec<D32, 64>, last: D32) -> D32
+fn fold<H: Hash32>(hash: &H, mut stack: ArrayVec<D32, 64>, last: D32) -> D32
     ensures { result ≡ folded (H.digest hash.now) (reverse stack.items) last }
 {
     let mut root = last;
-    let mut stack = stack;
     while let Some(left) = stack.pop() {
         root = node_digest(hash, &left, &root);
     }

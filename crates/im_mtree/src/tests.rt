@@ -1,3 +1,5 @@
+ghost use Rattle.std.specs.Prelude.{◌<◌};
+
 use crate::digests::Digests;
 use crate::faults::PathFault;
 use crate::paths::{check_path, path};

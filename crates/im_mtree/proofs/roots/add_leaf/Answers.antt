@@ -1,4 +1,4 @@
-use Rattle.std.proofs.Common.{◌≡◌, ◌+◌, ◌%◌, ◌<◌, length, reverse, arith, ap, ◌∙◌, sym, subst}
+use Rattle.std.proofs.Common.{◌≡◌, ◌%◌, ◌<◌, length, reverse, arith, ◌∙◌}
 use Rattle.std.proofs.lemmas.List.{length-reverse}
 use Rattle.im_model.proofs.Reversed.{reverse-last}
 use Rattle.im_mtree.proofs.SubtreeLemmas.{carry-begins, carry-goes_on, carry-merged, carry-ends}

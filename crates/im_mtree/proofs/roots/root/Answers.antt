@@ -1,6 +1,6 @@
-use Rattle.std.proofs.Common.{◌≡◌, ◌+◌, ◌-◌, length, [], get_or, reverse, arith, ap, ◌∙◌, sym}
+use Rattle.std.proofs.Common.{◌≡◌, ◌-◌, length, [], get_or, reverse, arith, ap, ◌∙◌}
 use Rattle.im_model.specs.Trees.{leaf}
-use Rattle.im_mtree.specs.Subtrees.{subtrees, folded}
+use Rattle.im_mtree.specs.Subtrees.{folded}
 use Rattle.im_mtree.proofs.SubtreeLemmas.{subtrees-none, folded-root}
 use Rattle.im_mtree.proofs.roots.root.Goals as goal
 

@@ -1,0 +1,2 @@
+pub mod FateLemmas
+pub mod TurnLemmas

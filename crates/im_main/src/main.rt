@@ -1,0 +1,58 @@
+//! The program `im`.
+#![tactic(auto)]
+
+mod clock;
+
+use clock::SystemClock;
+use im_app::status::{Done, Status};
+use im_app::top::top;
+use im_digest::Sha;
+use im_disk::no_disk::NoDisk;
+use im_edge::gate::OpenGate;
+use im_edge::keeper::MemKeeper;
+use im_edge::sink::Writing;
+use im_edge::source::Reading;
+use std::process::ExitCode;
+use std::{env, io};
+
+fn main(rt: HostRuntime) -> ExitCode {
+    let Ok(args) = env::args(&rt) else {
+        return ended(&rt, Status::Usage);
+    };
+    let Ok(words) = args.collect::<Vec<String>>(rt.alloc()) else {
+        return ended(&rt, Status::Memory);
+    };
+    let mut source = Reading::new(rt.reader());
+    let mut sink = Writing::new(io::writer(&rt));
+    let mut keeper = MemKeeper::new(rt.alloc());
+    let done = top(
+        &rt,
+        rt.alloc(),
+        words.as_slice(),
+        &Sha,
+        &mut source,
+        &mut sink,
+        NoDisk,
+        &mut keeper,
+        SystemClock { rt: &rt },
+        &OpenGate,
+    );
+    let Done { status, .. } = done;
+    ended(&rt, status)
+}
+
+// Tells how a run ended, on standard error and by the exit status.
+fn ended(rt: &impl Eprint, status: Status) -> ExitCode {
+    let (code, told) = match status {
+        Status::Ok => (0, Ok(())),
+        Status::Usage => (2, eprintln!(rt; "im: usage")),
+        Status::Script { line } => (3, eprintln!(rt; "im: script {line}")),
+        Status::ReadFault => (4, eprintln!(rt; "im: read fault")),
+        Status::WriteFault => (5, eprintln!(rt; "im: write fault")),
+        Status::Memory => (11, eprintln!(rt; "im: memory")),
+        Status::Long => (12, eprintln!(rt; "im: long")),
+    };
+    // Where standard error can't be written, the exit status alone tells.
+    let _ = told;
+    ExitCode::from(code)
+}

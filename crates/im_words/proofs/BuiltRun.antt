@@ -1,0 +1,25 @@
+-- The subcommand `run` as clap builds it.
+use Rattle.std.proofs.Common.{Bool, cond, List, [], ◌∷◌, Option, Some, None}
+use Rattle.clap.specs.Words.{Rule, Shape, built}
+use Rattle.clap.specs.Simple.{built_leaf, filled, inherited}
+use Rattle.im_words.specs.Command.{Texts, im_at, link_rule, logs_rule, run_shape}
+
+-- `--logs` as built
+abbrev pub logs_built : Rule
+logs_built = filled logs_rule
+
+-- `--link` as built
+abbrev pub link_built : Texts → Rule
+link_built names = filled (link_rule names)
+
+-- the subcommand
+abbrev pub run_built : Texts → Shape
+run_built names = built_leaf (inherited (built (im_at names)).top (run_shape names))
+
+-- its options
+abbrev pub rules_built : Texts → List Rule
+rules_built names = logs_built ∷ link_built names ∷ []
+
+-- the first of the two options that passes its test
+abbrev pub first_option : Texts → Bool → Bool → Option Rule
+first_option names logs link = cond logs (Some logs_built) (cond link (Some (link_built names)) None)

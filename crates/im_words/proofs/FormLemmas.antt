@@ -1,0 +1,74 @@
+-- Words of the form are taken, and mean what they say.
+use Rattle.std.proofs.Common.{◌≡◌, ◌≤◌, ℕ, zero, suc, List, [], ◌∷◌, ◌++◌, Some, refl, subst, sym, codes, inl, inr, arith}
+use Rattle.std.specs.Fmt.{digits}
+use Rattle.clap.specs.Words.{Text, fault_of, subcommand_of}
+use Rattle.clap.proofs.OnLiterals.{clap_on_literals}
+use Rattle.im_words.specs.Command.{im_command}
+use Rattle.im_words.specs.Meaning.{asked_of}
+use Rattle.im_words.specs.Form.{GivesOptions, IsForm, link_words, logs_words}
+use Rattle.im_words.specs.declared.Asked.TheVariants.{Run}
+use Rattle.im_words.specs.declared.Link.{Link}
+use Rattle.im_words.specs.declared.Link.TheVariants.{Auto, Manual}
+
+-- clap takes the words, and they ask for this run
+pub record Means (words : List Text) (logs : ℕ) (link : Link) : Type 0 where
+  pub faultless : fault_of im_command words ≡ []
+  pub asked : asked_of (subcommand_of im_command words) ≡ Some (Run logs link)
+
+bare : (name : Text) → Means (name ∷ codes "run" ∷ []) 1 Auto
+unfolding clap_on_literals
+bare name = record { faultless = refl; asked = refl }
+
+-- a fact of each number from 1 to 4
+one_of_four : (P : ℕ → Type 0) → P 1 → P 2 → P 3 → P 4 → (n : ℕ) → 1 ≤ n → n ≤ 4 → P n
+one_of_four P a b c d zero some few = absurd (omega arith)
+one_of_four P a b c d (suc zero) some few = a
+one_of_four P a b c d (suc (suc zero)) some few = b
+one_of_four P a b c d (suc (suc (suc zero))) some few = c
+one_of_four P a b c d (suc (suc (suc (suc zero)))) some few = d
+one_of_four P a b c d (suc (suc (suc (suc (suc n))))) some few = absurd (omega arith)
+
+logs_alone : (name : Text) (logs : ℕ) → 1 ≤ logs → logs ≤ 4 → Means (name ∷ codes "run" ∷ logs_words logs) logs Auto
+unfolding clap_on_literals digits
+logs_alone name = one_of_four (λ n. Means (name ∷ codes "run" ∷ logs_words n) n Auto)
+    (record { faultless = refl; asked = refl }) (record { faultless = refl; asked = refl }) (record { faultless = refl; asked = refl }) (record { faultless = refl; asked = refl })
+
+link_alone : (name : Text) (link : Link) → Means (name ∷ codes "run" ∷ link_words link) 1 link
+unfolding clap_on_literals
+link_alone name Auto = record { faultless = refl; asked = refl }
+link_alone name Manual = record { faultless = refl; asked = refl }
+
+logs_first : (name : Text) (link : Link) (logs : ℕ) → 1 ≤ logs → logs ≤ 4 → Means (name ∷ codes "run" ∷ (logs_words logs ++ link_words link)) logs link
+unfolding clap_on_literals digits
+logs_first name Auto = one_of_four (λ n. Means (name ∷ codes "run" ∷ (logs_words n ++ link_words Auto)) n Auto)
+    (record { faultless = refl; asked = refl }) (record { faultless = refl; asked = refl }) (record { faultless = refl; asked = refl }) (record { faultless = refl; asked = refl })
+logs_first name Manual = one_of_four (λ n. Means (name ∷ codes "run" ∷ (logs_words n ++ link_words Manual)) n Manual)
+    (record { faultless = refl; asked = refl }) (record { faultless = refl; asked = refl }) (record { faultless = refl; asked = refl }) (record { faultless = refl; asked = refl })
+
+link_first : (name : Text) (link : Link) (logs : ℕ) → 1 ≤ logs → logs ≤ 4 → Means (name ∷ codes "run" ∷ (link_words link ++ logs_words logs)) logs link
+unfolding clap_on_literals digits
+link_first name Auto = one_of_four (λ n. Means (name ∷ codes "run" ∷ (link_words Auto ++ logs_words n)) n Auto)
+    (record { faultless = refl; asked = refl }) (record { faultless = refl; asked = refl }) (record { faultless = refl; asked = refl }) (record { faultless = refl; asked = refl })
+link_first name Manual = one_of_four (λ n. Means (name ∷ codes "run" ∷ (link_words Manual ++ logs_words n)) n Manual)
+    (record { faultless = refl; asked = refl }) (record { faultless = refl; asked = refl }) (record { faultless = refl; asked = refl }) (record { faultless = refl; asked = refl })
+
+options_mean : (name : Text) (options : List Text) (logs : ℕ) (link : Link) → 1 ≤ logs → logs ≤ 4 → GivesOptions options logs link
+    → Means (name ∷ codes "run" ∷ options) logs link
+options_mean name options logs link some few (inl given) =
+    subst (λ (ws : List Text). Means (name ∷ codes "run" ∷ ws) logs link) (sym given.0)
+    (subst (λ (n : ℕ). Means (name ∷ codes "run" ∷ []) n link) (sym given.1) (subst (λ (l : Link). Means (name ∷ codes "run" ∷ []) 1 l) (sym given.2) (bare name)))
+options_mean name options logs link some few (inr (inl given)) =
+    subst (λ (ws : List Text). Means (name ∷ codes "run" ∷ ws) logs link) (sym given.0)
+    (subst (λ (l : Link). Means (name ∷ codes "run" ∷ logs_words logs) logs l) (sym given.1) (logs_alone name logs some few))
+options_mean name options logs link some few (inr (inr (inl given))) =
+    subst (λ (ws : List Text). Means (name ∷ codes "run" ∷ ws) logs link) (sym given.0)
+    (subst (λ (n : ℕ). Means (name ∷ codes "run" ∷ link_words link) n link) (sym given.1) (link_alone name link))
+options_mean name options logs link some few (inr (inr (inr (inl given)))) =
+    subst (λ (ws : List Text). Means (name ∷ codes "run" ∷ ws) logs link) (sym given) (logs_first name link logs some few)
+options_mean name options logs link some few (inr (inr (inr (inr given)))) =
+    subst (λ (ws : List Text). Means (name ∷ codes "run" ∷ ws) logs link) (sym given) (link_first name link logs some few)
+
+-- words of the form are taken, and ask for the run that they write
+pub form_means : (words : List Text) (logs : ℕ) (link : Link) → IsForm words logs link → Means words logs link
+form_means words logs link form =
+    subst (λ (ws : List Text). Means ws logs link) (sym form.are) (options_mean form.name form.options logs link form.some form.few form.given)

@@ -1,0 +1,7 @@
+pub mod BuiltRun
+pub mod PlacedWalk
+pub mod PlacedFaults
+pub mod FormLemmas
+pub mod UseLemmas
+pub mod AskedLemmas
+pub mod AnswerLemmas

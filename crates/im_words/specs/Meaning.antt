@@ -1,0 +1,42 @@
+-- What the matches of a command line ask for.
+use Rattle.std.specs.Prelude.{◌≤◌, ℕ, List, Option, Some, None, codes, option_map, option_and_then, if◌then◌else◌}
+use Rattle.std.specs.Option.{option_map_or}
+use Rattle.std.specs.Str.{bytes_eq}
+use Rattle.std.specs.Str.Parse.{digits_value, without_leading_plus}
+use Rattle.clap.specs.Words.{Row, Text, first_of, one_of}
+use Rattle.clap.specs.ValueTests.{is_unsigned_in}
+use Rattle.im_words.specs.declared.Asked.{Asked}
+use Rattle.im_words.specs.declared.Asked.TheVariants.{Run}
+use Rattle.im_words.specs.declared.Link.{Link}
+use Rattle.im_words.specs.declared.Link.TheVariants.{Auto, Manual}
+
+-- the number of logs that a text writes, from 1 to 4
+abbrev pub logs_of_text : Text → Option ℕ
+logs_of_text text =
+    if is_unsigned_in 1 4 text then Some (digits_value 10 (without_leading_plus text)) else None
+
+-- the link that a text names
+abbrev pub link_of_text : Text → Option Link
+link_of_text text = if bytes_eq text (codes "auto") then Some Auto
+    else (if bytes_eq text (codes "manual") then Some Manual else None)
+
+-- the number of logs of a run, 1 where none is given
+abbrev pub logs_of : List Row → Option ℕ
+logs_of rows = option_map_or logs_of_text (one_of (codes "logs") rows) (Some 1)
+
+-- the link of a run, `auto` where none is given
+abbrev pub link_of : List Row → Option Link
+link_of rows = option_map_or link_of_text (first_of (codes "link") rows) (Some Auto)
+
+-- the run that the matches of `run` ask for
+abbrev pub run_of : List Row → Option Asked
+run_of rows = option_and_then (λ logs. option_map (λ link. Run logs link) (link_of rows)) (logs_of rows)
+
+-- what the subcommand's name and matches ask for
+abbrev pub asked_of : Option (Text × List Row) → Option Asked
+asked_of None = None
+asked_of (Some p) = if bytes_eq p.0 (codes "run") then run_of p.1 else None
+
+-- a run has 1 to 4 logs
+abbrev pub HasFewLogs : Asked → Type 0
+HasFewLogs (Run logs link) = (1 ≤ logs) × (logs ≤ 4)
