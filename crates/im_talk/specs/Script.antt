@@ -69,6 +69,6 @@ Stop before (text ∷ texts) (suc n) =
 abbrev pub IsScript : List ℕ → List Line → Type 0
 IsScript octets lines = (texts : List (List ℕ)) × AreTexts octets texts × Say [] texts lines
 
--- n lines are lines of a script, and line n + 1 isn't one
+-- the texts of the first n lines are passed over or say lines, and that of line n + 1 does neither
 abbrev pub StopsAfter : List ℕ → ℕ → Type 0
 StopsAfter octets n = (texts : List (List ℕ)) × AreTexts octets texts × Stop [] texts n
