@@ -3,6 +3,8 @@ ghost use Rattle.std.specs.String.{string_bytes};
 ghost use Rattle.im_edge.specs.Counts.{Rose};
 ghost use Rattle.im_talk.specs.Script.{StopsAfter};
 ghost use Rattle.im_words.specs.Command.{IsRefused};
+ghost use Rattle.im_words.specs.Form.{IsForm};
+ghost use Rattle.im_words.specs.declared.Link.{Link};
 ghost use Rattle.im_app.specs.Fates.{HasFate};
 ghost use Rattle.im_app.specs.Runs.{WritesPart, WritesReport};
 
@@ -30,6 +32,7 @@ fn carry_out<H: Hash32, S: Source, K: Sink, C: Clock>(
     ensures report { result ≡ Status.Ok → IfSome (S.left source.old) (λ script.
         WritesReport (H.digest hash.now) (C.constant clock.old) script (K.written sink.old) (K.written sink.new)) }
     ensures usage { result ≡ Status.Usage → IsRefused (map string_bytes words.now) }
+    ensures form { (logs : ℕ) (link : Link) → IsForm (map string_bytes words.now) logs link → result ≡ Status.Usage → ⊥ }
     ensures refused { IsRefused (map string_bytes words.now) → (result ≡ Status.Usage) ⊎ (result ≡ Status.Memory) }
     ensures untouched { result ≡ Status.Usage → (source.new ≡ source.old) × (sink.new ≡ sink.old) }
     ensures script { (k : ℕ) → result ≡ Status.Script k → IfSome (S.left source.old) (λ script.
@@ -81,8 +84,10 @@ pub fn top<
     ensures report { result.status ≡ Status.Ok → IfSome (S.left source.old) (λ script.
         WritesReport (H.digest hash.now) (C.constant clock) script (K.written sink.old) (K.written sink.new)) }
 
-    // The words are at fault just where `clap` refuses them, and then nothing is touched.
+    // The words are at fault just where `clap` refuses them, and then nothing is touched. Those of the
+    // form `NAME run [--logs 1..4] [--link auto|manual]`, the options in any order, never are.
     ensures usage { result.status ≡ Status.Usage → IsRefused (map string_bytes words.now) }
+    ensures form { (logs : ℕ) (link : Link) → IsForm (map string_bytes words.now) logs link → result.status ≡ Status.Usage → ⊥ }
     ensures refused { IsRefused (map string_bytes words.now) → (result.status ≡ Status.Usage) ⊎ (result.status ≡ Status.Memory) }
     ensures untouched { result.status ≡ Status.Usage → (source.new ≡ source.old) × (sink.new ≡ sink.old) }
 

@@ -1,0 +1,12 @@
+use Rattle.std.proofs.Common.{◌≡◌, inl, inr, sym, ◌∙◌}
+use Rattle.im_words.specs.declared.WordsError.TheVariants.{Memory, Usage}
+use Rattle.im_app.proofs.top.carry_out.Goals as goal
+
+pub returns-in-Err-Usage-clause-form : goal.returns-in-Err-Usage-clause-form
+returns-in-Err-Usage-clause-form g c = λ logs link form never.
+    let is = c.in-Err-Usage.is in
+    let usage = c.in-Err-Usage.field-0-is in
+    elim (c.read_words.ensures.taken logs link form) [
+      | inl done ↦ (let e = sym done ∙ is in cc)
+      | inr memory ↦ (let e = sym memory ∙ is in cc)
+    ]
