@@ -1,7 +1,7 @@
 -- What the source holds decides how a run ends.
-use Rattle.std.proofs.Common.{◌≡◌, ◌<◌, ◌≤◌, length, ℕ, ◌+◌, List, arith, ap, subst, sym, ℤ, Option, Some, None, IfSome, inl, inr, ◌⊎◌, refl}
+use Rattle.std.proofs.Common.{◌≡◌, ◌<◌, ◌≤◌, length, ℕ, ◌+◌, List, arith, ap, ℤ, Option, Some, None, IfSome, inl, inr, ◌⊎◌, refl}
 use Rattle.im_digest.specs.Digests.{Hash}
-use Rattle.im_talk.specs.Script.{IsScript, StopsAfter}
+use Rattle.im_talk.specs.Script.{StopsAfter}
 use Rattle.im_talk.specs.declared.lines.Line.{Line}
 use Rattle.im_script.proofs.Unique.{read-or-stop, one-stop}
 use Rattle.im_app.specs.Runs.{IsGiven, WritesReport}

@@ -1,5 +1,5 @@
 -- What one answered line does to the history and to the report.
-use Rattle.std.proofs.Common.{◌≡◌, ◌<◌, ◌≤◌, length, ℕ, ◌+◌, ◌-◌, ℤ, List, [], ◌∷◌, ◌++◌, take, refl, arith, ap, subst, ◌∙◌, sym, get_or, length-append, append-nil, All, AllPairs, Option, Bool, false, map, if◌then◌else◌, inl, inr, FitsSigned, pos}
+use Rattle.std.proofs.Common.{◌≡◌, ◌<◌, ◌≤◌, length, ℕ, ◌+◌, ◌-◌, ℤ, List, [], ◌∷◌, ◌++◌, refl, arith, ap, subst, ◌∙◌, sym, get_or, length-append, append-nil, All, AllPairs, Option, false, map, if◌then◌else◌, inl, inr, FitsSigned}
 use Rattle.std.specs.Int.{w64}
 use Rattle.std.specs.Str.{bytes_eq}
 use Rattle.std.proofs.Math.Seq.{get_or-append_seam, drop-append_seam, take-length}
@@ -12,10 +12,9 @@ use Rattle.im_model.proofs.HistoryLemmas.{Follow-next}
 use Rattle.im_draft.specs.Drafts.{entry_of, AreEntries, AreFree, IsReserved, Refuses}
 use Rattle.im_draft.specs.declared.drafts.Draft.{Draft}
 use Rattle.im_draft.specs.declared.refusals.PrepareError.{PrepareError}
-use Rattle.im_draft.specs.declared.refusals.PrepareError.TheVariants.{Memory}
 use Rattle.im_tx.specs.Asked.{Asked, IsAsked}
 use Rattle.im_talk.specs.Replies.{full_reply, header_reply, refused_reply, reserved_reply, tx_reply}
-use Rattle.im_talk.specs.Report.{Answered, IsAnswer, IsSetAnswer, Report, reply_line}
+use Rattle.im_talk.specs.Report.{Answered, IsAnswer, Report}
 use Rattle.im_talk.specs.declared.lines.Line.{Line}
 use Rattle.im_talk.specs.declared.lines.Command.{Command}
 use Rattle.im_talk.specs.declared.lines.Command.TheVariants.{Set, Header}

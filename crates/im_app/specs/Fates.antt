@@ -1,6 +1,6 @@
 -- How a run ends, by what the source holds.
 use Rattle.std.specs.Prelude.{◌≡◌, ◌⊎◌, ℕ, ◌+◌, ◌<◌, ◌≤◌, List, length}
-use Rattle.im_talk.specs.Script.{IsScript, StopsAfter}
+use Rattle.im_talk.specs.Script.{StopsAfter}
 use Rattle.im_talk.specs.declared.lines.Line.{Line}
 use Rattle.im_app.specs.Runs.{IsGiven}
 use Rattle.im_app.specs.declared.status.Status.{Status}

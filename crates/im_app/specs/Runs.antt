@@ -1,5 +1,5 @@
 -- What a run of a script does.
-use Rattle.std.specs.Prelude.{ℤ, ℕ, ◌≤◌, List, [], length, All, Option, IfSome}
+use Rattle.std.specs.Prelude.{ℤ, ℕ, ◌≤◌, List, [], length, All, Option}
 use Rattle.std.specs.Io.KnownBytes.{Appends}
 use Rattle.im_edge.specs.Sinks.{AddsPart}
 use Rattle.im_digest.specs.Digests.{Hash}

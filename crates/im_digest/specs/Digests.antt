@@ -1,5 +1,5 @@
 -- Functions from octet strings to digests of 32 octets.
-use Rattle.std.specs.Prelude.{ℕ, ◌+◌, ◌%◌, List, [], ◌∷◌, ◌++◌, replicate, sum}
+use Rattle.std.specs.Prelude.{ℕ, ◌%◌, List, [], ◌∷◌, ◌++◌, replicate, sum}
 
 -- a hash function; each definition that hashes takes one
 abbrev pub Hash : Type 0

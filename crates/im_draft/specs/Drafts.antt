@@ -1,5 +1,5 @@
 -- Which drafts are the entries of a transaction, and why others are refused.
-use Rattle.std.specs.Prelude.{◌≡◌, ◌≢◌, ℕ, ◌<◌, ◌≤◌, List, [], ◌∷◌, length, take, slice_index_or, All, AllPairs, true, false}
+use Rattle.std.specs.Prelude.{◌≡◌, ◌≢◌, ℕ, ◌<◌, ◌≤◌, List, [], ◌∷◌, length, take, slice_index_or, All, AllPairs, false}
 use Rattle.im_model.specs.Entries.{attributes}
 use Rattle.im_model.specs.declared.entries.Entry.{Entry}
 use Rattle.im_draft.specs.declared.drafts.Attrs.{Attrs}

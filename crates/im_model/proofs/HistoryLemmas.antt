@@ -1,5 +1,5 @@
 -- Histories that grow and are cut, and the number of their Alh.
-use Rattle.std.proofs.Common.{◌≡◌, ◌<◌, ◌≤◌, length, ℕ, suc, zero, ◌+◌, ◌-◌, List, [], ◌∷◌, ◌++◌, take, arith, subst, ◌∙◌, sym, get_or, length-append, zero-add, All}
+use Rattle.std.proofs.Common.{◌≡◌, ◌<◌, ◌≤◌, length, ℕ, suc, zero, ◌+◌, List, [], ◌∷◌, ◌++◌, take, arith, subst, ◌∙◌, sym, get_or, length-append, zero-add, All}
 use Rattle.std.proofs.lemmas.List.{length-take}
 use Rattle.im_digest.specs.Digests.{Hash}
 use Rattle.im_model.specs.Headers.{alh}

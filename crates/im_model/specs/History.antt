@@ -1,5 +1,5 @@
 -- A history is a list of transactions. Their headers, and the limits within which they lie.
-use Rattle.std.specs.Prelude.{◌≡◌, ◌≢◌, ℕ, ◌<◌, ◌≤◌, ◌+◌, ◌-◌, ◌==◌, Bool, List, [], ◌∷◌, ◌++◌, length, take, map, pos, replicate, FitsSigned, slice_index_or, if◌then◌else◌, All, AllPairs}
+use Rattle.std.specs.Prelude.{◌≡◌, ◌≢◌, ℕ, ◌≤◌, ◌+◌, ◌-◌, ◌==◌, Bool, List, [], ◌∷◌, ◌++◌, length, take, map, pos, replicate, FitsSigned, slice_index_or, if◌then◌else◌, All, AllPairs}
 use Rattle.std.specs.Int.{w64}
 use Rattle.im_digest.specs.Digests.{Hash}
 use Rattle.im_model.specs.Trees.{root}

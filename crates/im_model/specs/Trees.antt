@@ -1,5 +1,5 @@
 -- Hash trees over a list of digests (RFC 6962, section 2.1). A digest is a list of octets.
-use Rattle.std.specs.Prelude.{ℕ, suc, zero, ◌-◌, ◌*◌, List, [], ◌∷◌, ◌++◌, length, take, drop, nat_lt, if◌then◌else◌}
+use Rattle.std.specs.Prelude.{ℕ, suc, zero, ◌*◌, List, [], ◌∷◌, ◌++◌, length, take, drop, nat_lt, if◌then◌else◌}
 use Rattle.im_digest.specs.Digests.{Hash}
 
 -- the string that is hashed for a leaf: 00 | digest

@@ -4,4 +4,9 @@
 pub mod bounded;
 pub mod buffers;
 pub mod fields;
+pub mod laws;
 pub mod octets;
+pub mod reader;
+#[cfg(test)]
+mod tests;
+pub mod writer;

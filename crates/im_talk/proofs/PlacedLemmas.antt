@@ -1,5 +1,5 @@
 -- Which replies say that something was placed.
-use Rattle.std.proofs.Common.{◌≡◌, ◌==◌, ℕ, List, ◌∷◌, ◌++◌, Bool, true, false, codes, refl, sym, subst, ap, ◌∙◌, if◌then◌else◌, nat_lt, length}
+use Rattle.std.proofs.Common.{◌≡◌, ◌==◌, ℕ, List, ◌∷◌, Bool, true, false, codes, refl, sym, ◌∙◌, if◌then◌else◌, nat_lt, length}
 use Rattle.std.proofs.lemmas.Slice.Eq.{bytes_eq-Decides}
 use Rattle.std.specs.Str.{bytes_eq}
 use Rattle.im_cuts.proofs.CutLemmas.{heads-differ}

@@ -1,8 +1,7 @@
 -- A report grows by one answered line.
-use Rattle.std.proofs.Common.{◌≡◌, ◌<◌, ◌≤◌, length, ℕ, zero, suc, ◌+◌, ◌-◌, List, [], ◌∷◌, ◌++◌, take, drop, map, filter, refl, arith, ap, subst, ◌∙◌, sym, get_or, length-append, append-nil, All, AllPairs, Bool, true, false, IsTrue, if◌then◌else◌, inl, inr, ◌⊎◌}
+use Rattle.std.proofs.Common.{◌≡◌, ◌<◌, ◌≤◌, length, ℕ, zero, suc, ◌+◌, ◌-◌, List, [], ◌∷◌, ◌++◌, drop, map, filter, refl, arith, ap, subst, ◌∙◌, sym, get_or, length-append, append-nil, All, Bool, true, false, IsTrue, if◌then◌else◌, inl, inr}
 use Rattle.std.specs.List.{flat_map, range_with_len}
 use Rattle.std.proofs.lemmas.List.{take-append-le, drop-append-le, get_or_append_left, map-append, length-take}
-use Rattle.std.proofs.lemmas.List.FromFn.{map-range_with_len_more}
 use Rattle.std.proofs.lemmas.List.Concat.{flat_map-append}
 use Rattle.std.proofs.lemmas.List.Elements.{All-append, All-push, filter-append}
 use Rattle.std.proofs.lemmas.List.Quantifiers.{all_pairs_push}
@@ -10,7 +9,7 @@ use Rattle.im_digest.specs.Digests.{Hash}
 use Rattle.im_model.specs.History.{no_transaction, IsHistory}
 use Rattle.im_model.specs.declared.transactions.Transaction.{Transaction}
 use Rattle.im_draft.specs.declared.drafts.Draft.{Draft}
-use Rattle.im_talk.specs.Replies.{full_reply, header_reply, refused_reply, reserved_reply, shown_header, beyond_reply, tx_reply}
+use Rattle.im_talk.specs.Replies.{header_reply}
 use Rattle.im_talk.specs.Report.{Answered, IsAnswer, IsSetAnswer, Report, is_placed, written}
 use Rattle.im_talk.specs.declared.lines.Line.{Line}
 use Rattle.im_talk.specs.declared.lines.Command.{Command}

@@ -1,6 +1,6 @@
 use Rattle.std.proofs.Common.{◌≡◌, ℕ, ℤ, List, Option, Ok, Err, IfOk, OnOk, subst, inl, inr}
 use Rattle.std.proofs.lemmas.Result.{IfOk-weaker}
-use Rattle.im_draft.specs.Drafts.{AreFree, IsReserved, Refuses}
+use Rattle.im_draft.specs.Drafts.{AreFree, IsReserved}
 use Rattle.im_draft.specs.declared.drafts.Draft.{Draft}
 use Rattle.im_draft.specs.declared.refusals.PrepareError.TheVariants.{Memory}
 use Rattle.im_talk.specs.Replies.{refused_reply}

@@ -1,6 +1,5 @@
-use Rattle.std.proofs.Common.{◌≡◌, ◌≤◌, ℕ, ℤ, List, length, map, Option, subst, sym, ◌∙◌, arith}
+use Rattle.std.proofs.Common.{◌≡◌, ◌≤◌, List, length, subst, ◌∙◌, arith}
 use Rattle.std.proofs.lemmas.Result.{IfOk-weaker}
-use Rattle.im_draft.specs.Drafts.{entry_of}
 use Rattle.im_model.specs.declared.entries.Entry.{Entry}
 use Rattle.im_app.specs.Turns.{Placed}
 use Rattle.im_app.proofs.TurnLemmas.{full-answers, placed-answers}

@@ -1,4 +1,4 @@
-use Rattle.std.proofs.Common.{◌≡◌, ℤ, ℕ, List, [], ◌∷◌, ◌++◌, All, Option, refl, sym, subst, ◌∙◌, arith}
+use Rattle.std.proofs.Common.{ℤ, ℕ, List, [], All, Option, refl, sym, subst, ◌∙◌, arith}
 use Rattle.im_model.specs.declared.transactions.Transaction.{Transaction}
 use Rattle.im_talk.specs.Report.{Report}
 use Rattle.im_app.specs.Turns.{HasTime, IsUnlinked, Turn}

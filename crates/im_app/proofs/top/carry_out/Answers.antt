@@ -1,5 +1,4 @@
-use Rattle.std.proofs.Common.{◌≡◌, inl, inr, sym, ◌∙◌}
-use Rattle.im_words.specs.declared.WordsError.TheVariants.{Memory, Usage}
+use Rattle.std.proofs.Common.{inl, inr, sym, ◌∙◌}
 use Rattle.im_app.proofs.top.carry_out.Goals as goal
 
 pub returns-in-Err-Usage-clause-form : goal.returns-in-Err-Usage-clause-form
