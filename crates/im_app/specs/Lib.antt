@@ -1,3 +1,4 @@
 pub mod Fates
 pub mod Runs
+pub mod Statuses
 pub mod Turns

@@ -1,5 +1,4 @@
-ghost use Rattle.std.specs.Prelude.{◌≡◌, ℕ, ◌+◌, ◌<◌, ◌≤◌, length, IfSome};
-ghost use Rattle.std.specs.Io.KnownBytes.{Keeps};
+ghost use Rattle.std.specs.Prelude.{◌≡◌, ◌⊎◌, ℕ, ◌+◌, ◌<◌, ◌≤◌, [], length, IfSome, Some};
 ghost use Rattle.im_edge.specs.Counts.{Rose};
 ghost use Rattle.im_talk.specs.Script.{StopsAfter};
 ghost use Rattle.im_app.specs.Runs.{WritesPart, WritesReport};
@@ -26,6 +25,7 @@ pub(crate) fn run<H: Hash32, S: Source, K: Sink, C: Clock>(
 ) -> Status
     ensures ok { result ≡ Status.Ok → IfSome (S.left source.old) (λ script.
         WritesReport (H.digest hash.now) (C.constant clock.old) script (K.written sink.old) (K.written sink.new)) }
+    ensures emptied { (result ≡ Status.Ok) ⊎ (result ≡ Status.WriteFault) → IfSome (S.left source.old) (λ _. S.left source.new ≡ Some []) }
     ensures never { result ≡ Status.Usage → ⊥ }
     ensures script { (k : ℕ) → result ≡ Status.Script k → IfSome (S.left source.old) (λ script.
         (length script ≤ 67108864) × ((n : ℕ) × (k ≡ n + 1) × StopsAfter script n)) }
@@ -40,6 +40,7 @@ pub(crate) fn run<H: Hash32, S: Source, K: Sink, C: Clock>(
     ensures source_count { (result ≡ Status.ReadFault → ⊥) → S.faults source.new ≡ S.faults source.old }
     ensures sink_count { (result ≡ Status.WriteFault → ⊥) → K.faults sink.new ≡ K.faults sink.old }
     ensures clock { C.constant clock.new ≡ C.constant clock.old }
+    ensures idle { (result ≡ Status.Ok → ⊥) → (result ≡ Status.WriteFault → ⊥) → (result ≡ Status.Memory → ⊥) → clock.new ≡ clock.old }
 {
     let octets = match read_all(alloc, source, MOST_OCTETS) {
         Ok(octets) => octets,

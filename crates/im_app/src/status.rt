@@ -1,3 +1,6 @@
+ghost use Rattle.std.specs.Prelude.{◌≡◌};
+ghost use Rattle.im_app.specs.Statuses.{code_of, words_of};
+
 /// How a run of the program ended. The program's exit status is the number at each.
 #[derive(Clone, Copy, Debug, PartialEq, Eq)]
 pub enum Status {
@@ -15,6 +18,40 @@ pub enum Status {
     Memory,
     /// 12: the source has more than 67,108,864 octets.
     Long,
+}
+
+impl Status {
+    /// The program's exit status.
+    #[tactic(auto, unfolding(crate::specs::Statuses::code_of))]
+    pub fn code(self) -> u8
+        ensures { result ≡ code_of self }
+    {
+        match self {
+            Status::Ok => 0,
+            Status::Usage => 2,
+            Status::Script { .. } => 3,
+            Status::ReadFault => 4,
+            Status::WriteFault => 5,
+            Status::Memory => 11,
+            Status::Long => 12,
+        }
+    }
+
+    /// The words that tell of it on standard error, behind `im: `, and before the number of a line.
+    #[tactic(auto, unfolding(crate::specs::Statuses::words_of))]
+    pub fn words(self) -> &'static str
+        ensures { result.now ≡ words_of self }
+    {
+        match self {
+            Status::Ok => "",
+            Status::Usage => "usage",
+            Status::Script { .. } => "script",
+            Status::ReadFault => "read fault",
+            Status::WriteFault => "write fault",
+            Status::Memory => "memory",
+            Status::Long => "long",
+        }
+    }
 }
 
 /// What the top call hands back.

@@ -5,7 +5,7 @@ use crate::status::{Done, Status};
 use crate::top::top;
 use im_digest::{Hash32, Sha, Sum};
 use im_disk::no_disk::NoDisk;
-use im_edge::clock::FixedClock;
+use im_edge::clock::{Clock, FixedClock};
 use im_edge::gate::OpenGate;
 use im_edge::keeper::MemKeeper;
 use im_edge::sink::{Given, Sink, Writing};
@@ -256,6 +256,101 @@ fn a_sink_that_fails(rt: HostRuntime) -> Result<(), Fail> {
         let mut sink = Narrow { room, faults: 0 };
         let status = status_of(&rt, &Sum, &["im", "run"], &mut source, &mut sink)?;
         assert_eq!(rt; status, want);
+    }
+    Ok(())
+}
+
+// A clock that gives a second more each time, from 1 on.
+#[derive(Drop)]
+struct Ticking {
+    time: i64,
+}
+
+impl Clock for Ticking {
+    ghost use Rattle.std.specs.Prelude.{None};
+
+    ghost constant = { λ _. None };
+
+    fn now(&mut self) -> i64 {
+        self.time = self.time.saturating_add(1);
+        self.time
+    }
+}
+
+// Under the sum the inner digests are 1 + 1 + 1 + 92 = 95 and 2 + 1 + 3 + c1 = c7, in hex, so the Alh are
+// 1 + 95 = 96 and 2 + 96 + c7 = 15f, of which 5f is kept.
+#[test]
+fn each_transaction_has_the_time_when_it_was_placed(rt: HostRuntime) -> Result<(), Fail> {
+    let mut words = Vec::new(rt.alloc());
+    for word in ["im", "run"] {
+        words.push(String::from_str(rt.alloc(), word)?)?;
+    }
+    let script = b"a: set k=abc\na: set k=1 k=2\na: set a=1 b=2 c=3\na: header 1\na: header 2\n";
+    let mut source = Reading::new(script.as_slice());
+    let mut sink = Writing::new(Vec::new(rt.alloc()));
+    let mut keeper = MemKeeper::new(rt.alloc());
+    let Done { status, clock, .. } = top(
+        &rt,
+        rt.alloc(),
+        words.as_slice(),
+        &Sum,
+        &mut source,
+        &mut sink,
+        NoDisk,
+        &mut keeper,
+        Ticking { time: 0 },
+        &OpenGate,
+    );
+    assert_eq!(rt; status, Status::Ok);
+    assert_eq!(rt; clock.time, 2);
+    assert_eq!(rt;
+        sink.inner.as_slice(),
+        b"a 1 tx 1\na 1 refused twice 0 1\na 2 tx 2\na 2 header 0000000000000000000000000000000000000000000000000000000000000096 {\"blRoot\":\"0000000000000000000000000000000000000000000000000000000000000000\",\"blTxId\":0,\"eh\":\"0000000000000000000000000000000000000000000000000000000000000092\",\"id\":1,\"md\":\"\",\"nentries\":1,\"prevAlh\":\"0000000000000000000000000000000000000000000000000000000000000000\",\"ts\":1,\"version\":1}\na 2 header 000000000000000000000000000000000000000000000000000000000000005f {\"blRoot\":\"0000000000000000000000000000000000000000000000000000000000000000\",\"blTxId\":0,\"eh\":\"00000000000000000000000000000000000000000000000000000000000000c1\",\"id\":2,\"md\":\"\",\"nentries\":3,\"prevAlh\":\"0000000000000000000000000000000000000000000000000000000000000096\",\"ts\":2,\"version\":1}\n".as_slice()
+    );
+    Ok(())
+}
+
+// A script of one `set` with so many entries, each value of so many octets.
+fn wide_set(alloc: Global, entries: usize, value: usize) -> Result<Vec<u8>, Fail> {
+    let mut script = Vec::from_slice(alloc, b"a: set")?;
+    for _ in 0..entries {
+        script.extend_from_slice(b" k=")?;
+        script.extend_from_slice(Vec::from_elem(alloc, b'v', value)?.as_slice())?;
+    }
+    Ok(script)
+}
+
+#[test]
+fn entries_and_values_above_the_limits(rt: HostRuntime) -> Result<(), Fail> {
+    let cases: [(usize, usize, &[u8]); 4] = [
+        (1025, 1, b"a 0 refused toomany 1025\n"),
+        (1024, 1, b"a 0 refused twice 0 1\n"),
+        (1, 4097, b"a 0 refused valuelong 0 4097\n"),
+        (1, 4096, b"a 1 tx 1\n"),
+    ];
+    for (entries, value, report) in cases {
+        let script = wide_set(rt.alloc(), entries, value)?;
+        let (status, written) = run(&rt, &Sum, script.as_slice())?;
+        assert_eq!(rt; status, Status::Ok);
+        assert_eq!(rt; written.as_slice(), report);
+    }
+    Ok(())
+}
+
+#[test]
+fn how_each_end_is_told(rt: HostRuntime) -> Result<(), Fail> {
+    let ends = [
+        (Status::Ok, 0, ""),
+        (Status::Usage, 2, "usage"),
+        (Status::Script { line: 7 }, 3, "script"),
+        (Status::ReadFault, 4, "read fault"),
+        (Status::WriteFault, 5, "write fault"),
+        (Status::Memory, 11, "memory"),
+        (Status::Long, 12, "long"),
+    ];
+    for (status, code, words) in ends {
+        assert_eq!(rt; status.code(), code);
+        assert!(rt; status.words() == words);
     }
     Ok(())
 }

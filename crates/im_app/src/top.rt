@@ -1,4 +1,4 @@
-ghost use Rattle.std.specs.Prelude.{◌≡◌, ◌⊎◌, ℕ, ◌+◌, ◌<◌, ◌≤◌, length, map, IfSome};
+ghost use Rattle.std.specs.Prelude.{◌≡◌, ◌⊎◌, ℕ, ◌+◌, ◌<◌, ◌≤◌, [], length, map, IfSome, Some};
 ghost use Rattle.std.specs.String.{string_bytes};
 ghost use Rattle.im_edge.specs.Counts.{Rose};
 ghost use Rattle.im_talk.specs.Script.{StopsAfter};
@@ -31,6 +31,7 @@ fn carry_out<H: Hash32, S: Source, K: Sink, C: Clock>(
 ) -> Status
     ensures report { result ≡ Status.Ok → IfSome (S.left source.old) (λ script.
         WritesReport (H.digest hash.now) (C.constant clock.old) script (K.written sink.old) (K.written sink.new)) }
+    ensures emptied { (result ≡ Status.Ok) ⊎ (result ≡ Status.WriteFault) → IfSome (S.left source.old) (λ _. S.left source.new ≡ Some []) }
     ensures usage { result ≡ Status.Usage → IsRefused (map string_bytes words.now) }
     ensures form { (logs : ℕ) (link : Link) → IsForm (map string_bytes words.now) logs link → result ≡ Status.Usage → ⊥ }
     ensures refused { IsRefused (map string_bytes words.now) → (result ≡ Status.Usage) ⊎ (result ≡ Status.Memory) }
@@ -46,6 +47,7 @@ fn carry_out<H: Hash32, S: Source, K: Sink, C: Clock>(
         WritesPart (H.digest hash.now) (C.constant clock.old) script (K.written sink.old) (K.written sink.new)) }
     ensures nothing { (result ≡ Status.Ok → ⊥) → (result ≡ Status.WriteFault → ⊥) → sink.new ≡ sink.old }
     ensures clock { C.constant clock.new ≡ C.constant clock.old }
+    ensures idle { (result ≡ Status.Ok → ⊥) → (result ≡ Status.WriteFault → ⊥) → (result ≡ Status.Memory → ⊥) → clock.new ≡ clock.old }
 {
     match read_words(alloc, words) {
         Ok(Asked::Run { .. }) => run(alloc, hash, source, sink, clock),
@@ -84,6 +86,9 @@ pub fn top<
     ensures report { result.status ≡ Status.Ok → IfSome (S.left source.old) (λ script.
         WritesReport (H.digest hash.now) (C.constant clock) script (K.written sink.old) (K.written sink.new)) }
 
+    // The source was read to its end before the report was written.
+    ensures emptied { (result.status ≡ Status.Ok) ⊎ (result.status ≡ Status.WriteFault) → IfSome (S.left source.old) (λ _. S.left source.new ≡ Some []) }
+
     // The words are at fault just where `clap` refuses them, and then nothing is touched. Those of the
     // form `NAME run [--logs 1..4] [--link auto|manual]`, the options in any order, never are.
     ensures usage { result.status ≡ Status.Usage → IsRefused (map string_bytes words.now) }
@@ -118,6 +123,9 @@ pub fn top<
     ensures disk { result.disk ≡ disk }
     ensures keeper { keeper.new ≡ keeper.old }
     ensures clock { C.constant result.clock ≡ C.constant clock }
+
+    // The clock isn't asked before the script was read.
+    ensures idle { (result.status ≡ Status.Ok → ⊥) → (result.status ≡ Status.WriteFault → ⊥) → (result.status ≡ Status.Memory → ⊥) → result.clock ≡ clock }
 {
     let _ = keeper;
     let mut clock = clock;

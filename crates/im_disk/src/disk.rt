@@ -59,7 +59,7 @@ pub trait Disk: Drop {
         ensures cause { HasCause (faults self.old) (faults self.new) result };
 
     /// Writes a piece over a file from the place `at` on, which is at most the file's length, and
-    /// past its end.
+    /// past its end. The place is below 2^62, so that the piece's end stays within 64 bits.
     fn write_at(&mut self, file: u8, at: u64, piece: &[u8]) -> Result<(), DiskError>
         requires file { file < 16 }
         requires within { LiesWithin (told self.old) file at 0 }

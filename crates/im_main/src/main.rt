@@ -43,16 +43,12 @@ fn main(rt: HostRuntime) -> ExitCode {
 
 // Tells how a run ended, on standard error and by the exit status.
 fn ended(rt: &impl Eprint, status: Status) -> ExitCode {
-    let (code, told) = match status {
-        Status::Ok => (0, Ok(())),
-        Status::Usage => (2, eprintln!(rt; "im: usage")),
-        Status::Script { line } => (3, eprintln!(rt; "im: script {line}")),
-        Status::ReadFault => (4, eprintln!(rt; "im: read fault")),
-        Status::WriteFault => (5, eprintln!(rt; "im: write fault")),
-        Status::Memory => (11, eprintln!(rt; "im: memory")),
-        Status::Long => (12, eprintln!(rt; "im: long")),
+    let told = match status {
+        Status::Ok => Ok(()),
+        Status::Script { line } => eprintln!(rt; "im: {} {line}", status.words()),
+        _ => eprintln!(rt; "im: {}", status.words()),
     };
     // Where standard error can't be written, the exit status alone tells.
     let _ = told;
-    ExitCode::from(code)
+    ExitCode::from(status.code())
 }

@@ -3,3 +3,5 @@
 
 pub mod history;
 pub mod laws;
+#[cfg(test)]
+mod tests;

@@ -4,4 +4,6 @@
 
 pub mod lines;
 pub mod replies;
+#[cfg(test)]
+mod tests;
 pub mod texts;

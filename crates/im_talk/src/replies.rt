@@ -10,14 +10,31 @@ use im_header::alh;
 use im_model::headers::Header;
 use std::alloc::{AllocError, Global};
 
+// A text and a number.
+fn with_number(alloc: Global, text: &[u8], n: u64) -> Result<Vec<u8>, AllocError>
+    ensures { IfOk result (λ out. out.items ≡ text.now ++ decimal n) }
+{
+    let mut out = Vec::new(alloc);
+    push_number(alloc, &mut out, text, n)?;
+    Ok(out)
+}
+
+// A text and two numbers.
+fn with_numbers(alloc: Global, text: &[u8], m: u64, n: u64) -> Result<Vec<u8>, AllocError>
+    ensures { IfOk result (λ out. out.items ≡ text.now ++ decimal m ++ codes " " ++ decimal n) }
+{
+    let mut out = Vec::new(alloc);
+    push_number(alloc, &mut out, text, m)?;
+    push_number(alloc, &mut out, b" ", n)?;
+    Ok(out)
+}
+
 /// The reply of a transaction that was placed: `tx <id>`.
 #[tactic(auto, unfolding(crate::specs::Replies::tx_reply))]
 pub fn tx_text(alloc: Global, id: u64) -> Result<Vec<u8>, AllocError>
     ensures { IfOk result (λ text. text.items ≡ tx_reply id) }
 {
-    let mut out = Vec::new(alloc);
-    push_number(alloc, &mut out, b"tx ", id)?;
-    Ok(out)
+    with_number(alloc, b"tx ", id)
 }
 
 /// The reply to a number above that of the last transaction: `refused beyond <n>`.
@@ -25,9 +42,7 @@ pub fn tx_text(alloc: Global, id: u64) -> Result<Vec<u8>, AllocError>
 pub fn beyond_text(alloc: Global, n: u64) -> Result<Vec<u8>, AllocError>
     ensures { IfOk result (λ text. text.items ≡ beyond_reply n) }
 {
-    let mut out = Vec::new(alloc);
-    push_number(alloc, &mut out, b"refused beyond ", n)?;
-    Ok(out)
+    with_number(alloc, b"refused beyond ", n)
 }
 
 /// The reply that shows a header: `header <alh> <header>`.
@@ -69,28 +84,7 @@ pub fn reply_text(
 pub fn reserved_text(alloc: Global, i: u64) -> Result<Vec<u8>, AllocError>
     ensures { IfOk result (λ text. text.items ≡ reserved_reply i) }
 {
-    let mut out = Vec::new(alloc);
-    push_number(alloc, &mut out, b"refused reserved ", i)?;
-    Ok(out)
-}
-
-// A text and a number.
-fn with_number(alloc: Global, text: &[u8], n: u64) -> Result<Vec<u8>, AllocError>
-    ensures { IfOk result (λ out. out.items ≡ text.now ++ decimal n) }
-{
-    let mut out = Vec::new(alloc);
-    push_number(alloc, &mut out, text, n)?;
-    Ok(out)
-}
-
-// A text and two numbers.
-fn with_numbers(alloc: Global, text: &[u8], m: u64, n: u64) -> Result<Vec<u8>, AllocError>
-    ensures { IfOk result (λ out. out.items ≡ text.now ++ decimal m ++ codes " " ++ decimal n) }
-{
-    let mut out = Vec::new(alloc);
-    push_number(alloc, &mut out, text, m)?;
-    push_number(alloc, &mut out, b" ", n)?;
-    Ok(out)
+    with_number(alloc, b"refused reserved ", i)
 }
 
 /// The reply to drafts that are no transaction, such as `refused twice <i> <j>`. Want of memory has no
