@@ -1,43 +1,34 @@
 use crate::history::entry_root;
 use im_digest::Sum;
-use im_draft::drafts::Attrs;
-use im_entry::make::entry;
 use im_model::entries::Entry;
+use im_model::limits::{EntryValue, Key, Metadata};
 use im_octet::octets::Octets;
-use std::alloc::Global;
+use std::alloc::{AllocError, Global};
 use std::test::Fail;
 
-const PLAIN: Attrs = Attrs {
-    deleted: false,
-    non_indexable: false,
-};
-
-fn entries_of(alloc: Global, pairs: &[(&[u8], &[u8])]) -> Result<Vec<Entry>, Fail> {
-    let mut entries = Vec::new(alloc);
-    for (key, value) in pairs {
-        let key = Octets::from_slice(alloc, key)?;
-        let value = Octets::from_slice(alloc, value)?;
-        entries.push(entry(alloc, PLAIN, key, value)?)?;
-    }
-    Ok(entries)
+// An entry whose key and value are one octet each.
+fn entry_of(alloc: Global, key: u8, value: u8) -> Result<Entry, AllocError> {
+    Ok(Entry {
+        md: Metadata::new(Octets::new(alloc)),
+        key: Key::new(Octets::from_vec(Vec::from_array(alloc, [key])?)),
+        value: EntryValue::new(Octets::from_vec(Vec::from_array(alloc, [value])?)),
+    })
 }
 
-// One leaf hashes 00 and its digest, so the root is 92, as the digest is. Of the leaves 93, 95 and 97 the
-// first two give 1 + 93 + 95, which is 29 modulo 256, and with the third 1 + 29 + 97, which is c1, in hex.
+// The digests of a=1, b=2 and c=3 are 93, 95 and 97. A leaf hashes 00 and its digest, so one leaf's root is
+// 93. The first two give 1 + 93 + 95, which is 29 modulo 256, and with the third 1 + 29 + 97, which is c1,
+// in hex.
 #[test]
 fn roots_of_entries_under_the_sum(rt: HostRuntime) -> Result<(), Fail> {
-    let cases: [(&[(&[u8], &[u8])], u8); 2] = [
-        (&[(b"k", b"abc")], 0x92),
-        (&[(b"a", b"1"), (b"b", b"2"), (b"c", b"3")], 0xc1),
-    ];
-    for (pairs, last) in cases {
-        let entries = entries_of(rt.alloc(), pairs)?;
-        let Some(_) = entries.first() else {
-            return Err(Fail::from("an entry"));
-        };
-        let mut known = [0u8; 32];
-        known[31] = last;
-        assert!(rt; entry_root(rt.alloc(), &Sum, entries.as_slice())? == known);
-    }
+    let alloc = rt.alloc();
+    let mut entries = Vec::new(alloc);
+    entries.push(entry_of(alloc, b'a', b'1')?)?;
+    let mut known = [0u8; 32];
+    known[31] = 0x93;
+    assert!(rt; entry_root(alloc, &Sum, entries.as_slice())? == known);
+    entries.push(entry_of(alloc, b'b', b'2')?)?;
+    entries.push(entry_of(alloc, b'c', b'3')?)?;
+    known[31] = 0xc1;
+    assert!(rt; entry_root(alloc, &Sum, entries.as_slice())? == known);
     Ok(())
 }
