@@ -1,0 +1,4 @@
+pub mod HeaderChecks
+pub mod TreeChecks
+pub mod ChainChecks
+pub mod Duals
