@@ -2,3 +2,4 @@ pub mod HeaderChecks
 pub mod TreeChecks
 pub mod ChainChecks
 pub mod Duals
+pub mod Built
