@@ -14,10 +14,12 @@ use Rattle.im_mtree.proofs.WayLemmas.{rise-end}
 use Rattle.im_atree.specs.Grows.{grow_sides_within, grow_sides, meet_both}
 use Rattle.im_atree.specs.declared.growths.Roots.{Roots}
 
-differ : (m n : ℕ) → m < n → m ≢ n
+-- a smaller number is another
+pub differ : (m n : ℕ) → m < n → m ≢ n
 differ m n l = λ e. absurd (omega arith)
 
-less : (m n : ℕ) → m ≤ n → m ≢ n → m < n
+-- of numbers that are at most another those that differ are smaller
+pub less : (m n : ℕ) → m ≤ n → m ≢ n → m < n
 less m n h ne = elim (cases_lt m n) [ inl q ↦ q | inr q ↦ absurd (ne (let e : m ≡ n = omega arith in e)) ]
 
 same-within : (room m n : ℕ) → m ≡ n → grow_sides_within room m n ≡ []

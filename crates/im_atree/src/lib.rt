@@ -2,5 +2,9 @@
 //! proofs hold of it: inclusion, consistency and last inclusion.
 #![tactic(auto)]
 
+pub mod built;
 pub mod checks;
 pub mod growths;
+#[cfg(test)]
+mod tests;
+pub mod trees;

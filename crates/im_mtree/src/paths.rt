@@ -33,8 +33,8 @@ pub fn path<H: Hash32>(
     Ok(turned(terms_down(alloc, hash, digests, i)?))
 }
 
-// The terms in the other order.
-fn turned(mut terms: Vec<D32>) -> Digests
+/// The terms in the other order. It takes no memory.
+pub fn turned(mut terms: Vec<D32>) -> Digests
     ensures { result ≡ reverse terms.items }
 {
     terms.as_mut_slice().reverse();

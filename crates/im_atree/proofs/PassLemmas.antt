@@ -1,0 +1,208 @@
+-- What is built of a tree's leaves passes its checks.
+use Rattle.std.proofs.Common.{◌≡◌, ◌≢◌, ◌<◌, ◌≤◌, ℕ, suc, zero, ◌+◌, ◌-◌, Bool, true, false, List, [], ◌∷◌, length, take, drop, reverse, refl, arith, ap, subst, ◌∙◌, sym, nat_lt, if◌then◌else◌, inl, inr, get_or, length-drop, take-take, take_all, Ok, ◌&&◌}
+use Rattle.std.specs.Prelude.{nat_eq, bytes_eq}
+use Rattle.std.proofs.lemmas.Bool.{cases_lt, cases_eq, eq-eqb, lt-ltb, le-ltb}
+use Rattle.std.proofs.lemmas.List.{length-take-le, length-reverse, reverse-reverse, drop-take, get_or-take}
+use Rattle.std.proofs.lemmas.Slice.Eq.{bytes_eq-Decides}
+use Rattle.im_digest.specs.Digests.{Hash}
+use Rattle.im_model.specs.Trees.{node, split_of, root}
+use Rattle.im_model.specs.Paths.{path_length, up}
+use Rattle.im_model.specs.Growth.{IsGrowth, IsConsistency, older, newer, older_root, newer_root, consistency_length}
+use Rattle.im_model.proofs.TreeLemmas.{split-within, split-same, root-split}
+use Rattle.im_model.proofs.Lengths.{consistency-fits}
+use Rattle.im_model.proofs.Steps.{older-first, newer-first, older-left, older-right, newer-left, newer-right}
+use Rattle.im_mtree.specs.Checks.{first_fail}
+use Rattle.im_mtree.specs.Inclusion.{inclusion}
+use Rattle.im_mtree.proofs.InclusionLemmas.{inclusion-exact, inclusion-leads}
+use Rattle.im_proof.specs.Built.{path_of, growth_first, growth_rest, consistency}
+use Rattle.im_proof.specs.TreeChecks.{inclusion_checks, consistency_checks, last_checks}
+use Rattle.im_proof.specs.declared.faults.DualFault.{DualFault}
+use Rattle.im_proof.specs.declared.faults.DualFault.TheVariants.{InclusionLength, InclusionRoot, ConsistencyLength, ConsistencyOld, ConsistencyNew, LastLength, LastRoot}
+use Rattle.im_atree.proofs.GrowLemmas.{less}
+use Rattle.im_atree.proofs.BuiltLemmas.{Steps, low-steps, high-steps, whole-list, list_whole, list_grown}
+
+-- a first term and those behind it fit the sizes, and give both roots
+pub record Grows (hash : Hash) (leaves : List (List ℕ)) (m n : ℕ) (first : List ℕ) (rest : List (List ℕ)) : Type 0 where
+  pub long : IsGrowth m n rest
+  pub old : older hash m n first rest ≡ root hash (take m leaves)
+  pub new : newer hash m n first rest ≡ root hash leaves
+
+grows-whole : (hash : Hash) (leaves : List (List ℕ)) (m : ℕ) → 0 < m → m ≡ length leaves
+    → Grows hash leaves m (length leaves) (growth_first hash leaves m) (growth_rest hash leaves m)
+grows-whole hash leaves m o e =
+    let n : ℕ = length leaves in
+    let whole : (growth_first hash leaves m ≡ root hash leaves) × (growth_rest hash leaves m ≡ []) = whole-list hash leaves m o e in
+    let all : take m leaves ≡ leaves = take_all m leaves (omega arith) in
+    subst (λ (f : List ℕ). Grows hash leaves m n f (growth_rest hash leaves m)) (sym whole.0)
+    (subst (λ rs. Grows hash leaves m n (root hash leaves) rs) (sym whole.1)
+    (record { long = e; old = older-first hash m n (root hash leaves) ∙ ap (λ xs. root hash xs) (sym all); new = newer-first hash m n (root hash leaves) }))
+
+-- one step up, where the older tree ends in the left part
+grows-low : (hash : Hash) (leaves : List (List ℕ)) (m : ℕ) (f : List ℕ) (t : List (List ℕ)) → 0 < m → m < length leaves → m ≤ split_of (length leaves)
+    → Grows hash (take (split_of (length leaves)) leaves) m (split_of (length leaves)) f t
+    → Grows hash leaves m (length leaves) f (root hash (drop (split_of (length leaves)) leaves) ∷ t)
+grows-low hash leaves m f t o l side g =
+    let n : ℕ = length leaves in
+    let k : ℕ = split_of n in
+    record {
+      long = (l, inl (side, g.long));
+      old = older-left hash m n f (root hash (drop k leaves)) t side ∙ g.old ∙ ap (λ xs. root hash xs) (take-take m k leaves side);
+      new = newer-left hash m n f (root hash (drop k leaves)) t side ∙ ap (λ w. node hash w (root hash (drop k leaves))) g.new ∙ sym (root-split hash leaves k (omega arith) refl);
+    }
+
+-- one step up, where the older tree has the whole left part
+grows-high : (hash : Hash) (leaves : List (List ℕ)) (m : ℕ) (f : List ℕ) (t : List (List ℕ)) → 0 < m → m < length leaves → split_of (length leaves) < m
+    → Grows hash (drop (split_of (length leaves)) leaves) (m - split_of (length leaves)) (length leaves - split_of (length leaves)) f t
+    → Grows hash leaves m (length leaves) f (root hash (take (split_of (length leaves)) leaves) ∷ t)
+grows-high hash leaves m f t o l past g =
+    let n : ℕ = length leaves in
+    let k : ℕ = split_of n in
+    let left : List (List ℕ) = take k leaves in
+    let right : List (List ℕ) = drop k leaves in
+    let inside : (0 < k) × (k < n) = split-within n (omega arith) in
+    let size : length (take m leaves) ≡ m = length-take-le m leaves (omega arith) in
+    let split : k ≡ split_of (length (take m leaves)) = sym (ap (λ j. split_of j) size ∙ split-same m n (omega arith) (omega arith) past) in
+    let sum : k + (m - k) ≡ m = omega arith in
+    let dropped : drop k (take m leaves) ≡ take (m - k) right = ap (λ j. drop k (take j leaves)) (sym sum) ∙ drop-take k (m - k) leaves in
+    let whole : root hash (take m leaves) ≡ node hash (root hash left) (root hash (take (m - k) right)) =
+    root-split hash (take m leaves) k (omega arith) split
+    ∙ ap (λ xs. node hash (root hash xs) (root hash (drop k (take m leaves)))) (take-take k m leaves (omega arith))
+    ∙ ap (λ xs. node hash (root hash left) (root hash xs)) dropped in
+    record {
+      long = (l, inr (past, g.long));
+      old = older-right hash m n f (root hash left) t past ∙ ap (λ o. node hash (root hash left) o) g.old ∙ sym whole;
+      new = newer-right hash m n f (root hash left) t past ∙ ap (λ w. node hash (root hash left) w) g.new ∙ sym (root-split hash leaves k (omega arith) refl);
+    }
+
+grows-within : (room : ℕ) (hash : Hash) (leaves : List (List ℕ)) (m : ℕ) → length leaves ≤ room → 0 < m → m ≤ length leaves
+    → Grows hash leaves m (length leaves) (growth_first hash leaves m) (growth_rest hash leaves m)
+grows-within zero hash leaves m r o l = absurd (omega arith)
+grows-within (suc room) hash leaves m r o l = elim (cases_eq m (length leaves)) [
+  | inl e ↦ grows-whole hash leaves m o e
+  | inr ne ↦ (
+      let n : ℕ = length leaves in
+      let k : ℕ = split_of n in
+      let below : m < n = less m n l ne in
+      let inside : (0 < k) × (k < n) = split-within n (omega arith) in
+      let left : length (take k leaves) ≡ k = length-take-le k leaves (omega arith) in
+      let right : length (drop k leaves) ≡ n - k = length-drop k leaves in
+      elim (cases_lt k m) [
+        | inl over ↦ (
+            let s : Steps hash leaves m (drop k leaves) (take k leaves) (m - k) = high-steps hash leaves m o below over in
+            let f : List ℕ = growth_first hash (drop k leaves) (m - k) in
+            let t : List (List ℕ) = growth_rest hash (drop k leaves) (m - k) in
+            let g : Grows hash (drop k leaves) (m - k) (n - k) f t =
+            subst (λ j. Grows hash (drop k leaves) (m - k) j f t) right (grows-within room hash (drop k leaves) (m - k) (omega arith) (omega arith) (omega arith)) in
+            subst (λ (x : List ℕ). Grows hash leaves m n x (growth_rest hash leaves m)) (sym s.0)
+            (subst (λ rs. Grows hash leaves m n f rs) (sym s.1) (grows-high hash leaves m f t o below over g)))
+        | inr under ↦ (
+            let s : Steps hash leaves m (take k leaves) (drop k leaves) m = low-steps hash leaves m o below under in
+            let f : List ℕ = growth_first hash (take k leaves) m in
+            let t : List (List ℕ) = growth_rest hash (take k leaves) m in
+            let g : Grows hash (take k leaves) m k f t =
+            subst (λ j. Grows hash (take k leaves) m j f t) left (grows-within room hash (take k leaves) m (omega arith) o (omega arith)) in
+            subst (λ (x : List ℕ). Grows hash leaves m n x (growth_rest hash leaves m)) (sym s.0)
+            (subst (λ rs. Grows hash leaves m n f rs) (sym s.1) (grows-low hash leaves m f t o below under g)))
+      ])
+]
+
+-- a list fits the sizes, and gives both roots where the older one is known
+pub record Leads (hash : Hash) (leaves : List (List ℕ)) (m : ℕ) (list : List (List ℕ)) : Type 0 where
+  pub exact : length list ≡ consistency_length m (length leaves)
+  pub old : older_root hash m (length leaves) (root hash (take m leaves)) list ≡ root hash (take m leaves)
+  pub new : newer_root hash m (length leaves) (root hash (take m leaves)) list ≡ root hash leaves
+
+-- so does the one that is built
+pub built-leads : (hash : Hash) (leaves : List (List ℕ)) (m : ℕ) → 0 < m → m ≤ length leaves → Leads hash leaves m (consistency hash leaves m)
+built-leads hash leaves m o l = elim (cases_eq m (length leaves)) [
+  | inl e ↦ (
+      let none : List (List ℕ) = [] in
+      subst (λ x. Leads hash leaves m x) (sym (list_whole hash leaves m e)) (record {
+        exact = (consistency-fits m (length leaves) none o l).0 e;
+        old = refl;
+        new = ap (λ x. root hash x) (take_all m leaves (omega arith));
+      }))
+  | inr ne ↦ (
+      let n : ℕ = length leaves in
+      let first : List ℕ = growth_first hash leaves m in
+      let rest : List (List ℕ) = growth_rest hash leaves m in
+      let g : Grows hash leaves m n first rest = grows-within n hash leaves m (omega arith) o l in
+      let turned : reverse (reverse rest) ≡ rest = reverse-reverse rest in
+      let fits : IsConsistency m n (first ∷ reverse rest) = (less m n l ne, subst (λ x. IsGrowth m n x) (sym turned) g.long) in
+      subst (λ x. Leads hash leaves m x) (sym (list_grown hash leaves m ne)) (record {
+        exact = (consistency-fits m n (first ∷ reverse rest) o l).0 fits;
+        old = ap (λ x. older hash m n first x) turned ∙ g.old;
+        new = ap (λ x. newer hash m n first x) turned ∙ g.new;
+      }))
+]
+
+-- in the tree of the first n: the exact length
+pub list_exact : (hash : Hash) (alhs : List (List ℕ)) (m n : ℕ) (list : List (List ℕ)) → 1 ≤ m → m ≤ n → n ≤ length alhs → list ≡ consistency hash (take n alhs) m
+    → length list ≡ consistency_length m n
+list_exact hash alhs m n list o l w built =
+    let long : length (take n alhs) ≡ n = length-take-le n alhs w in
+    ap length built ∙ (built-leads hash (take n alhs) m (omega arith) (omega arith)).exact ∙ ap (λ j. consistency_length m j) long
+
+-- and both roots
+leads-in : (hash : Hash) (alhs : List (List ℕ)) (m n : ℕ) → 1 ≤ m → m ≤ n → n ≤ length alhs
+    → (older_root hash m n (root hash (take m alhs)) (consistency hash (take n alhs) m) ≡ root hash (take m alhs))
+    × (newer_root hash m n (root hash (take m alhs)) (consistency hash (take n alhs) m) ≡ root hash (take n alhs))
+leads-in hash alhs m n o l w =
+    let leaves : List (List ℕ) = take n alhs in
+    let list : List (List ℕ) = consistency hash leaves m in
+    let long : length leaves ≡ n = length-take-le n alhs w in
+    let front : take m leaves ≡ take m alhs = take-take m n alhs l in
+    let g : Leads hash leaves m list = built-leads hash leaves m (omega arith) (omega arith) in
+    let P : ℕ → List (List ℕ) → Type 0 = λ j xs. (older_root hash m j (root hash xs) list ≡ root hash xs) × (newer_root hash m j (root hash xs) list ≡ root hash leaves) in
+    subst (λ j. P j (take m alhs)) long (subst (λ xs. P (length leaves) xs) front (g.old, g.new))
+
+-- equal octets are found equal
+pub bytes-same : (a b : List ℕ) → a ≡ b → bytes_eq a b ≡ true
+bytes-same a b e = grind (arith, bytes_eq-Decides a b, e)
+
+-- checks that hold leave no fault
+pub two-hold : {F : Type 0} → (a b : Bool) (f g : F) → a ≡ true → b ≡ true → first_fail ((a, f) ∷ (b, g) ∷ []) ≡ Ok tt
+two-hold a b f g p q =
+    ap (λ x. first_fail ((x, f) ∷ (b, g) ∷ [])) p ∙ ap (λ x. first_fail ((x, g) ∷ [])) q
+
+pub three-hold : {F : Type 0} → (a b c : Bool) (f g h : F) → a ≡ true → b ≡ true → c ≡ true → first_fail ((a, f) ∷ (b, g) ∷ (c, h) ∷ []) ≡ Ok tt
+three-hold a b c f g h p q r =
+    ap (λ x. first_fail ((x, f) ∷ (b, g) ∷ (c, h) ∷ [])) p
+    ∙ ap (λ x. first_fail ((x, g) ∷ (c, h) ∷ [])) q
+    ∙ ap (λ x. first_fail ((x, h) ∷ [])) r
+
+-- a built consistency list passes its check
+pub list_passes : (hash : Hash) (alhs : List (List ℕ)) (m n : ℕ) (list : List (List ℕ)) → 1 ≤ m → m ≤ n → n ≤ length alhs → list ≡ consistency hash (take n alhs) m
+    → first_fail (consistency_checks hash m n (root hash (take m alhs)) (root hash (take n alhs)) list) ≡ Ok tt
+list_passes hash alhs m n list o l w built =
+    let a : List ℕ = root hash (take m alhs) in
+    let b : List ℕ = root hash (take n alhs) in
+    let some : nat_lt 0 m ≡ true = lt-ltb 0 m (omega arith) in
+    elim (cases_lt m n) [
+      | inl below ↦ (
+          let due : (nat_lt 0 m && nat_lt m n) ≡ true = ap (λ t. t && nat_lt m n) some ∙ lt-ltb m n below in
+          let exact : length list ≡ consistency_length m n = list_exact hash alhs m n list o l w built in
+          let both = leads-in hash alhs m n o l w in
+          ap (λ t. first_fail (if t
+          then (nat_eq (length list) (consistency_length m n), ConsistencyLength (consistency_length m n) (length list))
+          ∷ (bytes_eq (older_root hash m n a list) a, ConsistencyOld a (older_root hash m n a list))
+          ∷ (bytes_eq (newer_root hash m n a list) b, ConsistencyNew b (newer_root hash m n a list)) ∷ []
+          else (nat_eq (length list) 0, ConsistencyLength 0 (length list))
+          ∷ (if nat_lt 0 m then (bytes_eq a b, ConsistencyNew b a) ∷ [] else []))) due
+          ∙ three-hold _ _ _ _ _ _ (eq-eqb (length list) (consistency_length m n) exact)
+          (bytes-same (older_root hash m n a list) a (ap (λ x. older_root hash m n a x) built ∙ both.0))
+          (bytes-same (newer_root hash m n a list) b (ap (λ x. newer_root hash m n a x) built ∙ both.1)))
+      | inr whole ↦ (
+          let same : m ≡ n = omega arith in
+          let due : (nat_lt 0 m && nat_lt m n) ≡ false = ap (λ t. t && nat_lt m n) some ∙ le-ltb m n whole in
+          let long : length (take n alhs) ≡ n = length-take-le n alhs w in
+          let none : length list ≡ 0 = ap length (built ∙ list_whole hash (take n alhs) m (omega arith)) in
+          ap (λ t. first_fail (if t
+          then (nat_eq (length list) (consistency_length m n), ConsistencyLength (consistency_length m n) (length list))
+          ∷ (bytes_eq (older_root hash m n a list) a, ConsistencyOld a (older_root hash m n a list))
+          ∷ (bytes_eq (newer_root hash m n a list) b, ConsistencyNew b (newer_root hash m n a list)) ∷ []
+          else (nat_eq (length list) 0, ConsistencyLength 0 (length list))
+          ∷ (if nat_lt 0 m then (bytes_eq a b, ConsistencyNew b a) ∷ [] else []))) due
+          ∙ ap (λ t. first_fail ((nat_eq (length list) 0, ConsistencyLength 0 (length list)) ∷ (if t then (bytes_eq a b, ConsistencyNew b a) ∷ [] else []))) some
+          ∙ two-hold _ _ _ _ (eq-eqb (length list) 0 none) (bytes-same a b (ap (λ j. root hash (take j alhs)) same)))
+    ]
