@@ -1,23 +1,24 @@
 -- What is built of a tree's leaves passes its checks.
 use Rattle.std.proofs.Common.{◌≡◌, ◌≢◌, ◌<◌, ◌≤◌, ℕ, suc, zero, ◌+◌, ◌-◌, Bool, true, false, List, [], ◌∷◌, length, take, drop, reverse, refl, arith, ap, subst, ◌∙◌, sym, nat_lt, if◌then◌else◌, inl, inr, get_or, length-drop, take-take, take_all, Ok, ◌&&◌}
 use Rattle.std.specs.Prelude.{nat_eq, bytes_eq}
-use Rattle.std.proofs.lemmas.Bool.{cases_lt, cases_eq, eq-eqb, lt-ltb, le-ltb}
+use Rattle.std.proofs.lemmas.Bool.{cases_lt, cases_eq, eq-eqb, ne_eqb, lt-ltb, le-ltb}
 use Rattle.std.proofs.lemmas.List.{length-take-le, length-reverse, reverse-reverse, drop-take, get_or-take}
 use Rattle.std.proofs.lemmas.Slice.Eq.{bytes_eq-Decides}
 use Rattle.im_digest.specs.Digests.{Hash}
 use Rattle.im_model.specs.Trees.{node, split_of, root}
 use Rattle.im_model.specs.Paths.{path_length, up}
 use Rattle.im_model.specs.Growth.{IsGrowth, IsConsistency, older, newer, older_root, newer_root, consistency_length}
+use Rattle.im_model.specs.History.{no_digest}
 use Rattle.im_model.proofs.TreeLemmas.{split-within, split-same, root-split}
 use Rattle.im_model.proofs.Lengths.{consistency-fits}
 use Rattle.im_model.proofs.Steps.{older-first, newer-first, older-left, older-right, newer-left, newer-right}
-use Rattle.im_mtree.specs.Checks.{first_fail}
+use Rattle.im_mtree.specs.Checks.{Check, first_fail}
 use Rattle.im_mtree.specs.Inclusion.{inclusion}
 use Rattle.im_mtree.proofs.InclusionLemmas.{inclusion-exact, inclusion-leads}
 use Rattle.im_proof.specs.Built.{path_of, growth_first, growth_rest, consistency}
-use Rattle.im_proof.specs.TreeChecks.{inclusion_checks, consistency_checks, last_checks}
+use Rattle.im_proof.specs.TreeChecks.{inclusion_checks, consistency_checks, last_checks, bl_checks}
 use Rattle.im_proof.specs.declared.faults.DualFault.{DualFault}
-use Rattle.im_proof.specs.declared.faults.DualFault.TheVariants.{InclusionLength, InclusionRoot, ConsistencyLength, ConsistencyOld, ConsistencyNew, LastLength, LastRoot}
+use Rattle.im_proof.specs.declared.faults.DualFault.TheVariants.{InclusionLength, InclusionRoot, ConsistencyLength, ConsistencyOld, ConsistencyNew, LastLength, LastRoot, BlAlh}
 use Rattle.im_atree.proofs.GrowLemmas.{less}
 use Rattle.im_atree.proofs.BuiltLemmas.{Steps, low-steps, high-steps, whole-list, list_whole, list_grown}
 
@@ -206,3 +207,93 @@ list_passes hash alhs m n list o l w built =
           ∙ ap (λ t. first_fail ((nat_eq (length list) 0, ConsistencyLength 0 (length list)) ∷ (if t then (bytes_eq a b, ConsistencyNew b a) ∷ [] else []))) some
           ∙ two-hold _ _ _ _ (eq-eqb (length list) 0 none) (bytes-same a b (ap (λ j. root hash (take j alhs)) same)))
     ]
+
+-- where one of two lists of checks is due, and holds
+pub when-true : {F : Type 0} → (b : Bool) (x y : List (Check F)) → b ≡ true → first_fail x ≡ Ok tt → first_fail (if b then x else y) ≡ Ok tt
+when-true b x y e h = ap (λ t. first_fail (if t then x else y)) e ∙ h
+
+-- and where the other is
+pub when-false : {F : Type 0} → (b : Bool) (x y : List (Check F)) → b ≡ false → first_fail y ≡ Ok tt → first_fail (if b then x else y) ≡ Ok tt
+when-false b x y e h = ap (λ t. first_fail (if t then x else y)) e ∙ h
+
+-- one check that holds leaves no fault
+pub one-holds : {F : Type 0} → (a : Bool) (f : F) → a ≡ true → first_fail ((a, f) ∷ []) ≡ Ok tt
+one-holds a f p = ap (λ x. first_fail ((x, f) ∷ [])) p
+
+-- the path of leaf i in the tree of the first n has the exact length, and leads to the root
+pub path-in_front : (hash : Hash) (alhs : List (List ℕ)) (i n : ℕ) → i < n → n ≤ length alhs
+    → (length (path_of hash (take n alhs) i) ≡ path_length n i) × (up hash n i (get_or alhs i []) (reverse (path_of hash (take n alhs) i)) ≡ root hash (take n alhs))
+path-in_front hash alhs i n l w =
+    let leaves : List (List ℕ) = take n alhs in
+    let long : length leaves ≡ n = length-take-le n alhs w in
+    let leaf : get_or leaves i [] ≡ get_or alhs i [] = get_or-take n alhs i [] l in
+    let path : List (List ℕ) = inclusion hash leaves i in (
+      length-reverse path ∙ inclusion-exact hash leaves i (omega arith) ∙ ap (λ j. path_length j i) long,
+      ap (λ p. up hash n i (get_or alhs i []) p) (reverse-reverse path)
+          ∙ ap (λ j. up hash j i (get_or alhs i []) path) (sym long)
+          ∙ ap (λ d. up hash (length leaves) i d path) (sym leaf)
+          ∙ inclusion-leads hash leaves i (omega arith),
+    )
+
+-- a built inclusion path passes its check, where it is due and where it is not
+pub inclusion-passes : (hash : Hash) (alhs : List (List ℕ)) (s n : ℕ) (top : List ℕ) → 1 ≤ s → n ≤ length alhs → (0 < n → top ≡ root hash (take n alhs))
+    → first_fail (inclusion_checks hash s n top (get_or alhs (s - 1) []) (if nat_lt s n then path_of hash (take n alhs) (s - 1) else [])) ≡ Ok tt
+inclusion-passes hash alhs s n top o w tree =
+    let alh : List ℕ = get_or alhs (s - 1) [] in
+    let path : List (List ℕ) = path_of hash (take n alhs) (s - 1) in
+    elim (cases_lt s n) [
+      | inl below ↦ (
+          let front = path-in_front hash alhs (s - 1) n (omega arith) w in
+          let is : top ≡ root hash (take n alhs) = tree (omega arith) in
+          ap (λ t. first_fail (inclusion_checks hash s n top alh (if t then path else []))) (lt-ltb s n below)
+          ∙ when-true (nat_lt s n) _ _ (lt-ltb s n below)
+          (two-hold _ _ _ _ (eq-eqb (length path) (path_length n (s - 1)) front.0) (bytes-same (up hash n (s - 1) alh (reverse path)) top (front.1 ∙ sym is))))
+      | inr beyond ↦ ap (λ t. first_fail (inclusion_checks hash s n top alh (if t then path else []))) (le-ltb s n beyond)
+          ∙ when-false (nat_lt s n) _ _ (le-ltb s n beyond) refl
+    ]
+
+-- a number above 0 isn't found to be 0
+pub not-none : (n : ℕ) → 0 < n → nat_eq n 0 ≡ false
+not-none n h = ne_eqb n 0 (λ e. absurd (omega arith))
+
+-- a built consistency list passes its check, where it is due and where it is not
+pub consistency-passes : (hash : Hash) (alhs : List (List ℕ)) (m n : ℕ) (older newer : List ℕ) → m ≤ n → n ≤ length alhs
+    → (0 < m → older ≡ root hash (take m alhs)) → (0 < n → newer ≡ root hash (take n alhs))
+    → first_fail (consistency_checks hash m n older newer (if nat_eq m 0 then [] else consistency hash (take n alhs) m)) ≡ Ok tt
+consistency-passes hash alhs zero n older newer l w old new = refl
+consistency-passes hash alhs (suc m) n older newer l w old new =
+    let list : List (List ℕ) = consistency hash (take n alhs) (suc m) in
+    let a : older ≡ root hash (take (suc m) alhs) = old (omega arith) in
+    let b : newer ≡ root hash (take n alhs) = new (omega arith) in
+    ap (λ t. first_fail (consistency_checks hash (suc m) n older newer (if t then [] else list))) (not-none (suc m) (omega arith))
+    ∙ ap (λ x. first_fail (consistency_checks hash (suc m) n x newer list)) a
+    ∙ ap (λ x. first_fail (consistency_checks hash (suc m) n (root hash (take (suc m) alhs)) x list)) b
+    ∙ list_passes hash alhs (suc m) n list (omega arith) l w refl
+
+-- a built path of the last leaf passes its check, where there is one and where there is none
+pub last-passes : (hash : Hash) (alhs : List (List ℕ)) (n : ℕ) (top none : List ℕ) → n ≤ length alhs → (0 < n → top ≡ root hash (take n alhs))
+    → first_fail (last_checks hash n top (if nat_eq n 0 then none else get_or alhs (n - 1) []) (if nat_eq n 0 then [] else path_of hash (take n alhs) (n - 1))) ≡ Ok tt
+last-passes hash alhs zero top none w tree = refl
+last-passes hash alhs (suc n) top none w tree =
+    let size : ℕ = suc n in
+    let front = path-in_front hash alhs (size - 1) size (omega arith) w in
+    let is : top ≡ root hash (take size alhs) = tree (omega arith) in
+    let alh : List ℕ = get_or alhs (size - 1) [] in
+    let path : List (List ℕ) = path_of hash (take size alhs) (size - 1) in
+    ap (λ t. first_fail (last_checks hash size top (if t then none else alh) (if t then [] else path))) (not-none size (omega arith))
+    ∙ when-true (nat_lt 0 size) _ _ (lt-ltb 0 size (omega arith))
+    (two-hold _ _ _ _ (eq-eqb (length path) (path_length size (size - 1)) front.0) (bytes-same (up hash size (size - 1) alh (reverse path)) top (front.1 ∙ sym is)))
+
+-- what is told as the last Alh passes its check
+pub bl-passes : (s n : ℕ) (alhs : List (List ℕ)) → first_fail (bl_checks s n (get_or alhs (s - 1) []) (if nat_eq n 0 then no_digest else get_or alhs (n - 1) [])) ≡ Ok tt
+bl-passes s zero alhs = one-holds (bytes_eq no_digest no_digest) (BlAlh no_digest no_digest) (bytes-same no_digest no_digest refl)
+bl-passes s (suc n) alhs =
+    let size : ℕ = suc n in
+    let alh : List ℕ = get_or alhs (s - 1) [] in
+    let told : List ℕ = get_or alhs (size - 1) [] in
+    ap (λ t. first_fail (bl_checks s size alh (if t then no_digest else told))) (not-none size (omega arith))
+    ∙ when-false (nat_eq size 0) ((bytes_eq told no_digest, BlAlh no_digest told) ∷ []) _ (not-none size (omega arith))
+    (elim (cases_eq s size) [
+      | inl e ↦ when-true (nat_eq s size) ((bytes_eq told alh, BlAlh alh told) ∷ []) [] (eq-eqb s size e) (one-holds (bytes_eq told alh) (BlAlh alh told) (bytes-same told alh (ap (λ j. get_or alhs (j - 1) []) (sym e))))
+      | inr ne ↦ when-false (nat_eq s size) ((bytes_eq told alh, BlAlh alh told) ∷ []) [] (ne_eqb s size ne) refl
+    ])

@@ -1,1 +1,2 @@
 pub mod AdvanceLemmas
+pub mod PassLemmas

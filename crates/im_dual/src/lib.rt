@@ -3,6 +3,7 @@
 #![tactic(auto)]
 
 mod advance;
+pub mod build;
 pub mod check;
 pub mod headers;
 #[cfg(test)]

@@ -1,12 +1,15 @@
 -- What a proof holds that is built from a history's Alh and inner digests, each list with that of
 -- transaction k at place k - 1.
-use Rattle.std.specs.Prelude.{◌≡◌, ℕ, suc, zero, ◌<◌, ◌≤◌, ◌+◌, ◌-◌, ◌&&◌, ◌==◌, List, [], ◌∷◌, length, take, drop, reverse, slice_index_or, nat_eq, nat_le, nat_lt, if◌then◌else◌}
+use Rattle.std.specs.Prelude.{◌≡◌, ℕ, suc, zero, ◌<◌, ◌≤◌, ◌+◌, ◌-◌, ◌==◌, List, [], ◌∷◌, length, take, drop, reverse, slice_index_or, nat_eq, nat_le, nat_lt, if◌then◌else◌, Ok}
 use Rattle.im_digest.specs.Digests.{Hash}
 use Rattle.im_model.specs.Trees.{split_of, root}
 use Rattle.im_model.specs.Chains.{link_string}
-use Rattle.im_model.specs.History.{no_digest}
+use Rattle.im_model.specs.History.{no_digest, bl_root_of}
+use Rattle.im_model.specs.Headers.{alh}
 use Rattle.im_model.specs.declared.headers.Header.{Header}
+use Rattle.im_mtree.specs.Checks.{first_fail}
 use Rattle.im_mtree.specs.Inclusion.{inclusion}
+use Rattle.im_proof.specs.HeaderChecks.{header_checks}
 use Rattle.im_proof.specs.declared.proofs.AdvanceProof.{AdvanceProof}
 use Rattle.im_proof.specs.declared.proofs.DualProof.{DualProof}
 
@@ -54,3 +57,41 @@ growth_rest hash leaves m = growth_rest_within (length leaves) hash leaves m
 -- number of the leaves, as a proof holds it. Between equal sizes it is empty.
 unfoldable pub consistency : Hash → List (List ℕ) → ℕ → List (List ℕ)
 consistency hash leaves m = if m == length leaves then [] else growth_first hash leaves m ∷ reverse (growth_rest hash leaves m)
+
+-- the paths of leaf i and of those behind it, so many
+abbrev pub paths_from : Hash → List (List ℕ) → ℕ → ℕ → List (List (List ℕ))
+paths_from hash leaves i zero = []
+paths_from hash leaves i (suc count) = path_of hash leaves i ∷ paths_from hash leaves (i + 1) count
+
+-- the linear advance from a to e in the tree of the first Alh, so many
+unfoldable pub advance_of : Hash → List (List ℕ) → List (List ℕ) → ℕ → ℕ → ℕ → AdvanceProof
+advance_of hash alhs inners a e size =
+    if nat_le e (a + 1) then record { terms = []; inclusions = [] }
+    else record { terms = linear_terms alhs inners (a + 1) e; inclusions = paths_from hash (take size alhs) a (e - a - 1) }
+
+-- the dual proof from a source to a target. Where the source is below the end of the target's tree the
+-- chain goes from that end to the target, and the advance from the source's tree to the source; else the
+-- chain goes from the source to the target, and the advance to the end of the tree.
+unfoldable pub dual_of : Hash → Header → Header → List (List ℕ) → List (List ℕ) → DualProof
+dual_of hash source target alhs inners =
+    let s = source.id in
+    let old = source.bl_tx_id in
+    let size = target.bl_tx_id in
+    let leaves = take size alhs in
+    record {
+      source = source;
+      target = target;
+      inclusion = if nat_lt s size then path_of hash leaves (s - 1) else [];
+      consistency = if nat_eq old 0 then [] else consistency hash leaves old;
+      target_bl_tx_alh = if nat_eq size 0 then no_digest else slice_index_or alhs (size - 1) [];
+      last_inclusion = if nat_eq size 0 then [] else path_of hash leaves (size - 1);
+      linear = if nat_lt s size then linear_terms alhs inners size target.id else linear_terms alhs inners s target.id;
+      linear_advance = if nat_lt s size then advance_of hash alhs inners old s size else advance_of hash alhs inners old size size;
+    }
+
+-- a header that this store makes, of a transaction of those with these Alh
+pub record IsRecorded (hash : Hash) (alhs : List (List ℕ)) (header : Header) : Type 0 where
+  pub checked : first_fail (header_checks header) ≡ Ok tt
+  pub within : header.id ≤ length alhs
+  pub same : alh hash header ≡ slice_index_or alhs (header.id - 1) []
+  pub tree : header.bl_root ≡ bl_root_of hash alhs header.bl_tx_id
