@@ -3,7 +3,6 @@ use Rattle.std.proofs.Common.{◌≡◌, ◌≢◌, ◌<◌, ◌≤◌, ℕ, suc
 use Rattle.std.specs.Prelude.{nat_eq, bytes_eq}
 use Rattle.std.proofs.lemmas.Bool.{cases_lt, cases_eq, eq-eqb, ne_eqb, lt-ltb, le-ltb}
 use Rattle.std.proofs.lemmas.List.{length-take-le, length-reverse, reverse-reverse, drop-take, get_or-take}
-use Rattle.std.proofs.lemmas.Slice.Eq.{bytes_eq-Decides}
 use Rattle.im_digest.specs.Digests.{Hash}
 use Rattle.im_model.specs.Trees.{node, split_of, root}
 use Rattle.im_model.specs.Paths.{path_length, up}
@@ -19,6 +18,7 @@ use Rattle.im_proof.specs.Built.{path_of, growth_first, growth_rest, consistency
 use Rattle.im_proof.specs.TreeChecks.{inclusion_checks, consistency_checks, last_checks, bl_checks}
 use Rattle.im_proof.specs.declared.faults.DualFault.{DualFault}
 use Rattle.im_proof.specs.declared.faults.DualFault.TheVariants.{InclusionLength, InclusionRoot, ConsistencyLength, ConsistencyOld, ConsistencyNew, LastLength, LastRoot, BlAlh}
+use Rattle.im_proof.proofs.HoldLemmas.{bytes-same, one-holds, two-hold, three-hold, when-true, when-false}
 use Rattle.im_atree.proofs.GrowLemmas.{less}
 use Rattle.im_atree.proofs.BuiltLemmas.{Steps, low-steps, high-steps, whole-list, list_whole, list_grown}
 
@@ -157,21 +157,6 @@ leads-in hash alhs m n o l w =
     let P : ℕ → List (List ℕ) → Type 0 = λ j xs. (older_root hash m j (root hash xs) list ≡ root hash xs) × (newer_root hash m j (root hash xs) list ≡ root hash leaves) in
     subst (λ j. P j (take m alhs)) long (subst (λ xs. P (length leaves) xs) front (g.old, g.new))
 
--- equal octets are found equal
-pub bytes-same : (a b : List ℕ) → a ≡ b → bytes_eq a b ≡ true
-bytes-same a b e = grind (arith, bytes_eq-Decides a b, e)
-
--- checks that hold leave no fault
-pub two-hold : {F : Type 0} → (a b : Bool) (f g : F) → a ≡ true → b ≡ true → first_fail ((a, f) ∷ (b, g) ∷ []) ≡ Ok tt
-two-hold a b f g p q =
-    ap (λ x. first_fail ((x, f) ∷ (b, g) ∷ [])) p ∙ ap (λ x. first_fail ((x, g) ∷ [])) q
-
-pub three-hold : {F : Type 0} → (a b c : Bool) (f g h : F) → a ≡ true → b ≡ true → c ≡ true → first_fail ((a, f) ∷ (b, g) ∷ (c, h) ∷ []) ≡ Ok tt
-three-hold a b c f g h p q r =
-    ap (λ x. first_fail ((x, f) ∷ (b, g) ∷ (c, h) ∷ [])) p
-    ∙ ap (λ x. first_fail ((x, g) ∷ (c, h) ∷ [])) q
-    ∙ ap (λ x. first_fail ((x, h) ∷ [])) r
-
 -- a built consistency list passes its check
 pub list_passes : (hash : Hash) (alhs : List (List ℕ)) (m n : ℕ) (list : List (List ℕ)) → 1 ≤ m → m ≤ n → n ≤ length alhs → list ≡ consistency hash (take n alhs) m
     → first_fail (consistency_checks hash m n (root hash (take m alhs)) (root hash (take n alhs)) list) ≡ Ok tt
@@ -207,18 +192,6 @@ list_passes hash alhs m n list o l w built =
           ∙ ap (λ t. first_fail ((nat_eq (length list) 0, ConsistencyLength 0 (length list)) ∷ (if t then (bytes_eq a b, ConsistencyNew b a) ∷ [] else []))) some
           ∙ two-hold _ _ _ _ (eq-eqb (length list) 0 none) (bytes-same a b (ap (λ j. root hash (take j alhs)) same)))
     ]
-
--- where one of two lists of checks is due, and holds
-pub when-true : {F : Type 0} → (b : Bool) (x y : List (Check F)) → b ≡ true → first_fail x ≡ Ok tt → first_fail (if b then x else y) ≡ Ok tt
-when-true b x y e h = ap (λ t. first_fail (if t then x else y)) e ∙ h
-
--- and where the other is
-pub when-false : {F : Type 0} → (b : Bool) (x y : List (Check F)) → b ≡ false → first_fail y ≡ Ok tt → first_fail (if b then x else y) ≡ Ok tt
-when-false b x y e h = ap (λ t. first_fail (if t then x else y)) e ∙ h
-
--- one check that holds leaves no fault
-pub one-holds : {F : Type 0} → (a : Bool) (f : F) → a ≡ true → first_fail ((a, f) ∷ []) ≡ Ok tt
-one-holds a f p = ap (λ x. first_fail ((x, f) ∷ [])) p
 
 -- the path of leaf i in the tree of the first n has the exact length, and leads to the root
 pub path-in_front : (hash : Hash) (alhs : List (List ℕ)) (i n : ℕ) → i < n → n ≤ length alhs

@@ -2,13 +2,13 @@
 use Rattle.std.proofs.Common.{◌≡◌, ◌<◌, ◌≤◌, ℕ, suc, zero, ◌+◌, ◌-◌, Bool, true, List, [], ◌∷◌, length, take, drop, get_or, drop-cons, length-drop, refl, arith, ap, ◌∙◌, sym, Ok}
 use Rattle.std.proofs.lemmas.Bool.{eq-eqb}
 use Rattle.std.proofs.lemmas.List.{length-take-le}
-use Rattle.std.proofs.lemmas.Slice.Eq.{bytes_eq-Decides}
 use Rattle.std.specs.Prelude.{nat_eq, bytes_eq}
 use Rattle.im_digest.specs.Digests.{Hash}
 use Rattle.im_model.specs.Chains.{link_string, chain}
 use Rattle.im_mtree.specs.Checks.{first_fail}
 use Rattle.im_proof.specs.Built.{linear_terms, AreLinked}
 use Rattle.im_proof.specs.ChainChecks.{linear_checks}
+use Rattle.im_proof.proofs.HoldLemmas.{bytes-same, three-hold}
 
 -- a chain from the Alh at place i along the next j inner digests
 pub chain-linked : (hash : Hash) (alhs inners : List (List ℕ)) → AreLinked hash alhs inners → (j i : ℕ) → i + j < length alhs → i + j < length inners
@@ -25,15 +25,6 @@ chain-linked hash alhs inners linked (suc j) i p q =
     ∙ ap (λ a. chain hash a (i + 1 + 1) (take j (drop (i + 1 + 1) inners))) (sym (linked (i + 1) (omega arith) (omega arith)))
     ∙ chain-linked hash alhs inners linked j (i + 1) (omega arith) (omega arith)
     ∙ ap (λ x. get_or alhs x []) far
-
-three-hold : {F : Type 0} → (a b c : Bool) (f g h : F) → a ≡ true → b ≡ true → c ≡ true → first_fail ((a, f) ∷ (b, g) ∷ (c, h) ∷ []) ≡ Ok tt
-three-hold a b c f g h p q r =
-    ap (λ x. first_fail ((x, f) ∷ (b, g) ∷ (c, h) ∷ [])) p
-    ∙ ap (λ x. first_fail ((x, g) ∷ (c, h) ∷ [])) q
-    ∙ ap (λ x. first_fail ((x, h) ∷ [])) r
-
-bytes-same : (a b : List ℕ) → a ≡ b → bytes_eq a b ≡ true
-bytes-same a b e = grind (arith, bytes_eq-Decides a b, e)
 
 -- linear terms of linked lists pass their check
 pub linear_passes : (alhs inners : List (List ℕ)) (s t : ℕ) → 1 ≤ s → s ≤ t → t ≤ length alhs → t ≤ length inners → (terms : List (List ℕ)) → terms ≡ linear_terms alhs inners s t

@@ -20,18 +20,9 @@ use Rattle.im_proof.specs.declared.proofs.AdvanceProof.{AdvanceProof}
 use Rattle.im_proof.specs.declared.proofs.DualProof.{DualProof}
 use Rattle.im_proof.specs.declared.faults.DualFault.{DualFault}
 use Rattle.im_proof.specs.declared.faults.DualFault.TheVariants.{Source, Target, Order, Shrink, AdvanceLength, AdvanceCount, AdvanceEnd}
-use Rattle.im_proof.proofs.CheckLemmas.{fail_append}
+use Rattle.im_proof.proofs.HoldLemmas.{bytes-same, one-holds, two-hold, two-then, both-hold, when-true, when-false}
 use Rattle.im_chain.proofs.LinearLemmas.{chain-linked, linear_passes}
-use Rattle.im_atree.proofs.PassLemmas.{bytes-same, two-hold, one-holds, when-true, when-false, not-none, path-in_front, inclusion-passes, consistency-passes, last-passes, bl-passes}
-
--- two lists of checks that hold
-both-hold : {F : Type 0} → (a b : List (Check F)) → first_fail a ≡ Ok tt → first_fail b ≡ Ok tt → first_fail (a ++ b) ≡ Ok tt
-both-hold a b p q = fail_append a b p ∙ q
-
--- two checks that hold, and others
-two-then : {F : Type 0} → (a b : Bool) (f g : F) (rest : List (Check F)) → a ≡ true → b ≡ true → first_fail rest ≡ Ok tt → first_fail ((a, f) ∷ (b, g) ∷ rest) ≡ Ok tt
-two-then a b f g rest p q h =
-    ap (λ x. first_fail ((x, f) ∷ (b, g) ∷ rest)) p ∙ ap (λ x. first_fail ((x, g) ∷ rest)) q ∙ h
+use Rattle.im_atree.proofs.PassLemmas.{not-none, path-in_front, inclusion-passes, consistency-passes, last-passes, bl-passes}
 
 named-step : {F G : Type 0} → (name : F → G) (holds : Bool) (f : F) (r : Result (Unit {0}) F) (s : Result (Unit {0}) G) → (r ≡ Ok tt → s ≡ Ok tt)
     → (if holds then r else Err f) ≡ Ok tt → (if holds then s else Err (name f)) ≡ Ok tt

@@ -6,5 +6,6 @@ mod advance;
 pub mod build;
 pub mod check;
 pub mod headers;
+pub mod laws;
 #[cfg(test)]
 mod tests;

@@ -1,12 +1,13 @@
 -- What a proof holds that is built from a history's Alh and inner digests, each list with that of
 -- transaction k at place k - 1.
-use Rattle.std.specs.Prelude.{◌≡◌, ℕ, suc, zero, ◌<◌, ◌≤◌, ◌+◌, ◌-◌, ◌==◌, List, [], ◌∷◌, length, take, drop, reverse, slice_index_or, nat_eq, nat_le, nat_lt, if◌then◌else◌, Ok}
+use Rattle.std.specs.Prelude.{◌≡◌, ℕ, suc, zero, ◌<◌, ◌≤◌, ◌+◌, ◌-◌, ◌==◌, List, [], ◌∷◌, ◌++◌, length, take, drop, reverse, slice_index_or, nat_eq, nat_le, nat_lt, if◌then◌else◌, Ok}
 use Rattle.im_digest.specs.Digests.{Hash}
 use Rattle.im_model.specs.Trees.{split_of, root}
 use Rattle.im_model.specs.Chains.{link_string}
-use Rattle.im_model.specs.History.{no_digest, bl_root_of}
-use Rattle.im_model.specs.Headers.{alh}
+use Rattle.im_model.specs.History.{no_digest, bl_root_of, next_header}
+use Rattle.im_model.specs.Headers.{inner, alh}
 use Rattle.im_model.specs.declared.headers.Header.{Header}
+use Rattle.im_model.specs.declared.transactions.Transaction.{Transaction}
 use Rattle.im_mtree.specs.Checks.{first_fail}
 use Rattle.im_mtree.specs.Inclusion.{inclusion}
 use Rattle.im_proof.specs.HeaderChecks.{header_checks}
@@ -95,3 +96,13 @@ pub record IsRecorded (hash : Hash) (alhs : List (List ℕ)) (header : Header) :
   pub within : header.id ≤ length alhs
   pub same : alh hash header ≡ slice_index_or alhs (header.id - 1) []
   pub tree : header.bl_root ≡ bl_root_of hash alhs header.bl_tx_id
+
+-- the inner digests of the transactions that follow those with these Alh
+abbrev pub inners_from : Hash → List (List ℕ) → List Transaction → List (List ℕ)
+inners_from hash alhs [] = []
+inners_from hash alhs (tx ∷ txs) =
+    inner hash (next_header hash alhs tx) ∷ inners_from hash (alhs ++ alh hash (next_header hash alhs tx) ∷ []) txs
+
+-- the inner digest of each transaction of a history, in order
+abbrev pub inners_of : Hash → List Transaction → List (List ℕ)
+inners_of hash history = inners_from hash [] history
