@@ -1,13 +1,11 @@
 -- The consistency list that a tree's leaves give: its steps, its length, and the roots that it gives.
-use Rattle.std.proofs.Common.{◌≡◌, ◌≢◌, ◌<◌, ◌≤◌, ℕ, suc, zero, ◌+◌, ◌-◌, ◌==◌, List, [], ◌∷◌, ◌++◌, length, take, drop, reverse, refl, arith, ap, subst, ◌∙◌, sym, nat_le, if◌then◌else◌, inl, inr, length-drop, take-take, take_all}
+use Rattle.std.proofs.Common.{◌≡◌, ◌≢◌, ◌<◌, ◌≤◌, ℕ, suc, zero, ◌-◌, List, [], ◌∷◌, ◌++◌, length, take, drop, reverse, arith, ap, subst, ◌∙◌, sym, nat_le, if◌then◌else◌, inl, inr, length-drop}
 use Rattle.std.proofs.lemmas.Bool.{cases_lt, cases_eq, le-leb, lt-leb, eq-eqb, ne_eqb}
 use Rattle.std.proofs.lemmas.List.{append-nil, length-take-le, reverse-append}
 use Rattle.im_digest.specs.Digests.{Hash}
-use Rattle.im_model.specs.Trees.{node, split_of, root}
-use Rattle.im_model.specs.Growth.{IsGrowth, IsConsistency, older, newer, older_root, newer_root, consistency_length}
-use Rattle.im_model.proofs.TreeLemmas.{split-within, split-same, root-split}
-use Rattle.im_model.proofs.Lengths.{consistency-fits}
-use Rattle.im_model.proofs.Steps.{older-first, newer-first, older-left, older-right, newer-left, newer-right}
+use Rattle.im_model.specs.Trees.{split_of, root}
+use Rattle.im_model.specs.Growth.{older}
+use Rattle.im_model.proofs.TreeLemmas.{split-within}
 use Rattle.im_proof.specs.Built.{growth_first_within, growth_rest_within, growth_first, growth_rest, consistency}
 use Rattle.im_atree.proofs.GrowLemmas.{differ, less}
 

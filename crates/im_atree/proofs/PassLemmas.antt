@@ -1,5 +1,5 @@
 -- What is built of a tree's leaves passes its checks.
-use Rattle.std.proofs.Common.{◌≡◌, ◌≢◌, ◌<◌, ◌≤◌, ℕ, suc, zero, ◌+◌, ◌-◌, Bool, true, false, List, [], ◌∷◌, length, take, drop, reverse, refl, arith, ap, subst, ◌∙◌, sym, nat_lt, if◌then◌else◌, inl, inr, get_or, length-drop, take-take, take_all, Ok, ◌&&◌}
+use Rattle.std.proofs.Common.{◌≡◌, ◌<◌, ◌≤◌, ℕ, suc, zero, ◌+◌, ◌-◌, true, false, List, [], ◌∷◌, length, take, drop, reverse, refl, arith, ap, subst, ◌∙◌, sym, nat_lt, if◌then◌else◌, inl, inr, get_or, length-drop, take-take, take_all, Ok, ◌&&◌}
 use Rattle.std.specs.Prelude.{nat_eq, bytes_eq}
 use Rattle.std.proofs.lemmas.Bool.{cases_lt, cases_eq, eq-eqb, ne_eqb, lt-ltb, le-ltb}
 use Rattle.std.proofs.lemmas.List.{length-take-le, length-reverse, reverse-reverse, drop-take, get_or-take}
@@ -11,13 +11,12 @@ use Rattle.im_model.specs.History.{no_digest}
 use Rattle.im_model.proofs.TreeLemmas.{split-within, split-same, root-split}
 use Rattle.im_model.proofs.Lengths.{consistency-fits}
 use Rattle.im_model.proofs.Steps.{older-first, newer-first, older-left, older-right, newer-left, newer-right}
-use Rattle.im_mtree.specs.Checks.{Check, first_fail}
+use Rattle.im_mtree.specs.Checks.{first_fail}
 use Rattle.im_mtree.specs.Inclusion.{inclusion}
 use Rattle.im_mtree.proofs.InclusionLemmas.{inclusion-exact, inclusion-leads}
 use Rattle.im_proof.specs.Built.{path_of, growth_first, growth_rest, consistency}
 use Rattle.im_proof.specs.TreeChecks.{inclusion_checks, consistency_checks, last_checks, bl_checks}
-use Rattle.im_proof.specs.declared.faults.DualFault.{DualFault}
-use Rattle.im_proof.specs.declared.faults.DualFault.TheVariants.{InclusionLength, InclusionRoot, ConsistencyLength, ConsistencyOld, ConsistencyNew, LastLength, LastRoot, BlAlh}
+use Rattle.im_proof.specs.declared.faults.DualFault.TheVariants.{ConsistencyLength, ConsistencyOld, ConsistencyNew, BlAlh}
 use Rattle.im_proof.proofs.HoldLemmas.{bytes-same, one-holds, two-hold, three-hold, when-true, when-false}
 use Rattle.im_atree.proofs.GrowLemmas.{less}
 use Rattle.im_atree.proofs.BuiltLemmas.{Steps, low-steps, high-steps, whole-list, list_whole, list_grown}

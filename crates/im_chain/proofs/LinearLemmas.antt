@@ -1,8 +1,7 @@
 -- The chain over what is built of a history.
-use Rattle.std.proofs.Common.{◌≡◌, ◌<◌, ◌≤◌, ℕ, suc, zero, ◌+◌, ◌-◌, Bool, true, List, [], ◌∷◌, length, take, drop, get_or, drop-cons, length-drop, refl, arith, ap, ◌∙◌, sym, Ok}
+use Rattle.std.proofs.Common.{◌≡◌, ◌<◌, ◌≤◌, ℕ, suc, zero, ◌+◌, ◌-◌, List, [], length, take, drop, get_or, drop-cons, length-drop, refl, arith, ap, ◌∙◌, sym, Ok}
 use Rattle.std.proofs.lemmas.Bool.{eq-eqb}
 use Rattle.std.proofs.lemmas.List.{length-take-le}
-use Rattle.std.specs.Prelude.{nat_eq, bytes_eq}
 use Rattle.im_digest.specs.Digests.{Hash}
 use Rattle.im_model.specs.Chains.{link_string, chain}
 use Rattle.im_mtree.specs.Checks.{first_fail}

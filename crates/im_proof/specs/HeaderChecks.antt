@@ -1,5 +1,5 @@
 -- What is checked of a header, in this order.
-use Rattle.std.specs.Prelude.{ℕ, ◌&&◌, List, [], ◌∷◌, nat_eq, nat_le, nat_lt, if◌then◌else◌}
+use Rattle.std.specs.Prelude.{◌&&◌, List, [], ◌∷◌, nat_eq, nat_le, nat_lt, if◌then◌else◌}
 use Rattle.im_model.specs.declared.headers.Header.{Header}
 use Rattle.im_mtree.specs.Checks.{Check}
 use Rattle.im_proof.specs.declared.faults.HeaderFault.{HeaderFault}

@@ -1,6 +1,6 @@
 -- What is checked of a dual proof's paths and consistency list, each in this order. A list that isn't due
 -- is empty.
-use Rattle.std.specs.Prelude.{ℕ, ◌-◌, ◌&&◌, List, [], ◌∷◌, ◌++◌, length, reverse, nat_eq, nat_lt, bytes_eq, if◌then◌else◌}
+use Rattle.std.specs.Prelude.{ℕ, ◌-◌, ◌&&◌, List, [], ◌∷◌, length, reverse, nat_eq, nat_lt, bytes_eq, if◌then◌else◌}
 use Rattle.im_digest.specs.Digests.{Hash}
 use Rattle.im_model.specs.Paths.{path_length, up}
 use Rattle.im_model.specs.Growth.{consistency_length, older_root, newer_root}

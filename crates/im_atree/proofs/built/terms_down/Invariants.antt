@@ -1,4 +1,4 @@
-use Rattle.std.proofs.Common.{◌≡◌, ◌<◌, ◌≤◌, ◌-◌, ◌++◌, length}
+use Rattle.std.proofs.Common.{◌≡◌, ◌<◌, ◌≤◌, ◌++◌, length}
 use Rattle.im_proof.specs.Built.{growth_first, growth_rest}
 use Rattle.im_atree.proofs.built.terms_down.Given as goal
 
