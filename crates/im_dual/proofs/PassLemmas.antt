@@ -1,19 +1,19 @@
 -- What is built of a history passes its check.
-use Rattle.std.proofs.Common.{◌≡◌, ◌<◌, ◌≤◌, ℕ, suc, zero, ◌+◌, ◌-◌, Bool, true, false, List, [], ◌∷◌, ◌++◌, length, take, drop, reverse, refl, arith, ap, subst, ◌∙◌, sym, nat_lt, nat_le, if◌then◌else◌, inl, inr, get_or, drop-cons, length-drop, Ok, Err, Result, ◌&&◌}
-use Rattle.std.specs.Prelude.{nat_eq, bytes_eq, map}
-use Rattle.std.proofs.lemmas.Bool.{cases_lt, cases_eq, eq-eqb, ne_eqb, lt-ltb, le-ltb, le-leb, lt-leb}
+use Rattle.std.proofs.Common.{◌≡◌, ◌<◌, ◌≤◌, ℕ, suc, zero, ◌+◌, ◌-◌, Bool, true, false, List, [], ◌∷◌, ◌++◌, length, take, drop, reverse, refl, arith, ap, subst, ◌∙◌, sym, nat_lt, nat_le, if◌then◌else◌, inl, inr, get_or, drop-cons, length-drop, Ok, Err, Result}
+use Rattle.std.specs.Prelude.{nat_eq, bytes_eq}
+use Rattle.std.proofs.lemmas.Bool.{cases_lt, eq-eqb, lt-ltb, le-ltb, le-leb, lt-leb}
 use Rattle.std.proofs.lemmas.List.{length-take-le}
 use Rattle.im_digest.specs.Digests.{Hash}
 use Rattle.im_model.specs.Trees.{root}
 use Rattle.im_model.specs.Paths.{path_length, up}
 use Rattle.im_model.specs.Chains.{link_string, chain}
 use Rattle.im_model.specs.Headers.{alh}
-use Rattle.im_model.specs.History.{no_digest, bl_root_of}
+use Rattle.im_model.specs.History.{no_digest}
 use Rattle.im_model.specs.declared.headers.Header.{Header}
 use Rattle.im_mtree.specs.Checks.{Check, first_fail}
 use Rattle.im_proof.specs.HeaderChecks.{header_checks}
 use Rattle.im_proof.specs.TreeChecks.{inclusion_checks, consistency_checks, last_checks, bl_checks}
-use Rattle.im_proof.specs.ChainChecks.{linear_checks, advance_checks, advance_terms, advance_paths, path_checks_of, path_checks_from, first_of, end_of}
+use Rattle.im_proof.specs.ChainChecks.{linear_checks, advance_checks, advance_terms, advance_paths, path_checks_of, path_checks_from}
 use Rattle.im_proof.specs.Duals.{as_faults, order_checks, both_headers_checks, tree_checks, chain_checks, dual_checks}
 use Rattle.im_proof.specs.Built.{linear_terms, AreLinked, path_of, paths_from, consistency, advance_of, dual_of, IsRecorded}
 use Rattle.im_proof.specs.declared.proofs.AdvanceProof.{AdvanceProof}

@@ -15,7 +15,6 @@ use Rattle.im_mtree.specs.Checks.{first_fail}
 use Rattle.im_proof.specs.HeaderChecks.{header_checks}
 use Rattle.im_proof.specs.Duals.{dual_checks}
 use Rattle.im_proof.specs.Built.{inners_from, inners_of, dual_of, AreLinked, IsRecorded}
-use Rattle.im_proof.specs.declared.faults.HeaderFault.{HeaderFault}
 use Rattle.im_proof.specs.declared.faults.HeaderFault.TheVariants.{Version, Entries, Tree}
 use Rattle.im_proof.proofs.HoldLemmas.{three-hold}
 use Rattle.im_dual.proofs.PassLemmas.{dual_passes}

@@ -1,4 +1,4 @@
-ghost use Rattle.std.specs.Prelude.{◌<◌, ◌≤◌};
+ghost use Rattle.std.specs.Prelude.{◌≡◌, ◌<◌, ◌≤◌};
 
 use crate::build::build;
 use crate::check::check;
@@ -88,13 +88,16 @@ fn source_of_another_version(rt: HostRuntime) -> Result<(), Fail> {
     Ok(())
 }
 
-// A header of a history of four transactions with one entry each, of which the fourth has a tree of two.
-fn header_of_four(alloc: Global, id: u64, prev_alh: D32, eh: D32) -> Header {
+// A header of a history of four transactions with one entry each, with a tree of the first `bl`, 0 or 2.
+fn header_of_four(alloc: Global, id: u64, bl: u64, prev_alh: D32, eh: D32) -> Header
+    ensures id { result.id ≡ id }
+    ensures tree { result.bl_tx_id ≡ bl }
+{
     Header {
         id,
         ts: 0,
-        bl_tx_id: if id == 4 { 2 } else { 0 },
-        bl_root: if id == 4 { digest(0xe3) } else { [0; 32] },
+        bl_tx_id: bl,
+        bl_root: if bl == 0 { [0; 32] } else { digest(0xe3) },
         prev_alh,
         version: 1,
         md: Metadata::new(Octets::from_vec(Vec::new(alloc))),
@@ -110,8 +113,8 @@ fn proof_to_four(alloc: Global, id: u64, prev_alh: D32, eh: D32) -> Result<DualP
 {
     let alhs = [digest(0xa0), digest(0x42), digest(0xe6), digest(0x71)];
     let inners = [digest(0x9f), digest(0xa0), digest(0xa1), digest(0x87)];
-    let source = header_of_four(alloc, id, prev_alh, eh);
-    let target = header_of_four(alloc, 4, digest(0xe6), digest(0xa0));
+    let source = header_of_four(alloc, id, 0, prev_alh, eh);
+    let target = header_of_four(alloc, 4, 2, digest(0xe6), digest(0xa0));
     build(alloc, &Sum, source, target, &alhs, &inners)
 }
 
