@@ -5,7 +5,7 @@ pub mod digests;
 pub mod faults;
 pub mod laws;
 pub mod paths;
-mod places;
+pub mod places;
 pub mod roots;
 #[cfg(test)]
 mod tests;

@@ -33,8 +33,8 @@ pub fn path<H: Hash32>(
     Ok(turned(terms_down(alloc, hash, digests, i)?))
 }
 
-// The terms in the other order.
-fn turned(mut terms: Vec<D32>) -> Digests
+/// The terms in the other order. It takes no memory.
+pub fn turned(mut terms: Vec<D32>) -> Digests
     ensures { result ≡ reverse terms.items }
 {
     terms.as_mut_slice().reverse();
@@ -118,20 +118,20 @@ pub fn check_path<H: Hash32>(
     if i >= width {
         return Err(PathFault::Index { width, got: i });
     }
-    let want = terms_of(i, width);
+    let want = terms_of(u64::from(i), u64::from(width));
     let got = path.len() as u64;
     if got != want {
         return Err(PathFault::Length { want, got });
     }
-    let got = root_by_path(hash, digest, i, width, path);
+    let got = root_by_path(hash, digest, u64::from(i), u64::from(width), path);
     if got != *root {
         return Err(PathFault::Root { want: *root, got });
     }
     Ok(())
 }
 
-// The number of terms of a path of leaf i.
-fn terms_of(i: u32, width: u32) -> u64
+/// The number of terms of a path of leaf i, from 0, of `width` leaves.
+pub fn terms_of(i: u64, width: u64) -> u64
     requires { i < width }
     ensures { result ≡ path_length width i }
 {
@@ -147,8 +147,9 @@ fn terms_of(i: u32, width: u32) -> u64
     count
 }
 
-// The root that a path of the exact length gives for leaf i.
-fn root_by_path<H: Hash32>(hash: &H, digest: &D32, i: u32, width: u32, path: &[D32]) -> D32
+/// The root that a path of the exact length, its terms from the leaf up, gives for the leaf of a digest,
+/// leaf i, from 0, of `width` leaves (RFC 9162, section 2.1.3.2). It takes no memory.
+pub fn root_by_path<H: Hash32>(hash: &H, digest: &D32, i: u64, width: u64, path: &[D32]) -> D32
     requires within { i < width }
     requires exact { length path.now ≡ path_length width i }
     ensures { result ≡ up (H.digest hash.now) width i digest.now (reverse path.now) }
@@ -179,8 +180,8 @@ fn climb<H: Hash32>(hash: &H, digest: &D32, mut place: Place, path: &[D32]) -> D
     digest
 }
 
-// The node of a digest and the term beside it.
-fn meet<H: Hash32>(hash: &H, left: bool, digest: &D32, term: &D32) -> D32
+/// The node of a digest and the term beside it.
+pub fn meet<H: Hash32>(hash: &H, left: bool, digest: &D32, term: &D32) -> D32
     ensures { result ≡ meet (H.digest hash.now) left digest.now term.now }
 {
     if left {

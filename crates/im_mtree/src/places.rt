@@ -4,8 +4,8 @@ ghost use Rattle.im_mtree.specs.Ways.{sides, Meets};
 /// A node on the way from a leaf to the root: its index on its level, and that of the level's last node.
 #[derive(Clone, Copy)]
 pub struct Place {
-    pub index: u32,
-    pub last: u32,
+    pub index: u64,
+    pub last: u64,
 }
 
 /// The lowest place from here up at which a term is met, or else the root: it passes over the levels on

@@ -1,0 +1,3 @@
+pub mod BuiltLemmas
+pub mod GrowLemmas
+pub mod PassLemmas

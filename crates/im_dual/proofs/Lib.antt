@@ -1,0 +1,3 @@
+pub mod AdvanceLemmas
+pub mod PassLemmas
+pub mod RecordLemmas

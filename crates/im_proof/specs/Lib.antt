@@ -1,0 +1,5 @@
+pub mod HeaderChecks
+pub mod TreeChecks
+pub mod ChainChecks
+pub mod Duals
+pub mod Built
