@@ -1,0 +1,4 @@
+pub mod Fields
+pub mod Gives
+pub mod Lines
+pub mod Messages
