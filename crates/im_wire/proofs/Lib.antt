@@ -1,3 +1,7 @@
+pub mod FieldAgain
 pub mod LineLemmas
 pub mod Loops
+pub mod MessageAgain
+pub mod ReadAgain
+pub mod RecordAgain
 pub mod TokenLemmas

@@ -11,8 +11,12 @@ use Rattle.im_model.specs.declared.entries.Entry.{Entry}
 use Rattle.im_proof.specs.declared.proofs.AdvanceProof.{AdvanceProof}
 use Rattle.im_proof.specs.declared.proofs.DualProof.{DualProof}
 use Rattle.im_wire.specs.declared.messages.Message.TheVariants.{State, Dual, Advance, Item}
-use Rattle.im_wire.specs.Texts.{digests_data, digest_lists_data, header_data, entry_data, advance_proof_data, dual_proof_data, anchor_data, message_data}
-use Rattle.im_wire.specs.Tokens.{tokens_of, field_tokens, header_front_tokens, header_middle_tokens, header_back_tokens, entry_tokens, dual_front_tokens, dual_back_tokens, item_tokens}
+use Rattle.im_wire.specs.Texts.{hex_data, number_data, digests_data, digest_lists_data, header_data, entry_data, advance_proof_data, dual_proof_data, anchor_data, message_data}
+use Rattle.im_wire.specs.Tokens.{tokens_of, field_tokens, header_front_tokens, header_middle_tokens, header_back_tokens, entry_tokens, dual_front_tokens, dual_middle_tokens, dual_back_tokens, item_tokens}
+
+-- what three parts add
+pub added3 : (o t1 t2 t3 a b c : List Token) → t1 ≡ o ++ a → t2 ≡ t1 ++ b → t3 ≡ t2 ++ c → t3 ≡ o ++ (a ++ (b ++ c))
+added3 o t1 t2 t3 a b c e1 e2 e3 = rw (e3, e2, e1) (simp append_assoc)
 
 -- what an object of one part adds
 pub joined1 : (o t0 t1 t2 a : List Token) (x y : Token) → t0 ≡ o ++ x ∷ [] → t1 ≡ t0 ++ a → t2 ≡ t1 ++ y ∷ []
@@ -45,10 +49,20 @@ pub advance_proof_parts : (a : AdvanceProof) → tokens_of (advance_proof_data a
 unfolding tokens_of field_tokens advance_proof_data
 advance_proof_parts a = refl
 
--- a dual proof's: each part's own brackets come before the next part
-pub dual_proof_parts : (p : DualProof) → tokens_of (dual_proof_data p) ≡ begin_object ∷ (dual_front_tokens p ++ (dual_back_tokens p ++ end_object ∷ []))
-unfolding tokens_of field_tokens dual_proof_data dual_front_tokens dual_back_tokens
-dual_proof_parts p = simp append_assoc
+eight : (x y : Token) (a b c d e f g h : List Token)
+    → x ∷ (a ++ (b ++ (c ++ (d ++ (e ++ (f ++ (g ++ (h ++ y ∷ [])))))))) ≡ x ∷ ((a ++ (b ++ c)) ++ ((d ++ e) ++ ((f ++ (g ++ h)) ++ y ∷ [])))
+eight x y a b c d e f g h = simp append_assoc
+
+-- a dual proof's
+pub dual_proof_parts : (p : DualProof) → tokens_of (dual_proof_data p)
+    ≡ begin_object ∷ (dual_front_tokens p ++ (dual_middle_tokens p ++ (dual_back_tokens p ++ end_object ∷ [])))
+unfolding tokens_of field_tokens dual_proof_data dual_front_tokens dual_middle_tokens dual_back_tokens
+dual_proof_parts p =
+    eight begin_object end_object
+    (field_tokens (codes "consistency") (digests_data p.consistency)) (field_tokens (codes "inclusion") (digests_data p.inclusion))
+    (field_tokens (codes "lastInclusion") (digests_data p.last_inclusion)) (field_tokens (codes "linear") (digests_data p.linear))
+    (field_tokens (codes "linearAdvance") (advance_proof_data p.linear_advance)) (field_tokens (codes "source") (header_data p.source))
+    (field_tokens (codes "target") (header_data p.target)) (field_tokens (codes "targetBlTxAlh") (hex_data p.target_bl_tx_alh))
 
 -- a state's
 pub state_parts : (h : Header) → tokens_of (message_data (State h))
@@ -69,11 +83,17 @@ pub advance_parts : (p : DualProof) (a : Option DualProof) → tokens_of (messag
 unfolding tokens_of field_tokens
 advance_parts p a = refl
 
+five : (x y : Token) (a b c d e : List Token) → x ∷ (a ++ (b ++ (c ++ (d ++ (e ++ y ∷ []))))) ≡ x ∷ (a ++ ((b ++ (c ++ d)) ++ (e ++ y ∷ [])))
+five x y a b c d e = simp append_assoc
+
 -- an item's
 pub item_parts : (p : DualProof) (e : Entry) (i : ℕ) (ds : List (List ℕ)) → tokens_of (message_data (Item p e i ds))
     ≡ begin_object ∷ (field_tokens (codes "dual") (dual_proof_data p) ++ (item_tokens e i ds ++ (field_tokens (codes "type") (string (codes "item")) ++ end_object ∷ [])))
 unfolding tokens_of field_tokens item_tokens
-item_parts p e i ds = simp append_assoc
+item_parts p e i ds =
+    five begin_object end_object
+    (field_tokens (codes "dual") (dual_proof_data p)) (field_tokens (codes "entry") (entry_data e)) (field_tokens (codes "index") (number_data i))
+    (field_tokens (codes "path") (digests_data ds)) (field_tokens (codes "type") (string (codes "item")))
 
 -- the text of the tokens of a value
 pub print_is : (d : Data) → print (tokens_of d) ≡ compact_text d

@@ -47,19 +47,22 @@ entry_tokens e =
     field_tokens (codes "key") (hex_data e.key)
     ++ (field_tokens (codes "md") (hex_data e.md) ++ field_tokens (codes "value") (hex_data e.value))
 
--- the first four members of a dual proof
+-- the first three members of a dual proof
 unfoldable pub dual_front_tokens : DualProof → List Token
 dual_front_tokens p =
     field_tokens (codes "consistency") (digests_data p.consistency)
-    ++ (field_tokens (codes "inclusion") (digests_data p.inclusion)
-    ++ (field_tokens (codes "lastInclusion") (digests_data p.last_inclusion) ++ field_tokens (codes "linear") (digests_data p.linear)))
+    ++ (field_tokens (codes "inclusion") (digests_data p.inclusion) ++ field_tokens (codes "lastInclusion") (digests_data p.last_inclusion))
 
--- the last four
+-- the next two
+unfoldable pub dual_middle_tokens : DualProof → List Token
+dual_middle_tokens p =
+    field_tokens (codes "linear") (digests_data p.linear) ++ field_tokens (codes "linearAdvance") (advance_proof_data p.linear_advance)
+
+-- the last three
 unfoldable pub dual_back_tokens : DualProof → List Token
 dual_back_tokens p =
-    field_tokens (codes "linearAdvance") (advance_proof_data p.linear_advance)
-    ++ (field_tokens (codes "source") (header_data p.source)
-    ++ (field_tokens (codes "target") (header_data p.target) ++ field_tokens (codes "targetBlTxAlh") (hex_data p.target_bl_tx_alh)))
+    field_tokens (codes "source") (header_data p.source)
+    ++ (field_tokens (codes "target") (header_data p.target) ++ field_tokens (codes "targetBlTxAlh") (hex_data p.target_bl_tx_alh))
 
 -- the members of an item that stand between its dual proof and its type
 unfoldable pub item_tokens : Entry → ℕ → List (List ℕ) → List Token

@@ -6,6 +6,7 @@ ghost use Rattle.im_wire.specs.Tokens.{tokens_of, field_tokens};
 
 use im_digest::D32;
 use im_mtree::digests::Digests;
+use im_proof::digest_lists::DigestLists;
 use json::Writer;
 use std::alloc::{AllocError, Global};
 
@@ -46,12 +47,12 @@ pub(crate) fn put_number_field(out: &mut Writer, name: &str, number: u64) -> Res
 
 // Adds a member that is a number with a sign.
 #[tactic(auto, unfolding(crate::specs::Tokens::tokens_of, crate::specs::Tokens::field_tokens))]
-pub(crate) fn put_signed_field(out: &mut Writer, name: &str, number: i64) -> Result<(), AllocError>
-    ensures ok { OnOk result (out.new.tokens ≡ out.old.tokens ++ field_tokens name.now (number (of_integer number))) }
+pub(crate) fn put_signed_field(out: &mut Writer, name: &str, count: i64) -> Result<(), AllocError>
+    ensures ok { OnOk result (out.new.tokens ≡ out.old.tokens ++ field_tokens name.now (number (of_integer count))) }
     ensures before { out.new.before ≡ out.old.before }
 {
     out.key(name)?;
-    out.i64(number)
+    out.i64(count)
 }
 
 // Adds a member that is a text.
@@ -83,13 +84,13 @@ pub(crate) fn put_digests_field(
     alloc: Global,
     out: &mut Writer,
     name: &str,
-    digests: &[D32],
+    digests: &Digests,
 ) -> Result<(), AllocError>
     ensures ok { OnOk result (out.new.tokens ≡ out.old.tokens ++ field_tokens name.now (digests_data digests.now)) }
     ensures before { out.new.before ≡ out.old.before }
 {
     out.key(name)?;
-    put_digests(alloc, out, digests)
+    put_digests(alloc, out, digests.as_slice())
 }
 
 // Adds an array of arrays of digests.
@@ -111,11 +112,11 @@ pub(crate) fn put_digest_lists_field(
     alloc: Global,
     out: &mut Writer,
     name: &str,
-    lists: &[Digests],
+    lists: &DigestLists,
 ) -> Result<(), AllocError>
     ensures ok { OnOk result (out.new.tokens ≡ out.old.tokens ++ field_tokens name.now (digest_lists_data lists.now)) }
     ensures before { out.new.before ≡ out.old.before }
 {
     out.key(name)?;
-    put_digest_lists(alloc, out, lists)
+    put_digest_lists(alloc, out, lists.as_slice())
 }

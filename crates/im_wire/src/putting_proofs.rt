@@ -1,6 +1,6 @@
 ghost use Rattle.std.specs.Prelude.{◌≡◌, ◌++◌, OnOk};
 ghost use Rattle.im_wire.specs.Texts.{advance_proof_data, dual_proof_data, anchor_data};
-ghost use Rattle.im_wire.specs.Tokens.{tokens_of, field_tokens, dual_front_tokens, dual_back_tokens};
+ghost use Rattle.im_wire.specs.Tokens.{tokens_of, field_tokens, dual_front_tokens, dual_middle_tokens, dual_back_tokens};
 
 use crate::putting::{put_digest_lists_field, put_digests_field, put_hex_field};
 use crate::putting_records::put_header_field;
@@ -18,8 +18,8 @@ fn put_advance_proof(
     ensures before { out.new.before ≡ out.old.before }
 {
     out.begin_object()?;
-    put_digest_lists_field(alloc, out, "inclusions", advance.inclusions.as_slice())?;
-    put_digests_field(alloc, out, "terms", advance.terms.as_slice())?;
+    put_digest_lists_field(alloc, out, "inclusions", &advance.inclusions)?;
+    put_digests_field(alloc, out, "terms", &advance.terms)?;
     out.end_object()?;
     Ok(())
 }
@@ -39,26 +39,35 @@ pub(crate) fn put_advance_proof_field(
     put_advance_proof(alloc, out, advance)
 }
 
-// Adds the first four members of a dual proof.
+// Adds the first three members of a dual proof.
 #[tactic(auto, unfolding(crate::specs::Tokens::dual_front_tokens))]
 fn put_dual_front(alloc: Global, out: &mut Writer, dual: &DualProof) -> Result<(), AllocError>
     ensures ok { OnOk result (out.new.tokens ≡ out.old.tokens ++ dual_front_tokens dual.now) }
     ensures before { out.new.before ≡ out.old.before }
 {
-    put_digests_field(alloc, out, "consistency", dual.consistency.as_slice())?;
-    put_digests_field(alloc, out, "inclusion", dual.inclusion.as_slice())?;
-    put_digests_field(alloc, out, "lastInclusion", dual.last_inclusion.as_slice())?;
-    put_digests_field(alloc, out, "linear", dual.linear.as_slice())?;
+    put_digests_field(alloc, out, "consistency", &dual.consistency)?;
+    put_digests_field(alloc, out, "inclusion", &dual.inclusion)?;
+    put_digests_field(alloc, out, "lastInclusion", &dual.last_inclusion)?;
     Ok(())
 }
 
-// Adds the last four members.
+// Adds the next two members.
+#[tactic(auto, unfolding(crate::specs::Tokens::dual_middle_tokens))]
+fn put_dual_middle(alloc: Global, out: &mut Writer, dual: &DualProof) -> Result<(), AllocError>
+    ensures ok { OnOk result (out.new.tokens ≡ out.old.tokens ++ dual_middle_tokens dual.now) }
+    ensures before { out.new.before ≡ out.old.before }
+{
+    put_digests_field(alloc, out, "linear", &dual.linear)?;
+    put_advance_proof_field(alloc, out, "linearAdvance", &dual.linear_advance)?;
+    Ok(())
+}
+
+// Adds the last three members.
 #[tactic(auto, unfolding(crate::specs::Tokens::dual_back_tokens))]
 fn put_dual_back(alloc: Global, out: &mut Writer, dual: &DualProof) -> Result<(), AllocError>
     ensures ok { OnOk result (out.new.tokens ≡ out.old.tokens ++ dual_back_tokens dual.now) }
     ensures before { out.new.before ≡ out.old.before }
 {
-    put_advance_proof_field(alloc, out, "linearAdvance", &dual.linear_advance)?;
     put_header_field(alloc, out, "source", &dual.source)?;
     put_header_field(alloc, out, "target", &dual.target)?;
     put_hex_field(
@@ -77,6 +86,7 @@ fn put_dual_proof(alloc: Global, out: &mut Writer, dual: &DualProof) -> Result<(
 {
     out.begin_object()?;
     put_dual_front(alloc, out, dual)?;
+    put_dual_middle(alloc, out, dual)?;
     put_dual_back(alloc, out, dual)?;
     out.end_object()?;
     Ok(())

@@ -9,9 +9,9 @@ use crate::messages::Message;
 use crate::putting::{put_digests_field, put_number_field, put_text_field};
 use crate::putting_proofs::{put_anchor_field, put_dual_proof_field};
 use crate::putting_records::{put_entry_field, put_header_field};
-use im_digest::D32;
 use im_model::entries::Entry;
 use im_model::headers::Header;
+use im_mtree::digests::Digests;
 use im_proof::proofs::DualProof;
 use json::Writer;
 use std::alloc::{AllocError, Global};
@@ -65,7 +65,7 @@ fn put_item_fields(
     out: &mut Writer,
     entry: &Entry,
     index: u32,
-    path: &[D32],
+    path: &Digests,
 ) -> Result<(), AllocError>
     ensures ok { OnOk result (out.new.tokens ≡ out.old.tokens ++ item_tokens entry.now index path.now) }
     ensures before { out.new.before ≡ out.old.before }
@@ -83,7 +83,7 @@ fn put_item(
     dual: &DualProof,
     entry: &Entry,
     index: u32,
-    path: &[D32],
+    path: &Digests,
 ) -> Result<(), AllocError>
     ensures ok { OnOk result (out.new.tokens ≡ out.old.tokens ++ tokens_of (message_data (Item dual.now entry.now index path.now))) }
     ensures before { out.new.before ≡ out.old.before }
@@ -110,7 +110,7 @@ fn put_message(alloc: Global, out: &mut Writer, message: &Message) -> Result<(),
             entry,
             index,
             path,
-        } => put_item(alloc, out, dual, entry, *index, path.as_slice()),
+        } => put_item(alloc, out, dual, entry, *index, path),
     }
 }
 
