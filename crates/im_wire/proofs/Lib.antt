@@ -1,4 +1,5 @@
 pub mod FieldAgain
+pub mod HeaderText
 pub mod LineLemmas
 pub mod Loops
 pub mod MessageAgain

@@ -75,7 +75,8 @@ line-refused line text shown none (Some m) h = none m (subst (λ (t : List ℕ).
 some-is : {A : Type 0} (x y : A) → Some x ≡ Some y → x ≡ y
 some-is x y e = cc
 
-message-unique : (text : List ℕ) (m n : Message) → HasMessage text m → HasMessage text n → m ≡ n
+-- a text says one message at most
+pub message-unique : (text : List ℕ) (m n : Message) → HasMessage text m → HasMessage text n → m ≡ n
 message-unique text m n h k =
     let same : h.1.0 ≡ k.1.0 = some-is h.1.0 k.1.0 (sym h.1.1 ∙ k.1.1) in
     some-is m n (sym h.1.2 ∙ ap (λ (d : Data). message_of d) same ∙ k.1.2)

@@ -82,9 +82,22 @@ advance_proof-plain a = (refl, (digest_lists-plain a.inclusions, (digests-plain 
 -- a dual proof is plain
 pub dual_proof-plain : (p : DualProof) → IsDualProof p → IsPlain (dual_proof_data p)
 unfolding dual_proof_data
-dual_proof-plain p fits =
-    (refl, (digests-plain p.consistency, (digests-plain p.inclusion, (digests-plain p.last_inclusion, (digests-plain p.linear,
-    (advance_proof-plain p.linear_advance, (header-plain p.source fits.source, (header-plain p.target fits.target, (tt, tt)))))))))
+dual_proof-plain p fits = (
+  refl,
+  (
+    digests-plain p.consistency,
+    (
+      digests-plain p.inclusion,
+      (
+        digests-plain p.last_inclusion,
+        (
+          digests-plain p.linear,
+          (advance_proof-plain p.linear_advance, (header-plain p.source fits.source, (header-plain p.target fits.target, (tt, tt)))),
+        ),
+      ),
+    ),
+  ),
+)
 
 -- an anchor is plain
 pub anchor-plain : (a : Option DualProof) → IsAnchor a → IsPlain (anchor_data a)

@@ -3,15 +3,8 @@
 #![tactic(auto)]
 
 pub mod errors;
-mod fields;
-mod fits;
 pub mod laws;
 pub mod lines;
 pub mod messages;
-mod putting;
-mod putting_proofs;
-mod putting_records;
 pub mod reading;
-mod records;
-mod values;
 pub mod writing;

@@ -5,10 +5,14 @@ ghost use Rattle.im_wire.specs.Gives.{Gives, Reads};
 ghost use Rattle.im_wire.specs.Fields.{field};
 ghost use Rattle.im_wire.specs.Messages.{state_of, dual_of, advance_of, item_of, message_as, message_of, HasMessage};
 
+mod fields;
+mod records;
+mod values;
+
 use crate::errors::WireError;
-use crate::fields::{digests_field, u32_field};
 use crate::messages::Message;
-use crate::records::{anchor_field, dual_proof_field, entry_field, header_field};
+use crate::reading::fields::{digests_field, u32_field};
+use crate::reading::records::{anchor_field, dual_proof_field, entry_field, header_field};
 use serde_json::Value;
 use std::alloc::Global;
 

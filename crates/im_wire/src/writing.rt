@@ -4,11 +4,17 @@ ghost use Rattle.im_wire.specs.Messages.{HasMessage};
 ghost use Rattle.im_wire.specs.Texts.{message_data, text};
 ghost use Rattle.im_wire.specs.Tokens.{tokens_of, item_tokens};
 
-use crate::fits::message_fits;
+use crate::writing::fits::message_fits;
+
+mod duals;
+mod fields;
+mod fits;
+mod records;
+
 use crate::messages::Message;
-use crate::putting::{put_digests_field, put_number_field, put_text_field};
-use crate::putting_proofs::{put_anchor_field, put_dual_proof_field};
-use crate::putting_records::{put_entry_field, put_header_field};
+use crate::writing::duals::{put_anchor_field, put_dual_proof_field};
+use crate::writing::fields::{put_digests_field, put_number_field, put_text_field};
+use crate::writing::records::{put_entry_field, put_header_field};
 use im_model::entries::Entry;
 use im_model::headers::Header;
 use im_mtree::digests::Digests;
