@@ -58,9 +58,9 @@ unfolding header_data header_front header_middle header_back escape_byte
 header-text h fits =
     rw (escape-hex h.bl_root fits.bl_root.bytes, escape-hex h.eh fits.eh.bytes, escape-hex h.md fits.md.bytes, escape-hex h.prev_alh fits.prev_alh.bytes, signed-text h.ts)
     (grouped (codes "\"") (codes "{\"blRoot\":\"") (codes ",\"blTxId\":") (codes ",\"eh\":\"") (codes ",\"id\":") (codes ",\"md\":\"") (codes ",\"nentries\":")
-      (codes ",\"prevAlh\":\"") (codes ",\"ts\":") (codes ",\"version\":") (codes "}")
-      (encode_lower h.bl_root) (decimal h.bl_tx_id) (encode_lower h.eh) (decimal h.id) (encode_lower h.md) (decimal h.nentries)
-      (encode_lower h.prev_alh) (signed_decimal h.ts) (decimal h.version))
+    (codes ",\"prevAlh\":\"") (codes ",\"ts\":") (codes ",\"version\":") (codes "}")
+    (encode_lower h.bl_root) (decimal h.bl_tx_id) (encode_lower h.eh) (decimal h.id) (encode_lower h.md) (decimal h.nentries)
+    (encode_lower h.prev_alh) (signed_decimal h.ts) (decimal h.version))
 
 -- the text of a state line
 pub state-text : (h : Header) → IsHeader h → text (State h) ≡ codes "{\"header\":" ++ header_text h ++ codes ",\"type\":\"state\"}"

@@ -7,4 +7,6 @@ pub mod laws;
 pub mod lines;
 pub mod messages;
 pub mod reading;
+#[cfg(test)]
+mod tests;
 pub mod writing;
