@@ -1,5 +1,5 @@
 -- A line is cut, and read, in one way.
-use Rattle.std.proofs.Common.{◌≡◌, ℕ, List, [], ◌∷◌, ◌++◌, Bool, true, false, Option, Some, None, Err, inl, inr, refl, sym, subst, ap, ◌∙◌}
+use Rattle.std.proofs.Common.{◌≡◌, ℕ, List, [], ◌∷◌, ◌++◌, true, Option, Some, None, Err, inl, inr, refl, sym, subst, ap, ◌∙◌}
 use Rattle.std.proofs.lemmas.Bool.{both_ways}
 use Rattle.std.specs.Char.{is_ascii_digit}
 use Rattle.serde_json.specs.Data.{Data}
@@ -8,7 +8,6 @@ use Rattle.im_wire.specs.declared.errors.WireError.{WireError}
 use Rattle.im_wire.specs.declared.errors.WireError.TheVariants.{Memory, Syntax}
 use Rattle.im_wire.specs.declared.messages.Message.{Message}
 use Rattle.im_cuts.specs.Cuts.{Lacks, IsCut}
-use Rattle.im_cuts.specs.Words.{is_word}
 use Rattle.im_cuts.proofs.CutLemmas.{Lacks-mark, cut-unique}
 use Rattle.im_cuts.proofs.WordLemmas.{Lacks-word}
 use Rattle.im_talk.specs.Fields.{is_session_octet, IsSession}

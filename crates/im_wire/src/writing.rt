@@ -4,8 +4,6 @@ ghost use Rattle.im_wire.specs.Messages.{HasMessage};
 ghost use Rattle.im_wire.specs.Texts.{message_data, text};
 ghost use Rattle.im_wire.specs.Tokens.{tokens_of, item_tokens};
 
-use crate::writing::fits::message_fits;
-
 mod duals;
 mod fields;
 mod fits;
@@ -14,6 +12,7 @@ mod records;
 use crate::messages::Message;
 use crate::writing::duals::{put_anchor_field, put_dual_proof_field};
 use crate::writing::fields::{put_digests_field, put_number_field, put_text_field};
+use crate::writing::fits::message_fits;
 use crate::writing::records::{put_entry_field, put_header_field};
 use im_model::entries::Entry;
 use im_model::headers::Header;
