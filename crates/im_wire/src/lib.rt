@@ -1,0 +1,12 @@
+//! Messages of proofs as lines of JSON (RFC 8259): read as whoever sent them wrote them, and written in
+//! one canonical text.
+#![tactic(auto)]
+
+pub mod errors;
+pub mod laws;
+pub mod lines;
+pub mod messages;
+pub mod reading;
+#[cfg(test)]
+mod tests;
+pub mod writing;

@@ -1,0 +1,158 @@
+ghost use Rattle.std.specs.Prelude.{◌≡◌};
+ghost use Rattle.serde_json.specs.View.{view};
+ghost use Rattle.im_wire.specs.Gives.{Gives};
+ghost use Rattle.im_wire.specs.Fields.{field};
+ghost use Rattle.im_wire.specs.Messages.{header_of, entry_of, advance_proof_of, dual_proof_of, anchor_of};
+
+use crate::errors::WireError;
+use crate::reading::fields::{
+    digest_field, digest_lists_field, digests_field, i64_field, octets_field, u16_field, u32_field,
+    u64_field,
+};
+use im_model::entries::Entry;
+use im_model::headers::Header;
+use im_proof::proofs::{AdvanceProof, DualProof};
+use serde_json::Value;
+use std::alloc::Global;
+
+// A header.
+#[tactic(auto, unfolding(crate::specs::Messages::header_of))]
+fn header_of(alloc: Global, value: &Value) -> Result<Header, WireError>
+    ensures { Gives result (header_of (view value.now)) }
+{
+    let bl_root = digest_field(value, "blRoot")?;
+    let bl_tx_id = u64_field(value, "blTxId")?;
+    let eh = digest_field(value, "eh")?;
+    let id = u64_field(value, "id")?;
+    let md = octets_field(alloc, value, "md")?;
+    let nentries = u32_field(value, "nentries")?;
+    let prev_alh = digest_field(value, "prevAlh")?;
+    let ts = i64_field(value, "ts")?;
+    let version = u16_field(value, "version")?;
+    Ok(Header {
+        id,
+        ts,
+        bl_tx_id,
+        bl_root,
+        prev_alh,
+        version,
+        md,
+        nentries,
+        eh,
+    })
+}
+
+// An entry within the limits.
+#[tactic(auto, unfolding(crate::specs::Messages::entry_of))]
+fn entry_of(alloc: Global, value: &Value) -> Result<Entry, WireError>
+    ensures { Gives result (entry_of (view value.now)) }
+{
+    let key = octets_field(alloc, value, "key")?;
+    let md = octets_field(alloc, value, "md")?;
+    let value = octets_field(alloc, value, "value")?;
+    Ok(Entry { md, key, value })
+}
+
+// A linear advance.
+#[tactic(auto, unfolding(crate::specs::Messages::advance_proof_of))]
+fn advance_proof_of(alloc: Global, value: &Value) -> Result<AdvanceProof, WireError>
+    ensures { Gives result (advance_proof_of (view value.now)) }
+{
+    let inclusions = digest_lists_field(alloc, value, "inclusions")?;
+    let terms = digests_field(alloc, value, "terms")?;
+    Ok(AdvanceProof { terms, inclusions })
+}
+
+// The member that is a header.
+pub(crate) fn header_field(alloc: Global, value: &Value, name: &str) -> Result<Header, WireError>
+    ensures { Gives result (field name.now header_of (view value.now)) }
+{
+    match value.get(name) {
+        Some(value) => header_of(alloc, value),
+        None => Err(WireError::Syntax),
+    }
+}
+
+// The member that is a linear advance.
+fn advance_proof_field(alloc: Global, value: &Value, name: &str) -> Result<AdvanceProof, WireError>
+    ensures { Gives result (field name.now advance_proof_of (view value.now)) }
+{
+    match value.get(name) {
+        Some(value) => advance_proof_of(alloc, value),
+        None => Err(WireError::Syntax),
+    }
+}
+
+// A dual proof.
+#[tactic(auto, unfolding(crate::specs::Messages::dual_proof_of))]
+fn dual_proof_of(alloc: Global, value: &Value) -> Result<DualProof, WireError>
+    ensures { Gives result (dual_proof_of (view value.now)) }
+{
+    let consistency = digests_field(alloc, value, "consistency")?;
+    let inclusion = digests_field(alloc, value, "inclusion")?;
+    let last_inclusion = digests_field(alloc, value, "lastInclusion")?;
+    let linear = digests_field(alloc, value, "linear")?;
+    let linear_advance = advance_proof_field(alloc, value, "linearAdvance")?;
+    let source = header_field(alloc, value, "source")?;
+    let target = header_field(alloc, value, "target")?;
+    let target_bl_tx_alh = digest_field(value, "targetBlTxAlh")?;
+    Ok(DualProof {
+        source,
+        target,
+        inclusion,
+        consistency,
+        target_bl_tx_alh,
+        last_inclusion,
+        linear,
+        linear_advance,
+    })
+}
+
+// The member that is a dual proof.
+pub(crate) fn dual_proof_field(
+    alloc: Global,
+    value: &Value,
+    name: &str,
+) -> Result<DualProof, WireError>
+    ensures { Gives result (field name.now dual_proof_of (view value.now)) }
+{
+    match value.get(name) {
+        Some(value) => dual_proof_of(alloc, value),
+        None => Err(WireError::Syntax),
+    }
+}
+
+// The member that is an entry.
+pub(crate) fn entry_field(alloc: Global, value: &Value, name: &str) -> Result<Entry, WireError>
+    ensures { Gives result (field name.now entry_of (view value.now)) }
+{
+    match value.get(name) {
+        Some(value) => entry_of(alloc, value),
+        None => Err(WireError::Syntax),
+    }
+}
+
+// An anchor, or none where the value is null.
+#[tactic(auto, unfolding(crate::specs::Messages::anchor_of))]
+fn anchor_of(alloc: Global, value: &Value) -> Result<Option<DualProof>, WireError>
+    ensures { Gives result (anchor_of (view value.now)) }
+{
+    if value.is_null() {
+        return Ok(None);
+    }
+    Ok(Some(dual_proof_of(alloc, value)?))
+}
+
+// The member that is an anchor or null.
+pub(crate) fn anchor_field(
+    alloc: Global,
+    value: &Value,
+    name: &str,
+) -> Result<Option<DualProof>, WireError>
+    ensures { Gives result (field name.now anchor_of (view value.now)) }
+{
+    match value.get(name) {
+        Some(value) => anchor_of(alloc, value),
+        None => Err(WireError::Syntax),
+    }
+}
