@@ -3,6 +3,8 @@
 #![tactic(auto)]
 
 mod advance;
+#[cfg(test)]
+mod attack;
 pub mod build;
 pub mod check;
 pub mod headers;

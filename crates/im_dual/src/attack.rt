@@ -1,0 +1,73 @@
+//! An operator that puts a false transaction into the tree, while the chain that its clients follow holds
+//! the true one. It is the attack that was published against immudb, and that the linear advance closes.
+
+use crate::build::build;
+use crate::check::check;
+use im_digest::{D32, Sum};
+use im_model::headers::Header;
+use im_model::limits::Metadata;
+use im_octet::octets::Octets;
+use im_proof::faults::DualFault;
+use im_proof::proofs::DualProof;
+use std::alloc::{AllocError, Global};
+use std::test::Fail;
+
+// 31 zero octets, and then this one.
+fn digest(last: u8) -> D32 {
+    let mut octets = [0u8; 32];
+    octets[31] = last;
+    octets
+}
+
+// The header of a transaction with one entry.
+fn header(alloc: Global, id: u64, bl_tx_id: u64, bl_root: D32, prev_alh: D32, eh: D32) -> Header {
+    Header {
+        id,
+        ts: 0,
+        bl_tx_id,
+        bl_root,
+        prev_alh,
+        version: 1,
+        md: Metadata::new(Octets::from_vec(Vec::new(alloc))),
+        nentries: 1,
+        eh,
+    }
+}
+
+// Under the sum of octets (in hex) the Alh of the transactions 1 to 3 are a0, 42 and e6, and their inner
+// digests 9f, a0 and a1. None has a tree. Transaction 4 has a tree of three, in which 43 stands in the place
+// of 42: its root is 1 + (1 + a0 + 43) + e6 = cb, its inner digest 1 + 1 + a0 + 3 + cb = 70, its Alh
+// 4 + e6 + 70 = 5a. The proof from 3 to 4 over that tree tells this inner digest of transaction 2.
+fn forged(alloc: Global, told: u8) -> Result<DualProof, AllocError> {
+    let alhs = [digest(0xa0), digest(0x43), digest(0xe6), digest(0x5a)];
+    let inners = [digest(0x9f), digest(told), digest(0xa1), digest(0x70)];
+    let source = header(alloc, 3, 0, [0; 32], digest(0x42), digest(0x9f));
+    let target = header(alloc, 4, 3, digest(0xcb), digest(0xe6), digest(0xa0));
+    build(alloc, &Sum, source, target, &alhs, &inners)
+}
+
+// The true inner digest leads to 42, whose path gives 1 + (1 + a0 + 42) + e6 = ca. The checks of headers,
+// paths and the chain come before, and pass.
+#[test]
+fn a_false_transaction_isnt_on_the_chain(rt: HostRuntime) -> Result<(), Fail> {
+    let proof = forged(rt.alloc(), 0xa0)?;
+    let fault = DualFault::AdvancePathRoot {
+        number: 2,
+        want: digest(0xcb),
+        got: digest(0xca),
+    };
+    assert!(rt; check(&Sum, &proof) == Err(fault));
+    Ok(())
+}
+
+// An inner digest of a1 leads to 43, which is in the tree, and then to 3 + 43 + a1 = e7.
+#[test]
+fn a_false_chain_ends_elsewhere(rt: HostRuntime) -> Result<(), Fail> {
+    let proof = forged(rt.alloc(), 0xa1)?;
+    let fault = DualFault::AdvanceEnd {
+        want: digest(0xe6),
+        got: digest(0xe7),
+    };
+    assert!(rt; check(&Sum, &proof) == Err(fault));
+    Ok(())
+}
