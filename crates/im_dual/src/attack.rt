@@ -1,6 +1,8 @@
 //! An operator that puts a false transaction into the tree, while the chain that its clients follow holds
 //! the true one. It is the attack that was published against immudb, and that the linear advance closes.
 
+ghost use Rattle.std.specs.Prelude.{◌≡◌};
+
 use crate::build::build;
 use crate::check::check;
 use im_digest::{D32, Sum};
@@ -20,7 +22,10 @@ fn digest(last: u8) -> D32 {
 }
 
 // The header of a transaction with one entry.
-fn header(alloc: Global, id: u64, bl_tx_id: u64, bl_root: D32, prev_alh: D32, eh: D32) -> Header {
+fn header(alloc: Global, id: u64, bl_tx_id: u64, bl_root: D32, prev_alh: D32, eh: D32) -> Header
+    ensures id { result.id ≡ id }
+    ensures tree { result.bl_tx_id ≡ bl_tx_id }
+{
     Header {
         id,
         ts: 0,
