@@ -1,2 +1,2 @@
 pub mod FateLemmas
-pub mod TurnLemmas
+pub mod VerdictLemmas

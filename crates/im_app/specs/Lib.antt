@@ -1,4 +1,3 @@
 pub mod Fates
 pub mod Runs
 pub mod Statuses
-pub mod Turns

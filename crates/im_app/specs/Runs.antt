@@ -4,10 +4,10 @@ use Rattle.std.specs.Io.KnownBytes.{Appends}
 use Rattle.im_edge.specs.Sinks.{AddsPart}
 use Rattle.im_digest.specs.Digests.{Hash}
 use Rattle.im_model.specs.declared.transactions.Transaction.{Transaction}
-use Rattle.im_talk.specs.Report.{Report}
-use Rattle.im_talk.specs.Script.{IsScript}
-use Rattle.im_talk.specs.declared.lines.Line.{Line}
-use Rattle.im_app.specs.Turns.{HasTime}
+use Rattle.im_report.specs.Report.{Report}
+use Rattle.im_script.specs.Script.{IsScript}
+use Rattle.im_script.specs.declared.commands.Line.{Line}
+use Rattle.im_session.specs.Turns.{HasTime}
 
 -- these octets are a script that isn't too long
 pub record IsGiven (script : List ℕ) (lines : List Line) : Type 0 where

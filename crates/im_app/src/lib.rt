@@ -1,10 +1,9 @@
 //! The top call of the program `im`: from words and octets to octets.
 #![tactic(auto)]
 
-mod answers;
 mod run;
-mod serve;
 pub mod status;
 #[cfg(test)]
 mod tests;
 pub mod top;
+mod verdict;

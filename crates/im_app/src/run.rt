@@ -1,15 +1,16 @@
 ghost use Rattle.std.specs.Prelude.{◌≡◌, ◌⊎◌, ℕ, ◌+◌, ◌<◌, ◌≤◌, [], length, IfSome, Some};
 ghost use Rattle.im_edge.specs.Counts.{Rose};
-ghost use Rattle.im_talk.specs.Script.{StopsAfter};
+ghost use Rattle.im_script.specs.Script.{StopsAfter};
 ghost use Rattle.im_app.specs.Runs.{WritesPart, WritesReport};
+ghost use Rattle.im_app.specs.Statuses.{EndsRun};
 
-use crate::serve::serve;
 use crate::status::Status;
 use im_digest::Hash32;
 use im_edge::clock::Clock;
 use im_edge::sink::{Sink, write_all};
 use im_edge::source::{ReadError, Source, read_all};
 use im_script::scripts::{ScriptError, read_script};
+use im_session::serve::serve;
 use std::alloc::Global;
 
 /// The most octets of a source.
@@ -27,6 +28,7 @@ pub(crate) fn run<H: Hash32, S: Source, K: Sink, C: Clock>(
         WritesReport (H.digest hash.now) (C.constant clock.old) script (K.written sink.old) (K.written sink.new)) }
     ensures emptied { (result ≡ Status.Ok) ⊎ (result ≡ Status.WriteFault) → IfSome (S.left source.old) (λ _. S.left source.new ≡ Some []) }
     ensures never { result ≡ Status.Usage → ⊥ }
+    ensures ends { EndsRun result }
     ensures script { (k : ℕ) → result ≡ Status.Script k → IfSome (S.left source.old) (λ script.
         (length script ≤ 67108864) × ((n : ℕ) × (k ≡ n + 1) × StopsAfter script n)) }
     ensures read { result ≡ Status.ReadFault → Rose (S.faults source.old) (S.faults source.new) }

@@ -14,10 +14,16 @@ pub enum Status {
     ReadFault,
     /// 5: the sink failed.
     WriteFault,
+    /// 8: the keeper failed.
+    KeeperFault,
+    /// 9: each line of the stream was told, and some failed a check.
+    Refused,
     /// 11: memory ran out.
     Memory,
     /// 12: the source has more than 67,108,864 octets.
     Long,
+    /// 13: the number, from 1, of the first kept line that fails a check. Nothing was written or kept.
+    Kept { line: u64 },
 }
 
 impl Status {
@@ -32,8 +38,11 @@ impl Status {
             Status::Script { .. } => 3,
             Status::ReadFault => 4,
             Status::WriteFault => 5,
+            Status::KeeperFault => 8,
+            Status::Refused => 9,
             Status::Memory => 11,
             Status::Long => 12,
+            Status::Kept { .. } => 13,
         }
     }
 
@@ -48,8 +57,11 @@ impl Status {
             Status::Script { .. } => "script",
             Status::ReadFault => "read fault",
             Status::WriteFault => "write fault",
+            Status::KeeperFault => "keeper fault",
+            Status::Refused => "refused",
             Status::Memory => "memory",
             Status::Long => "long",
+            Status::Kept { .. } => "kept",
         }
     }
 }

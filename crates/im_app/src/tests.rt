@@ -1,6 +1,10 @@
 //! Runs of `top` whose output is known from elsewhere: worked by hand under the sum of octets, and
 //! computed with another program's SHA-256.
 
+mod exchange;
+mod faults;
+mod proofs;
+
 use crate::status::{Done, Status};
 use crate::top::top;
 use im_digest::{Hash32, Sha, Sum};
@@ -146,12 +150,13 @@ fn a_bad_line_writes_nothing(rt: HostRuntime) -> Result<(), Fail> {
 
 #[test]
 fn words_that_are_no_command_line(rt: HostRuntime) -> Result<(), Fail> {
-    let lines: [&[&str]; 5] = [
+    let lines: [&[&str]; 6] = [
         &["im"],
         &["im", "walk"],
         &["im", "run", "--logs", "5"],
         &["im", "run", "--link", "never"],
         &["im", "--help"],
+        &["im", "verify", "twice"],
     ];
     for words in lines {
         let mut source = Reading::new(b"a: set k=v\n".as_slice());
@@ -345,8 +350,11 @@ fn how_each_end_is_told(rt: HostRuntime) -> Result<(), Fail> {
         (Status::Script { line: 7 }, 3, "script"),
         (Status::ReadFault, 4, "read fault"),
         (Status::WriteFault, 5, "write fault"),
+        (Status::KeeperFault, 8, "keeper fault"),
+        (Status::Refused, 9, "refused"),
         (Status::Memory, 11, "memory"),
         (Status::Long, 12, "long"),
+        (Status::Kept { line: 7 }, 13, "kept"),
     ];
     for (status, code, words) in ends {
         assert_eq!(rt; status.code(), code);

@@ -1,3 +1,4 @@
 pub mod CutLemmas
 pub mod FindsLemmas
+pub mod LineLemmas
 pub mod WordLemmas

@@ -1,3 +1,4 @@
 pub mod Cuts
 pub mod Finds
+pub mod Lines
 pub mod Words

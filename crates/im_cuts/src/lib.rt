@@ -1,8 +1,9 @@
-//! Cutting a text at a mark, behind a prefix and into words: what readers of grammars share.
+//! Cutting a text at a mark, behind a prefix, into words and into lines: what readers of grammars share.
 #![tactic(auto)]
 
-ghost use Rattle.std.specs.Prelude.{◌≡◌, ◌++◌, List, ℕ, IfSome, IfNone};
+ghost use Rattle.std.specs.Prelude.{◌≡◌, ◌++◌, ◌<◌, List, ℕ, length, IfSome, IfNone};
 ghost use Rattle.im_cuts.specs.Cuts.{Lacks, IsCut};
+ghost use Rattle.im_cuts.specs.Lines.{IsFirstText};
 
 /// The text before the first mark and that behind it, or `None` where there is no mark.
 pub fn cut(text: &[u8], mark: u8) -> Option<(&[u8], &[u8])>
@@ -26,5 +27,17 @@ pub fn after<'t>(text: &'t [u8], prefix: &[u8]) -> Option<&'t [u8]>
         Some(&text[prefix.len()..])
     } else {
         None
+    }
+}
+
+/// The text of the first line, without its LF, and what stands behind it. The last line may lack its LF.
+pub fn first_line(octets: &[u8]) -> (&[u8], &[u8])
+    requires { 0 < length octets.now }
+    ensures first { IsFirstText octets.now result.0.now result.1.now }
+    ensures shorter { length result.1.now < length octets.now }
+{
+    match cut(octets, b'\n') {
+        Some(parts) => parts,
+        None => (octets, &[]),
     }
 }

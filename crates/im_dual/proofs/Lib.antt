@@ -1,3 +1,5 @@
 pub mod AdvanceLemmas
+pub mod ExampleLemmas
+pub mod KeptLemmas
 pub mod PassLemmas
 pub mod RecordLemmas

@@ -177,19 +177,21 @@ least-bl n bl (tx ∷ txs) (suc j) f h =
     let on : tx.bl ≤ (get_or txs j no_transaction).bl = least-bl (n + 1) tx.bl txs j f.2 (omega arith) in
     omega (arith, here, on)
 
-rising-bl : (n bl : ℕ) (txs : List Transaction) (i j : ℕ) → Follow n bl txs → i ≤ j → j < length txs → (get_or txs i no_transaction).bl ≤ (get_or txs j no_transaction).bl
+pub rising-bl : (n bl : ℕ) (txs : List Transaction) (i j : ℕ) → Follow n bl txs → i ≤ j → j < length txs → (get_or txs i no_transaction).bl ≤ (get_or txs j no_transaction).bl
 rising-bl n bl [] i j f l h = absurd (omega arith)
 rising-bl n bl (tx ∷ txs) zero zero f l h = omega arith
 rising-bl n bl (tx ∷ txs) zero (suc j) f l h = least-bl (n + 1) tx.bl txs j f.2 (omega arith)
 rising-bl n bl (tx ∷ txs) (suc i) zero f l h = absurd (omega arith)
 rising-bl n bl (tx ∷ txs) (suc i) (suc j) f l h = rising-bl (n + 1) tx.bl txs i j f.2 (omega arith) (omega arith)
 
-id-of : (hash : Hash) (history : List Transaction) (k : ℕ) → 1 ≤ k → k ≤ length history → (header_of hash history k).id ≡ k
+-- a header has its transaction's number
+pub id-of : (hash : Hash) (history : List Transaction) (k : ℕ) → 1 ≤ k → k ≤ length history → (header_of hash history k).id ≡ k
 id-of hash history k o l =
     let many : length (before hash history (k - 1)) ≡ k - 1 = length-before hash history (k - 1) (omega arith) in
     next-id hash (before hash history (k - 1)) (transaction_of history k) ∙ omega arith
 
-bl-of : (hash : Hash) (history : List Transaction) (k : ℕ) → (header_of hash history k).bl_tx_id ≡ (transaction_of history k).bl
+-- and its tree
+pub bl-of : (hash : Hash) (history : List Transaction) (k : ℕ) → (header_of hash history k).bl_tx_id ≡ (transaction_of history k).bl
 bl-of hash history k = next-bl hash (before hash history (k - 1)) (transaction_of history k)
 
 -- the dual proof between two transactions of a history passes its check

@@ -1,16 +1,15 @@
 //! An operator that puts a false transaction into the tree, while the chain that its clients follow holds
 //! the true one. It is the attack that was published against immudb, and that the linear advance closes.
 
-ghost use Rattle.std.specs.Prelude.{◌≡◌};
-
-use crate::build::build;
 use crate::check::check;
 use im_digest::{D32, Sum};
 use im_model::headers::Header;
 use im_model::limits::Metadata;
+use im_mtree::digests::Digests;
 use im_octet::octets::Octets;
+use im_proof::digest_lists::DigestLists;
 use im_proof::faults::DualFault;
-use im_proof::proofs::DualProof;
+use im_proof::proofs::{AdvanceProof, DualProof};
 use std::alloc::{AllocError, Global};
 use std::test::Fail;
 
@@ -22,10 +21,7 @@ fn digest(last: u8) -> D32 {
 }
 
 // The header of a transaction with one entry.
-fn header(alloc: Global, id: u64, bl_tx_id: u64, bl_root: D32, prev_alh: D32, eh: D32) -> Header
-    ensures id { result.id ≡ id }
-    ensures tree { result.bl_tx_id ≡ bl_tx_id }
-{
+fn header(alloc: Global, id: u64, bl_tx_id: u64, bl_root: D32, prev_alh: D32, eh: D32) -> Header {
     Header {
         id,
         ts: 0,
@@ -39,16 +35,38 @@ fn header(alloc: Global, id: u64, bl_tx_id: u64, bl_root: D32, prev_alh: D32, eh
     }
 }
 
+// A list of two digests.
+fn two(alloc: Global, first: u8, second: u8) -> Result<Digests, AllocError> {
+    Ok(Digests::from_vec(Vec::from_array(alloc, [digest(first), digest(second)])?))
+}
+
+// The advance over the transactions 1 to 3, with this inner digest of transaction 2. In the tree the path of
+// 1 has 43 and e6 beside it, and that of 2 has a0 and e6.
+fn advance(alloc: Global, told: u8) -> Result<AdvanceProof, AllocError> {
+    let terms = [digest(0xa0), digest(told), digest(0xa1)];
+    let paths = [two(alloc, 0x43, 0xe6)?, two(alloc, 0xa0, 0xe6)?];
+    Ok(AdvanceProof {
+        terms: Digests::from_vec(Vec::from_array(alloc, terms)?),
+        inclusions: DigestLists::from_vec(Vec::from_array(alloc, paths)?),
+    })
+}
+
 // Under the sum of octets (in hex) the Alh of the transactions 1 to 3 are a0, 42 and e6, and their inner
 // digests 9f, a0 and a1. None has a tree. Transaction 4 has a tree of three, in which 43 stands in the place
 // of 42: its root is 1 + (1 + a0 + 43) + e6 = cb, its inner digest 1 + 1 + a0 + 3 + cb = 70, its Alh
-// 4 + e6 + 70 = 5a. The proof from 3 to 4 over that tree tells this inner digest of transaction 2.
+// 4 + e6 + 70 = 5a. The proof from 3 to 4 over that tree tells this inner digest of transaction 2. The path
+// of 3 in the tree has 1 + a0 + 43 = e4 beside it.
 fn forged(alloc: Global, told: u8) -> Result<DualProof, AllocError> {
-    let alhs = [digest(0xa0), digest(0x43), digest(0xe6), digest(0x5a)];
-    let inners = [digest(0x9f), digest(told), digest(0xa1), digest(0x70)];
-    let source = header(alloc, 3, 0, [0; 32], digest(0x42), digest(0x9f));
-    let target = header(alloc, 4, 3, digest(0xcb), digest(0xe6), digest(0xa0));
-    build(alloc, &Sum, source, target, &alhs, &inners)
+    Ok(DualProof {
+        source: header(alloc, 3, 0, [0; 32], digest(0x42), digest(0x9f)),
+        target: header(alloc, 4, 3, digest(0xcb), digest(0xe6), digest(0xa0)),
+        inclusion: Digests::from_vec(Vec::new(alloc)),
+        consistency: Digests::from_vec(Vec::new(alloc)),
+        target_bl_tx_alh: digest(0xe6),
+        last_inclusion: Digests::from_vec(Vec::from_array(alloc, [digest(0xe4)])?),
+        linear: two(alloc, 0xe6, 0x70)?,
+        linear_advance: advance(alloc, told)?,
+    })
 }
 
 // The true inner digest leads to 42, whose path gives 1 + (1 + a0 + 42) + e6 = ca. The checks of headers,

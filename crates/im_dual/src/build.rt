@@ -1,11 +1,16 @@
-ghost use Rattle.std.specs.Prelude.{◌≡◌, ◌<◌, ◌≤◌, ◌-◌, [], length, take, nat_eq, nat_lt, if◌then◌else◌, IfOk, Ok};
+ghost use Rattle.std.specs.Prelude.{◌≡◌, ◌<◌, ◌≤◌, ◌-◌, List, [], length, map, take, slice_index_or, nat_eq, nat_lt, if◌then◌else◌, IfOk, Ok};
+ghost use Rattle.im_model.specs.Headers.{inner, alh};
+ghost use Rattle.im_model.specs.History.{no_digest, alhs_of, header_of, IsHistory};
+ghost use Rattle.im_model.specs.declared.transactions.Transaction.{Transaction};
 ghost use Rattle.im_mtree.specs.Checks.{first_fail};
-ghost use Rattle.im_proof.specs.Built.{path_of, paths_from, consistency, advance_of, dual_of, AreLinked, IsRecorded};
+ghost use Rattle.im_proof.specs.Built.{linear_terms, path_of, paths_from, consistency, advance_of, dual_of, headers_of, inners_of};
 ghost use Rattle.im_proof.specs.Duals.{dual_checks};
+ghost use Rattle.im_dual.specs.Kept.{header_at};
 
 use im_atree::built::consistency;
-use im_chain::linear;
+use im_atree::trees::Tree;
 use im_digest::{D32, Hash32};
+use im_header::{alh, inner};
 use im_model::headers::Header;
 use im_mtree::digests::Digests;
 use im_mtree::paths::path;
@@ -13,68 +18,99 @@ use im_proof::digest_lists::DigestLists;
 use im_proof::proofs::{AdvanceProof, DualProof};
 use std::alloc::{AllocError, Global};
 
-/// The dual proof from a source to a target, where the Alh and the inner digest of transaction k stand at
-/// place k - 1. Of headers of one history it passes its check. Its only error is want of memory.
+/// The dual proof between transactions s and t of a history, from the headers of the history and the tree
+/// of its first Alh. It passes its check. Only headers that the proof is about are hashed, besides what
+/// the paths need of the tree. The only error is want of memory.
 pub fn build<H: Hash32>(
     alloc: Global,
     hash: &H,
-    source: Header,
-    target: Header,
-    alhs: &[D32],
-    inners: &[D32],
+    headers: &[Header],
+    tree: &Tree,
+    s: u64,
+    t: u64,
 ) -> Result<DualProof, AllocError>
-    requires some { 1 ≤ source.id }
-    requires order { source.id ≤ target.id }
-    requires shrink { source.bl_tx_id ≤ target.bl_tx_id }
-    requires tree { target.bl_tx_id < target.id }
-    requires alhs { target.id ≤ length alhs.now }
-    requires inners { target.id ≤ length inners.now }
-    ensures value { IfOk result (λ proof. proof ≡ dual_of (H.digest hash.now) source target alhs.now inners.now) }
-    ensures passes { IfOk result (λ proof. AreLinked (H.digest hash.now) alhs.now inners.now → IsRecorded (H.digest hash.now) alhs.now source → IsRecorded (H.digest hash.now) alhs.now target → first_fail (dual_checks (H.digest hash.now) proof) ≡ Ok tt) }
+    requires history { (history : List Transaction) × IsHistory history × (headers.now ≡ headers_of (H.digest hash.now) history) × (tree.now ≡ take (length tree.now) (alhs_of (H.digest hash.now) history)) }
+    requires some { 1 ≤ s }
+    requires order { s ≤ t }
+    requires within { t ≤ length headers.now }
+    requires tree { (header_at headers.now t).bl_tx_id ≤ length tree.now }
+    ensures value { IfOk result (λ proof. (history : List Transaction) → IsHistory history → headers.now ≡ headers_of (H.digest hash.now) history → proof ≡ dual_of (H.digest hash.now) (header_of (H.digest hash.now) history s) (header_of (H.digest hash.now) history t) (alhs_of (H.digest hash.now) history) (inners_of (H.digest hash.now) history)) }
+    ensures passes { IfOk result (λ proof. first_fail (dual_checks (H.digest hash.now) proof) ≡ Ok tt) }
 {
-    assemble(alloc, hash, source, target, alhs, inners)
+    let s = s as usize;
+    let t = t as usize;
+    assemble(alloc, hash, headers, leaves_of(headers, tree, t), s, t)
 }
 
-// The dual proof from a source to a target.
-#[tactic(auto, unfolding(im_proof::specs::Built::dual_of))]
+// The leaves that the tree had when transaction t was placed.
+fn leaves_of<'a>(headers: &[Header], tree: &'a Tree, t: usize) -> &'a [D32]
+    requires some { 1 ≤ t }
+    requires within { t ≤ length headers.now }
+    requires tree { (header_at headers.now t).bl_tx_id ≤ length tree.now }
+    ensures { result.now ≡ take (header_at headers.now t).bl_tx_id tree.now }
+{
+    let size = headers[t - 1].bl_tx_id as usize;
+    &tree.leaves()[..size]
+}
+
+// The dual proof between headers s and t, where the leaves are those of the target's tree.
 fn assemble<H: Hash32>(
     alloc: Global,
     hash: &H,
-    source: Header,
-    target: Header,
-    alhs: &[D32],
-    inners: &[D32],
+    headers: &[Header],
+    leaves: &[D32],
+    s: usize,
+    t: usize,
 ) -> Result<DualProof, AllocError>
-    requires some { 1 ≤ source.id }
-    requires order { source.id ≤ target.id }
-    requires shrink { source.bl_tx_id ≤ target.bl_tx_id }
-    requires tree { target.bl_tx_id < target.id }
-    requires alhs { target.id ≤ length alhs.now }
-    requires inners { target.id ≤ length inners.now }
-    ensures { IfOk result (λ proof. proof ≡ dual_of (H.digest hash.now) source target alhs.now inners.now) }
+    requires some { 1 ≤ s }
+    requires order { s ≤ t }
+    requires within { t ≤ length headers.now }
+    requires source { (header_at headers.now s).id ≡ s }
+    requires target { (header_at headers.now t).id ≡ t }
+    requires shrink { (header_at headers.now s).bl_tx_id ≤ length leaves.now }
+    requires lag { length leaves.now < t }
+    requires size { length leaves.now ≡ (header_at headers.now t).bl_tx_id }
+    requires leaves { leaves.now ≡ take (length leaves.now) (map (alh (H.digest hash.now)) headers.now) }
+    ensures { IfOk result (λ proof. proof ≡ dual_of (H.digest hash.now) (header_at headers.now s) (header_at headers.now t) (map (alh (H.digest hash.now)) headers.now) (map (inner (H.digest hash.now)) headers.now)) }
 {
-    let s = source.id as usize;
-    let t = target.id as usize;
+    let source = copy_of(alloc, headers, s)?;
+    let target = copy_of(alloc, headers, t)?;
     let old = source.bl_tx_id as usize;
-    let size = target.bl_tx_id as usize;
-    let (leaves, _) = alhs.split_at(size);
+    let size = leaves.len();
     let inclusion = inclusion_of(alloc, hash, leaves, s)?;
     let consistency = consistency_of(alloc, hash, leaves, old)?;
     let last_inclusion = last_inclusion_of(alloc, hash, leaves)?;
-    let linear = linear(alloc, alhs, inners, if s < size { size } else { s }, t)?;
-    let end = if s < size { s } else { size };
-    let linear_advance = advance(alloc, hash, alhs, inners, old, end, size)?;
-    let target_bl_tx_alh = if size == 0 { [0; 32] } else { alhs[size - 1] };
+    let linear = linear_of(alloc, hash, headers, s.max(size), t)?;
+    let linear_advance = advance(alloc, hash, headers, leaves, old, s.min(size))?;
     Ok(DualProof {
         source,
         target,
         inclusion,
         consistency,
-        target_bl_tx_alh,
+        target_bl_tx_alh: last_of(leaves),
         last_inclusion,
         linear,
         linear_advance,
     })
+}
+
+// A copy of header k.
+fn copy_of(alloc: Global, headers: &[Header], k: usize) -> Result<Header, AllocError>
+    requires some { 1 ≤ k }
+    requires within { k ≤ length headers.now }
+    ensures { IfOk result (λ header. header ≡ header_at headers.now k) }
+{
+    headers[k - 1].try_clone(alloc)
+}
+
+// The last leaf, or zeros where there is none.
+fn last_of(leaves: &[D32]) -> D32
+    ensures { result ≡ (if nat_eq (length leaves.now) 0 then no_digest else slice_index_or leaves.now (length leaves.now - 1) []) }
+{
+    match leaves.last() {
+        Some(leaf) => *leaf,
+        None => [0; 32],
+    }
 }
 
 // The path of transaction s, where it is below the tree's end.
@@ -126,21 +162,41 @@ fn last_inclusion_of<H: Hash32>(
     }
 }
 
-// The linear advance from transaction a to e in the tree of the first `size`.
+// The linear terms from transaction s to t. It hashes their headers alone.
+fn linear_of<H: Hash32>(
+    alloc: Global,
+    hash: &H,
+    headers: &[Header],
+    s: usize,
+    t: usize,
+) -> Result<Digests, AllocError>
+    requires some { 1 ≤ s }
+    requires order { s ≤ t }
+    requires within { t ≤ length headers.now }
+    ensures { IfOk result (λ terms. terms ≡ linear_terms (map (alh (H.digest hash.now)) headers.now) (map (inner (H.digest hash.now)) headers.now) s t) }
+{
+    let mut terms = Vec::new(alloc);
+    terms.push(alh(hash, &headers[s - 1]))?;
+    for i in s..t {
+        terms.push(inner(hash, &headers[i]))?;
+    }
+    Ok(Digests::from_vec(terms))
+}
+
+// The linear advance from transaction a to e in the tree of these leaves.
 #[tactic(auto, unfolding(im_proof::specs::Built::advance_of))]
 fn advance<H: Hash32>(
     alloc: Global,
     hash: &H,
-    alhs: &[D32],
-    inners: &[D32],
+    headers: &[Header],
+    leaves: &[D32],
     a: usize,
     e: usize,
-    size: usize,
 ) -> Result<AdvanceProof, AllocError>
-    requires within { e ≤ size }
-    requires tree { size ≤ length alhs.now }
-    requires inners { e ≤ length inners.now }
-    ensures { IfOk result (λ advance. advance ≡ advance_of (H.digest hash.now) alhs.now inners.now a e size) }
+    requires within { e ≤ length leaves.now }
+    requires headers { e ≤ length headers.now }
+    requires leaves { leaves.now ≡ take (length leaves.now) (map (alh (H.digest hash.now)) headers.now) }
+    ensures { IfOk result (λ advance. advance ≡ advance_of (H.digest hash.now) (map (alh (H.digest hash.now)) headers.now) (map (inner (H.digest hash.now)) headers.now) a e (length leaves.now)) }
 {
     if e <= a || e - a == 1 {
         return Ok(AdvanceProof {
@@ -148,8 +204,7 @@ fn advance<H: Hash32>(
             inclusions: DigestLists::from_vec(Vec::new(alloc)),
         });
     }
-    let (leaves, _) = alhs.split_at(size);
-    let terms = linear(alloc, alhs, inners, a + 1, e)?;
+    let terms = linear_of(alloc, hash, headers, a + 1, e)?;
     let inclusions = paths(alloc, hash, leaves, a, e - 1)?;
     Ok(AdvanceProof { terms, inclusions })
 }

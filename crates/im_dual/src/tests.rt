@@ -1,8 +1,14 @@
-ghost use Rattle.std.specs.Prelude.{◌≡◌, ◌<◌, ◌≤◌};
+ghost use Rattle.std.specs.Prelude.{◌≡◌, ◌<◌, ◌≤◌, List, [], ◌∷◌, ◌++◌, length, take, replicate, pos, IfOk};
+ghost use Rattle.im_digest.specs.Digests.{sum_digest};
+ghost use Rattle.im_model.specs.History.{alhs_of, IsHistory};
+ghost use Rattle.im_model.specs.declared.transactions.Transaction.{Transaction};
+ghost use Rattle.im_proof.specs.Built.{headers_of};
+ghost use Rattle.im_dual.specs.Kept.{header_at};
 
 use crate::build::build;
 use crate::check::check;
 use crate::headers::check_header;
+use im_atree::trees::Tree;
 use im_digest::{D32, Sum};
 use im_model::headers::Header;
 use im_model::limits::Metadata;
@@ -15,7 +21,9 @@ use std::alloc::{AllocError, Global};
 use std::test::Fail;
 
 // 31 zero octets, and then this one.
-fn digest(last: u8) -> D32 {
+fn digest(last: u8) -> D32
+    ensures { result ≡ replicate 31 0 ++ last ∷ [] }
+{
     let mut octets = [0u8; 32];
     octets[31] = last;
     octets
@@ -88,16 +96,22 @@ fn source_of_another_version(rt: HostRuntime) -> Result<(), Fail> {
     Ok(())
 }
 
-// A header of a history of four transactions with one entry each, with a tree of the first `bl`, 0 or 2.
-fn header_of_four(alloc: Global, id: u64, bl: u64, prev_alh: D32, eh: D32) -> Header
-    ensures id { result.id ≡ id }
-    ensures tree { result.bl_tx_id ≡ bl }
+// The headers of a history, and the tree of its first Alh.
+#[derive(Drop)]
+struct Kept {
+    headers: Vec<Header>,
+    tree: Tree,
+}
+
+// The header of a transaction with one entry.
+fn header_of_four(alloc: Global, id: u64, bl: u64, bl_root: D32, prev_alh: D32, eh: D32) -> Header
+    ensures { result ≡ record { id = id; ts = pos 0; bl_tx_id = bl; bl_root = bl_root; prev_alh = prev_alh; version = 1; md = []; nentries = 1; eh = eh } }
 {
     Header {
         id,
         ts: 0,
         bl_tx_id: bl,
-        bl_root: if bl == 0 { [0; 32] } else { digest(0xe3) },
+        bl_root,
         prev_alh,
         version: 1,
         md: Metadata::new(Octets::from_vec(Vec::new(alloc))),
@@ -106,21 +120,40 @@ fn header_of_four(alloc: Global, id: u64, bl: u64, prev_alh: D32, eh: D32) -> He
     }
 }
 
-// The proof from transaction 1 or 2 to 4 of that history.
-fn proof_to_four(alloc: Global, id: u64, prev_alh: D32, eh: D32) -> Result<DualProof, AllocError>
-    requires some { 1 ≤ id }
-    requires below { id < 4 }
+// What a store keeps of a history of four transactions with the entries k=1, k=2, k=3 and k=4, the last of
+// which has a tree of the first two. By the sum of octets (in hex) a header's eh is 1 + 6b + 31 and so on,
+// its inner digest 2 more, and for the last one 1 + 1 + a0 + 2 + e3 = 87. The Alh are 1 + 0 + 9f = a0,
+// 2 + a0 + a0 = 42, 3 + 42 + a1 = e6 and 4 + e6 + 87 = 71, and the root is 1 + a0 + 42 = e3.
+fn four(alloc: Global) -> Result<Kept, AllocError>
+    ensures history { IfOk result (λ kept. (history : List Transaction) × IsHistory history × (kept.headers.items ≡ headers_of sum_digest history) × (kept.tree ≡ take (length kept.tree) (alhs_of sum_digest history))) }
+    ensures headers { IfOk result (λ kept. length kept.headers.items ≡ 4) }
+    ensures tree { IfOk result (λ kept. (header_at kept.headers.items 4).bl_tx_id ≤ length kept.tree) }
 {
-    let alhs = [digest(0xa0), digest(0x42), digest(0xe6), digest(0x71)];
-    let inners = [digest(0x9f), digest(0xa0), digest(0xa1), digest(0x87)];
-    let source = header_of_four(alloc, id, 0, prev_alh, eh);
-    let target = header_of_four(alloc, 4, 2, digest(0xe6), digest(0xa0));
-    build(alloc, &Sum, source, target, &alhs, &inners)
+    let mut tree = Tree::new(alloc);
+    tree.append(&digest(0xa0))?;
+    tree.append(&digest(0x42))?;
+    let headers = [
+        header_of_four(alloc, 1, 0, [0; 32], digest(0), digest(0x9d)),
+        header_of_four(alloc, 2, 0, [0; 32], digest(0xa0), digest(0x9e)),
+        header_of_four(alloc, 3, 0, [0; 32], digest(0x42), digest(0x9f)),
+        header_of_four(alloc, 4, 2, digest(0xe3), digest(0xe6), digest(0xa0)),
+    ];
+    let headers = Vec::from_array(alloc, headers)?;
+    Ok(Kept { headers, tree })
+}
+
+// The proof from transaction 1 or 2 to 4 of that history.
+fn proof_to_four(alloc: Global, s: u64) -> Result<DualProof, AllocError>
+    requires some { 1 ≤ s }
+    requires below { s < 4 }
+{
+    let Kept { headers, tree } = four(alloc)?;
+    build(alloc, &Sum, headers.as_slice(), &tree, s, 4)
 }
 
 #[test]
 fn source_below_the_end_of_the_tree(rt: HostRuntime) -> Result<(), Fail> {
-    let proof = proof_to_four(rt.alloc(), 1, digest(0), digest(0x9d))?;
+    let proof = proof_to_four(rt.alloc(), 1)?;
     let linear = [digest(0x42), digest(0xa1), digest(0x87)];
     assert!(rt; proof.inclusion.as_slice() == [digest(0x42)].as_slice());
     assert!(rt; proof.consistency.is_empty());
@@ -134,7 +167,7 @@ fn source_below_the_end_of_the_tree(rt: HostRuntime) -> Result<(), Fail> {
 
 #[test]
 fn source_at_the_end_of_the_tree(rt: HostRuntime) -> Result<(), Fail> {
-    let mut proof = proof_to_four(rt.alloc(), 2, digest(0xa0), digest(0x9e))?;
+    let mut proof = proof_to_four(rt.alloc(), 2)?;
     let terms = [digest(0xa0), digest(0xa0)];
     assert!(rt; proof.inclusion.is_empty());
     assert!(rt; proof.linear_advance.terms.as_slice() == terms.as_slice());

@@ -104,3 +104,17 @@ fn copy_of(alloc: Global, lines: &[Octets]) -> Result<Vec<Octets>, AllocError>
     }
     Ok(copies)
 }
+
+// The answer of a call, where a failure is counted.
+pub(crate) fn counted<T>(
+    failures: &mut u64,
+    answer: Result<T, KeeperError>,
+) -> Result<T, KeeperError>
+    ensures same { result ≡ answer }
+    ensures cause { KeepCause failures.old failures.new result }
+{
+    if matches!(answer, Err(KeeperError::Failed)) {
+        *failures = failures.saturating_add(1);
+    }
+    answer
+}

@@ -1,10 +1,13 @@
 //! Where octets come from and go to, kept lines, the time, and a gate round lines. Each trait
-//! stands beside a form in memory or an adapter over std's readers and writers.
+//! stands beside a form in memory or an adapter over std's readers, writers and files.
 #![tactic(auto)]
 
 pub mod clock;
+pub mod file_keeper;
+pub mod fused_keeper;
 pub mod gate;
 pub mod keeper;
+pub mod lines;
 pub mod sink;
 pub mod source;
 #[cfg(test)]

@@ -1,11 +1,13 @@
 use crate::clock::{Clock, FixedClock};
+use crate::file_keeper::FileKeeper;
+use crate::fused_keeper::FusedKeeper;
 use crate::gate::{Gate, OpenGate, Point};
-use crate::keeper::{Keeper, MemKeeper};
+use crate::keeper::{Keeper, KeeperError, MemKeeper};
 use crate::sink::{Given, Sink, WriteFault, Writing, write_all};
 use crate::source::{ReadError, Reading, Source, Taken, read_all};
-use std::io;
 use std::io::{ErrorKind, Read, Write};
 use std::test::Fail;
+use std::{fs, io};
 
 // Gives one octet a read: 'a', 'b', then fails once, then 'c', and then nothing more.
 #[derive(Drop)]
@@ -117,6 +119,50 @@ fn lines_that_are_kept(rt: HostRuntime) -> Result<(), Fail> {
     assert_eq!(rt; lines.len(), 2);
     assert_eq!(rt; lines[0].as_slice(), b"one".as_slice());
     assert_eq!(rt; lines[1].as_slice(), b"two".as_slice());
+    Ok(())
+}
+
+#[test]
+fn a_keeper_that_fails_at_its_third_call(rt: HostRuntime) -> Result<(), Fail> {
+    let mut keeper = FusedKeeper::new(MemKeeper::new(rt.alloc()), 2);
+    keeper.append(b"one")?;
+    assert_eq!(rt; keeper.lines(rt.alloc())?.len(), 1);
+    assert_eq!(rt; keeper.append(b"two"), Err(KeeperError::Failed));
+    assert!(rt; matches!(keeper.lines(rt.alloc()), Err(KeeperError::Failed)));
+    assert_eq!(rt; keeper.failures, 2);
+    assert_eq!(rt; keeper.inner.lines(rt.alloc())?.len(), 1);
+    Ok(())
+}
+
+const FOLDER: &str = "im_edge_test";
+
+const FILE: &str = "im_edge_test/kept.txt";
+
+#[test]
+fn lines_in_a_file(rt: HostRuntime) -> Result<(), Fail> {
+    let _ = fs::remove_dir_all(&rt, FOLDER);
+    fs::create_dir(&rt, FOLDER)?;
+    let mut keeper = FileKeeper::new(&rt, rt.alloc(), FILE);
+    assert_eq!(rt; keeper.lines(rt.alloc())?.len(), 0);
+    assert!(rt; !fs::exists(&rt, FILE)?);
+    keeper.append(b"one")?;
+    keeper.append(b"two")?;
+    assert_eq!(rt; fs::read(&rt, FILE)?.as_slice(), b"one\ntwo\n".as_slice());
+    let lines = keeper.lines(rt.alloc())?;
+    assert_eq!(rt; lines.len(), 2);
+    assert_eq!(rt; lines[0].as_slice(), b"one".as_slice());
+    assert_eq!(rt; lines[1].as_slice(), b"two".as_slice());
+    fs::write(&rt, FILE, b"\nthree".as_slice())?;
+    let lines = keeper.lines(rt.alloc())?;
+    assert_eq!(rt; lines.len(), 2);
+    assert_eq!(rt; lines[0].as_slice(), b"".as_slice());
+    assert_eq!(rt; lines[1].as_slice(), b"three".as_slice());
+    assert_eq!(rt; keeper.failures, 0);
+    let mut folder = FileKeeper::new(&rt, rt.alloc(), FOLDER);
+    assert!(rt; matches!(folder.lines(rt.alloc()), Err(KeeperError::Failed)));
+    assert_eq!(rt; folder.append(b"one"), Err(KeeperError::Failed));
+    assert_eq!(rt; folder.failures, 2);
+    fs::remove_dir_all(&rt, FOLDER)?;
     Ok(())
 }
 

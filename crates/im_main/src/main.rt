@@ -8,12 +8,15 @@ use im_app::status::{Done, Status};
 use im_app::top::top;
 use im_digest::Sha;
 use im_disk::no_disk::NoDisk;
+use im_edge::file_keeper::FileKeeper;
 use im_edge::gate::OpenGate;
-use im_edge::keeper::MemKeeper;
 use im_edge::sink::Writing;
 use im_edge::source::Reading;
 use std::process::ExitCode;
 use std::{env, io};
+
+// The file in the working folder whose lines are what the client keeps.
+const KEPT: &str = "im-client.txt";
 
 fn main(rt: HostRuntime) -> ExitCode {
     let Ok(args) = env::args(&rt) else {
@@ -24,7 +27,7 @@ fn main(rt: HostRuntime) -> ExitCode {
     };
     let mut source = Reading::new(rt.reader());
     let mut sink = Writing::new(io::writer(&rt));
-    let mut keeper = MemKeeper::new(rt.alloc());
+    let mut keeper = FileKeeper::new(&rt, rt.alloc(), KEPT);
     let done = top(
         &rt,
         rt.alloc(),
@@ -45,7 +48,9 @@ fn main(rt: HostRuntime) -> ExitCode {
 fn ended(rt: &impl Eprint, status: Status) -> ExitCode {
     let told = match status {
         Status::Ok => Ok(()),
-        Status::Script { line } => eprintln!(rt; "im: {} {line}", status.words()),
+        Status::Script { line } | Status::Kept { line } => {
+            eprintln!(rt; "im: {} {line}", status.words())
+        }
         _ => eprintln!(rt; "im: {}", status.words()),
     };
     // Where standard error can't be written, the exit status alone tells.

@@ -1,4 +1,6 @@
 use crate::limits::{EntryValue, Key, Metadata};
+use im_octet::octets::Octets;
+use std::alloc::{AllocError, Global};
 use std::marker::Model;
 
 /// An entry of a transaction: one write of a key.
@@ -7,6 +9,24 @@ pub struct Entry {
     pub md: Metadata,
     pub key: Key,
     pub value: EntryValue,
+}
+
+impl Entry {
+    ghost use Rattle.std.specs.Prelude.{◌≡◌, IfOk};
+
+    /// A copy of this entry. Its only error is want of memory.
+    pub fn try_clone(&self, alloc: Global) -> Result<Self, AllocError>
+        ensures { IfOk result (λ entry. entry ≡ self.now) }
+    {
+        let md = Octets::from_slice(alloc, self.md.as_slice())?;
+        let key = Octets::from_slice(alloc, self.key.as_slice())?;
+        let value = Octets::from_slice(alloc, self.value.as_slice())?;
+        Ok(Entry {
+            md: Metadata::new(md),
+            key: Key::new(key),
+            value: EntryValue::new(value),
+        })
+    }
 }
 
 /// The entries of a transaction, in order. A clause sees the list of them.

@@ -1,5 +1,7 @@
 use crate::limits::Metadata;
 use im_digest::D32;
+use im_octet::octets::Octets;
+use std::alloc::{AllocError, Global};
 
 /// The header of a transaction (immudb's embedded store, header version 1).
 #[derive(Drop)]
@@ -22,4 +24,26 @@ pub struct Header {
     pub nentries: u32,
     /// The root over the entries' digests.
     pub eh: D32,
+}
+
+impl Header {
+    ghost use Rattle.std.specs.Prelude.{◌≡◌, IfOk};
+
+    /// A copy of this header. Its only error is want of memory.
+    pub fn try_clone(&self, alloc: Global) -> Result<Self, AllocError>
+        ensures { IfOk result (λ header. header ≡ self.now) }
+    {
+        let md = Octets::from_slice(alloc, self.md.as_slice())?;
+        Ok(Header {
+            id: self.id,
+            ts: self.ts,
+            bl_tx_id: self.bl_tx_id,
+            bl_root: self.bl_root,
+            prev_alh: self.prev_alh,
+            version: self.version,
+            md: Metadata::new(md),
+            nentries: self.nentries,
+            eh: self.eh,
+        })
+    }
 }

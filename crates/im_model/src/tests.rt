@@ -1,8 +1,12 @@
 use crate::chains::chain_end;
+use crate::entries::Entry;
 use crate::growth::{newer_root, older_root};
+use crate::headers::Header;
+use crate::limits::{EntryValue, Key, Metadata};
 use crate::paths::root_by_path;
 use crate::trees::{leaf_digest, node_digest, plain_root, split};
 use im_digest::{D32, Sum};
+use im_octet::octets::Octets;
 use std::test::Fail;
 
 // 31 zero octets, and then this one.
@@ -66,5 +70,44 @@ fn roots_by_consistency_lists(rt: HostRuntime) -> Result<(), Fail> {
 fn chain_of_two_links(rt: HostRuntime) -> Result<(), Fail> {
     let inners = [digest(0xa0), digest(0xa1)];
     assert!(rt; chain_end(&Sum, &digest(0xa0), 1, &inners) == digest(0xe6));
+    Ok(())
+}
+
+#[test]
+fn copy_of_a_header(rt: HostRuntime) -> Result<(), Fail> {
+    let alloc = rt.alloc();
+    let header = Header {
+        id: 7,
+        ts: -8,
+        bl_tx_id: 6,
+        bl_root: digest(1),
+        prev_alh: digest(2),
+        version: 1,
+        md: Metadata::new(Octets::from_slice(alloc, b"md")?),
+        nentries: 9,
+        eh: digest(3),
+    };
+    let copy = header.try_clone(alloc)?;
+    assert!(rt; (copy.id, copy.ts, copy.bl_tx_id) == (7, -8, 6));
+    assert!(rt; (copy.version, copy.nentries) == (1, 9));
+    assert!(rt; copy.bl_root == digest(1));
+    assert!(rt; copy.prev_alh == digest(2));
+    assert!(rt; copy.eh == digest(3));
+    assert!(rt; copy.md.as_slice() == b"md".as_slice());
+    Ok(())
+}
+
+#[test]
+fn copy_of_an_entry(rt: HostRuntime) -> Result<(), Fail> {
+    let alloc = rt.alloc();
+    let entry = Entry {
+        md: Metadata::new(Octets::from_slice(alloc, &[0])?),
+        key: Key::new(Octets::from_slice(alloc, b"key")?),
+        value: EntryValue::new(Octets::from_slice(alloc, b"value")?),
+    };
+    let copy = entry.try_clone(alloc)?;
+    assert!(rt; copy.md.as_slice() == [0u8].as_slice());
+    assert!(rt; copy.key.as_slice() == b"key".as_slice());
+    assert!(rt; copy.value.as_slice() == b"value".as_slice());
     Ok(())
 }

@@ -2,9 +2,11 @@ ghost use Rattle.std.specs.Prelude.{◌≡◌};
 ghost use Rattle.im_octet.specs.Fields.{field2, field4, field8, signed_field8};
 
 use std::marker::Model;
+use thiserror::Error;
 
 /// Too few octets are left for what was to be read.
-#[derive(Clone, Copy, Debug, PartialEq, Eq)]
+#[derive(Clone, Copy, Debug, PartialEq, Eq, Error)]
+#[error("too few octets are left at octet {at}")]
 pub struct Short {
     /// The place, counted in octets from the front, at which too few are left.
     pub at: usize,

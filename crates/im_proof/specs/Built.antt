@@ -106,3 +106,13 @@ inners_from hash alhs (tx ∷ txs) =
 -- the inner digest of each transaction of a history, in order
 abbrev pub inners_of : Hash → List Transaction → List (List ℕ)
 inners_of hash history = inners_from hash [] history
+
+-- the headers of the transactions that follow those with these Alh
+abbrev pub headers_from : Hash → List (List ℕ) → List Transaction → List Header
+headers_from hash alhs [] = []
+headers_from hash alhs (tx ∷ txs) =
+    next_header hash alhs tx ∷ headers_from hash (alhs ++ alh hash (next_header hash alhs tx) ∷ []) txs
+
+-- the header of each transaction of a history, in order
+abbrev pub headers_of : Hash → List Transaction → List Header
+headers_of hash history = headers_from hash [] history

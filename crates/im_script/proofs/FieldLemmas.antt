@@ -11,7 +11,7 @@ use Rattle.im_cuts.proofs.WordLemmas.{Lacks-word}
 use Rattle.im_draft.specs.declared.drafts.Attrs.{Attrs}
 use Rattle.im_draft.specs.declared.drafts.Draft.{Draft}
 use Rattle.im_talk.specs.Fields.{is_bare, is_bare_octet, is_session_octet, IsSession, IsOctets}
-use Rattle.im_talk.specs.Script.{IsField}
+use Rattle.im_script.specs.Script.{IsField}
 
 bare-each : (text : List ℕ) → is_bare text ≡ true → list_all is_bare_octet text ≡ true
 unfolding is_bare

@@ -1,11 +1,11 @@
 -- A script, one line after the other.
-use Rattle.std.proofs.Common.{◌≡◌, ℕ, suc, ◌+◌, ◌<◌, ◌≤◌, ◌==◌, List, [], ◌∷◌, ◌++◌, length, true, false, inl, inr, refl, subst, sym, ap, ◌∙◌, arith, append-nil, append_assoc}
-use Rattle.std.proofs.lemmas.Bool.{eqb-true, and_from, not_from_false}
-use Rattle.std.proofs.lemmas.Bool.Decides.{eqb_tells}
-use Rattle.im_talk.specs.declared.lines.Line.{Line}
-use Rattle.im_talk.specs.Script.{AreTexts, Say, Stop, IsScript, StopsAfter}
-use Rattle.im_script.specs.Arguments.{IsFirstText, IsTaken, IsRefused}
-use Rattle.im_script.proofs.Unique.{texts-none}
+use Rattle.std.proofs.Common.{◌≡◌, ℕ, suc, ◌+◌, ◌<◌, ◌==◌, List, [], ◌∷◌, ◌++◌, length, true, inl, inr, refl, subst, sym, ap, ◌∙◌, arith, append-nil, append_assoc}
+use Rattle.std.proofs.lemmas.Bool.{eqb-true}
+use Rattle.im_script.specs.declared.commands.Line.{Line}
+use Rattle.im_cuts.specs.Lines.{AreTexts, IsFirstText}
+use Rattle.im_cuts.proofs.LineLemmas.{texts-exist, texts-more}
+use Rattle.im_script.specs.Script.{Say, Stop, IsScript, StopsAfter}
+use Rattle.im_script.specs.Arguments.{IsTaken, IsRefused}
 
 -- behind the lines before them, the octets say these lines
 abbrev pub ScriptBehind : List Line → List ℕ → List Line → Type 0
@@ -14,28 +14,6 @@ ScriptBehind before octets lines = (texts : List (List ℕ)) × AreTexts octets 
 -- behind the lines before them, n of the octets' texts are taken, and the next one isn't
 abbrev pub StopsBehind : List Line → List ℕ → ℕ → Type 0
 StopsBehind before octets n = (texts : List (List ℕ)) × AreTexts octets texts × Stop before texts n
-
-texts-more : (octets text behind : List ℕ) (texts : List (List ℕ)) → 0 < length octets → IsFirstText octets text behind → AreTexts behind texts → AreTexts octets (text ∷ texts)
-texts-more octets text behind texts some (l, inl h) t =
-    let long : 1 ≤ length text = subst (λ (o : List ℕ). 1 ≤ length o) h.0 (omega arith) in
-    (l, inl (h.0, texts-none texts (subst (λ (o : List ℕ). AreTexts o texts) h.1 t), long))
-texts-more octets text behind texts some (l, inr e) t = (l, inr (behind, e, t))
-
-longer : (o : ℕ) (octets : List ℕ) (texts : List (List ℕ)) → (o == 10) ≡ false → AreTexts octets texts → (more : List (List ℕ)) × AreTexts (o ∷ octets) more
-longer o octets [] other h = ((o ∷ []) ∷ [], (and_from _ _ (not_from_false _ other) refl, inl (ap (λ (l : List ℕ). o ∷ l) h, refl, omega arith)))
-longer o octets (text ∷ texts) other (l, inl h) = ((o ∷ text) ∷ texts, (and_from _ _ (not_from_false _ other) l, inl (ap (λ (l : List ℕ). o ∷ l) h.0, h.1, omega arith)))
-longer o octets (text ∷ texts) other (l, inr h) = ((o ∷ text) ∷ texts, (and_from _ _ (not_from_false _ other) l, inr (h.0, ap (λ (l : List ℕ). o ∷ l) h.1, h.2)))
-
-front : (o : ℕ) (octets : List ℕ) (texts : List (List ℕ)) → AreTexts octets texts → (more : List (List ℕ)) × AreTexts (o ∷ octets) more
-front o octets texts h =
-    elim (eqb_tells o 10) [
-      | inl lf ↦ ([] ∷ texts, (refl, inr (octets, rw lf.1 refl, h)))
-      | inr other ↦ longer o octets texts other.0 h
-    ]
-
-texts-exist : (octets : List ℕ) → (texts : List (List ℕ)) × AreTexts octets texts
-texts-exist [] = ([], refl)
-texts-exist (o ∷ octets) = let t = texts-exist octets in front o octets t.0 t.1
 
 -- the next text is refused
 pub stops-here : (before : List Line) (octets text behind : List ℕ) → 0 < length octets → IsFirstText octets text behind → IsRefused before text → StopsBehind before octets 0

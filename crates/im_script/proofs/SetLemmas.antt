@@ -4,7 +4,7 @@ use Rattle.std.proofs.lemmas.Bool.{eqb-true}
 use Rattle.im_cuts.specs.Cuts.{Lacks}
 use Rattle.im_cuts.proofs.CutLemmas.{Lacks-mark, cut-unique, head-is}
 use Rattle.im_draft.specs.declared.drafts.Draft.{Draft}
-use Rattle.im_talk.specs.Script.{IsField, AreFields}
+use Rattle.im_script.specs.Script.{IsField, AreFields}
 use Rattle.im_script.specs.Arguments.{IsFieldEnd, IsFirstField}
 use Rattle.im_script.proofs.FieldLemmas.{field-lacks, field-unique}
 

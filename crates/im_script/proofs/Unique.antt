@@ -1,28 +1,43 @@
 -- A script is read in one way.
-use Rattle.std.proofs.Common.{◌≡◌, ℕ, zero, suc, List, [], ◌∷◌, ◌++◌, true, false, codes, inl, inr, refl, subst, sym, ap, ap₂, ◌∙◌, arith}
+use Rattle.std.proofs.Common.{◌≡◌, ℕ, zero, suc, List, [], ◌∷◌, ◌++◌, Option, true, false, inl, inr, refl, subst, sym, ap, ap₂, ◌∙◌}
 use Rattle.std.proofs.lemmas.Bool.{and_parts, both_ways}
-use Rattle.im_cuts.specs.Cuts.{Lacks}
-use Rattle.im_cuts.specs.Words.{is_word, IsNumber}
-use Rattle.im_cuts.proofs.CutLemmas.{cut-unique, Lacks-mark, append-same, head-is}
+use Rattle.im_cuts.specs.Words.{is_word}
+use Rattle.im_cuts.proofs.CutLemmas.{cut-unique, head-is}
 use Rattle.im_cuts.proofs.WordLemmas.{number-unique}
-use Rattle.im_talk.specs.declared.lines.Command.{Command}
-use Rattle.im_talk.specs.declared.lines.Command.TheVariants.{Set, Header}
-use Rattle.im_talk.specs.declared.lines.Line.{Line}
+use Rattle.im_script.specs.declared.commands.Command.{Command}
+use Rattle.im_script.specs.declared.commands.Command.TheVariants.{Set, Header, State, Prove, Advance, Item, Link}
+use Rattle.im_script.specs.declared.commands.Line.{Line}
 use Rattle.im_talk.specs.Fields.{is_session_octet, IsSession}
-use Rattle.im_talk.specs.Script.{AreFields, IsCommand, IsLine, IsPassedOver, AreTexts, Say, Stop, IsScript, StopsAfter}
+use Rattle.im_cuts.proofs.LineLemmas.{texts-unique}
+use Rattle.im_script.specs.Script.{IsCommand, IsLine, IsPassedOver, Say, Stop, IsScript, StopsAfter}
 use Rattle.im_script.proofs.FieldLemmas.{session-lacks}
 use Rattle.im_script.proofs.SetLemmas.{fields-unique}
-use Rattle.im_script.proofs.LineLemmas.{two-words}
+use Rattle.im_script.proofs.NumberLemmas.{numbers-unique, item-unique}
+use Rattle.im_script.proofs.CommandLemmas.{only-set, only-header, only-state, only-prove, only-advance, only-item, only-link}
 
 command-unique : (text : List ℕ) (a b : Command) → IsCommand text a → IsCommand text b → a ≡ b
-command-unique text (Set a) (Set b) x y =
-    let same = append-same (codes "set") x.0 y.0 (sym x.1 ∙ y.1) in
-    ap Set (fields-unique y.0 a b (subst (λ (t : List ℕ). AreFields t a) same x.2) y.2)
-command-unique text (Set a) (Header n) x y = absurd (two-words x.0 y.0 (sym x.1 ∙ y.1))
-command-unique text (Header m) (Set b) x y = absurd (two-words y.0 x.0 (sym y.1 ∙ x.1))
-command-unique text (Header m) (Header n) x y =
-    let same = append-same (codes "header ") x.0 y.0 (sym x.1 ∙ y.1) in
-    ap Header (number-unique y.0 m n (subst (λ (t : List ℕ). IsNumber t m) same x.2) y.2)
+command-unique text (Set a) b x y =
+    let z = only-set x.0 b (subst (λ (t : List ℕ). IsCommand t b) x.1 y) in
+    ap Set (fields-unique x.0 a z.0 x.2 z.2) ∙ sym z.1
+command-unique text (Header m) b x y =
+    let z = only-header x.0 b (subst (λ (t : List ℕ). IsCommand t b) x.1 y) in
+    ap Header (number-unique x.0 m z.0 x.2 z.2) ∙ sym z.1
+command-unique text State b x y = sym (only-state [] b (subst (λ (t : List ℕ). IsCommand t b) x y)).0
+command-unique text (Prove m n) b x y =
+    let z = only-prove x.0 b (subst (λ (t : List ℕ). IsCommand t b) x.1 y) in
+    let e = numbers-unique x.0 m n z.0 z.1 x.2 z.3 in
+    ap₂ (λ (k l : ℕ). Prove k l) e.0 e.1 ∙ sym z.2
+command-unique text (Advance m n) b x y =
+    let z = only-advance x.0 b (subst (λ (t : List ℕ). IsCommand t b) x.1 y) in
+    let e = numbers-unique x.0 m n z.0 z.1 x.2 z.3 in
+    ap₂ (λ (k l : ℕ). Advance k l) e.0 e.1 ∙ sym z.2
+command-unique text (Item n i u) b x y =
+    let z = only-item x.0 b (subst (λ (t : List ℕ). IsCommand t b) x.1 y) in
+    let e = item-unique x.0 n i z.0 z.1 u z.2 x.2 z.4 in
+    ap₂ (λ (k j : ℕ). Item k j u) e.0 e.1 ∙ ap (λ (v : Option ℕ). Item z.0 z.1 v) e.2 ∙ sym z.3
+command-unique text (Link m) b x y =
+    let z = only-link x.0 b (subst (λ (t : List ℕ). IsCommand t b) x.1 y) in
+    ap Link (number-unique x.0 m z.0 x.2 z.2) ∙ sym z.1
 
 -- a text says one line at most
 pub line-unique : (text : List ℕ) (a b : Line) → IsLine text a → IsLine text b → a ≡ b
@@ -53,27 +68,6 @@ some-text (o ∷ session) rest e = cc
 pub passed-no-line : (text : List ℕ) (line : Line) → IsPassedOver text → IsLine text line → ⊥
 passed-no-line text line (inl e) h = some-text line.session (32 ∷ h.0) (sym e ∙ h.1)
 passed-no-line text line (inr x) h = begins-no-session line.session (32 ∷ h.0) x.0 35 refl h.2 (sym x.1 ∙ h.1)
-
-no-octets : (text rest : List ℕ) → [] ≡ text ++ 10 ∷ rest → ⊥
-no-octets [] rest e = cc
-no-octets (o ∷ text) rest e = cc
-
--- no octets have no texts
-pub texts-none : (texts : List (List ℕ)) → AreTexts [] texts → texts ≡ []
-texts-none [] h = refl
-texts-none ([] ∷ texts) (l, inl h) = absurd (omega (arith, h.2))
-texts-none ((o ∷ text) ∷ texts) (l, inl h) = absurd cc
-texts-none (text ∷ texts) (l, inr h) = absurd (no-octets text h.0 h.1)
-
-texts-unique : (octets : List ℕ) (a b : List (List ℕ)) → AreTexts octets a → AreTexts octets b → a ≡ b
-texts-unique octets [] b x y = sym (texts-none b (subst (λ (o : List ℕ). AreTexts o b) x y))
-texts-unique octets (t ∷ ts) [] x y = texts-none (t ∷ ts) (subst (λ (o : List ℕ). AreTexts o (t ∷ ts)) y x)
-texts-unique octets (t ∷ ts) (u ∷ us) (l, inl x) (m, inl y) = ap₂ (λ (a : List ℕ) (b : List (List ℕ)). a ∷ b) (sym x.0 ∙ y.0) (x.1 ∙ sym y.1)
-texts-unique octets (t ∷ ts) (u ∷ us) (l, inl x) (m, inr y) = absurd (Lacks-mark 10 u y.0 (subst (λ (o : List ℕ). Lacks 10 o) (sym x.0 ∙ y.1) l))
-texts-unique octets (t ∷ ts) (u ∷ us) (l, inr x) (m, inl y) = absurd (Lacks-mark 10 t x.0 (subst (λ (o : List ℕ). Lacks 10 o) (sym y.0 ∙ x.1) m))
-texts-unique octets (t ∷ ts) (u ∷ us) (l, inr x) (m, inr y) =
-    let e = cut-unique 10 t u x.0 y.0 l m (sym x.1 ∙ y.1) in
-    ap₂ (λ (a : List ℕ) (b : List (List ℕ)). a ∷ b) e.0 (texts-unique y.0 ts us (subst (λ (o : List ℕ). AreTexts o ts) e.1 x.2) y.2)
 
 say-unique : (before : List Line) (texts : List (List ℕ)) (a b : List Line) → Say before texts a → Say before texts b → a ≡ b
 say-unique before [] a b x y = x ∙ sym y

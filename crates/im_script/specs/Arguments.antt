@@ -1,11 +1,12 @@
 -- What parts of a script say, for private clauses.
-use Rattle.std.specs.Prelude.{◌≡◌, ◌⊎◌, ℕ, List, [], ◌∷◌, ◌++◌}
+use Rattle.std.specs.Prelude.{◌≡◌, ◌⊎◌, ◌<◌, ◌^◌, ℕ, List, [], ◌∷◌, ◌++◌, Option}
 use Rattle.im_cuts.specs.Cuts.{Lacks}
 use Rattle.im_cuts.specs.Words.{IsNumber}
-use Rattle.im_talk.specs.Script.{AreFields, IsLine, IsPassedOver, MayFollow}
-use Rattle.im_talk.specs.declared.lines.Command.{Command}
-use Rattle.im_talk.specs.declared.lines.Command.TheVariants.{Set, Header}
-use Rattle.im_talk.specs.declared.lines.Line.{Line}
+use Rattle.im_draft.specs.declared.drafts.Draft.{Draft}
+use Rattle.im_script.specs.Script.{AreFields, AreNumbers, IsItem, IsLine, IsPassedOver, MayFollow}
+use Rattle.im_script.specs.declared.commands.Command.{Command}
+use Rattle.im_script.specs.declared.commands.Command.TheVariants.{Set, Header, State, Prove, Advance, Item, Link}
+use Rattle.im_script.specs.declared.commands.Line.{Line}
 
 -- nothing is left, or a space comes first
 abbrev pub IsFieldEnd : List ℕ → Type 0
@@ -15,20 +16,38 @@ IsFieldEnd text = (text ≡ []) ⊎ ((more : List ℕ) × (text ≡ 32 ∷ more)
 abbrev pub IsFirstField : List ℕ → List ℕ → List ℕ → Type 0
 IsFirstField text field behind = Lacks 32 field × (text ≡ field ++ behind) × IsFieldEnd behind
 
+-- the text of an index
+abbrev pub IsIndex : List ℕ → ℕ → Type 0
+IsIndex text index = IsNumber text index × (index < 2 ^ 32)
+
 -- the text behind `set`
 abbrev pub IsSet : List ℕ → Command → Type 0
-IsSet text (Set drafts) = AreFields text drafts
-IsSet text (Header number) = ⊥
+IsSet text command = (drafts : List Draft) × (command ≡ Set drafts) × AreFields text drafts
 
 -- the text behind `header `
 abbrev pub IsHeader : List ℕ → Command → Type 0
-IsHeader text (Set drafts) = ⊥
-IsHeader text (Header number) = IsNumber text number
+IsHeader text command = (number : ℕ) × (command ≡ Header number) × IsNumber text number
 
--- the text of the first line, without its LF, and what stands behind it
-abbrev pub IsFirstText : List ℕ → List ℕ → List ℕ → Type 0
-IsFirstText octets text behind =
-    Lacks 10 text × (((octets ≡ text) × (behind ≡ [])) ⊎ (octets ≡ text ++ 10 ∷ behind))
+-- the text behind `state`
+abbrev pub IsState : List ℕ → Command → Type 0
+IsState text command = (command ≡ State) × (text ≡ [])
+
+-- the text behind `prove `
+abbrev pub IsProve : List ℕ → Command → Type 0
+IsProve text command = (source : ℕ) × (target : ℕ) × (command ≡ Prove source target) × AreNumbers text source target
+
+-- the text behind `advance `
+abbrev pub IsAdvance : List ℕ → Command → Type 0
+IsAdvance text command = (source : ℕ) × (target : ℕ) × (command ≡ Advance source target) × AreNumbers text source target
+
+-- the text behind `item `
+abbrev pub IsItemCommand : List ℕ → Command → Type 0
+IsItemCommand text command =
+    (number : ℕ) × (index : ℕ) × (under : Option ℕ) × (command ≡ Item number index under) × IsItem text number index under
+
+-- the text behind `link `
+abbrev pub IsLink : List ℕ → Command → Type 0
+IsLink text command = (count : ℕ) × (command ≡ Link count) × IsNumber text count
 
 -- the text leaves the lines as they were, since it is passed over, or it says one more
 abbrev pub IsTaken : List Line → List ℕ → List Line → Type 0

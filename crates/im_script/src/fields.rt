@@ -5,7 +5,7 @@ ghost use Rattle.hex.specs.Hex.{decode_of};
 ghost use Rattle.im_cuts.specs.Finds.{Finds};
 ghost use Rattle.im_cuts.specs.Words.{is_word, number_value, IsNumber};
 ghost use Rattle.im_talk.specs.Fields.{is_session_octet, is_bare_octet, is_bare, IsSession, IsOctets};
-ghost use Rattle.im_talk.specs.Script.{IsField};
+ghost use Rattle.im_script.specs.Script.{IsField};
 
 use hex::FromHexError;
 use im_cuts::{after, cut};

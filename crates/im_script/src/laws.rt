@@ -2,8 +2,8 @@
 //! answer each octet string gets where memory is left.
 
 ghost use Rattle.std.specs.Prelude.{◌≡◌, ℕ, List};
-ghost use Rattle.im_talk.specs.declared.lines.Line.{Line};
-ghost use Rattle.im_talk.specs.Script.{IsLine, IsScript, StopsAfter};
+ghost use Rattle.im_script.specs.declared.commands.Line.{Line};
+ghost use Rattle.im_script.specs.Script.{IsLine, IsScript, StopsAfter};
 
 /// A script is read in one way at most.
 pub fn one_reading()

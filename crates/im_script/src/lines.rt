@@ -1,13 +1,14 @@
 ghost use Rattle.std.specs.Prelude.{IfOk};
 ghost use Rattle.im_cuts.specs.Finds.{Finds};
-ghost use Rattle.im_talk.specs.Script.{IsCommand, IsLine};
-ghost use Rattle.im_script.specs.Arguments.{IsSet, IsHeader};
+ghost use Rattle.im_script.specs.Script.{IsCommand, IsLine};
+ghost use Rattle.im_script.specs.Arguments.{IsSet, IsHeader, IsState, IsProve, IsAdvance, IsItemCommand, IsLink};
 
+use crate::commands::{Command, Line};
 use crate::fields::{is_session, read_number};
-use crate::sets::read_fields;
+use crate::numbers::{read_index, read_numbers, read_under};
+use crate::sets::{first_field, read_fields};
 use im_cuts::{after, cut};
 use im_octet::octets::Octets;
-use im_talk::lines::{Command, Line};
 use std::alloc::{AllocError, Global};
 
 // What stands behind `set`.
@@ -28,6 +29,56 @@ fn read_header(text: &[u8]) -> Option<Command>
     Some(Command::Header { number })
 }
 
+// What stands behind `state`: nothing.
+fn read_state(text: &[u8]) -> Option<Command>
+    ensures { Finds result (IsState text.now) }
+{
+    if !text.is_empty() {
+        return None;
+    }
+    Some(Command::State)
+}
+
+// What stands behind `prove `.
+fn read_prove(text: &[u8]) -> Option<Command>
+    ensures { Finds result (IsProve text.now) }
+{
+    let (source, target) = read_numbers(text)?;
+    Some(Command::Prove { source, target })
+}
+
+// What stands behind `advance `.
+fn read_advance(text: &[u8]) -> Option<Command>
+    ensures { Finds result (IsAdvance text.now) }
+{
+    let (source, target) = read_numbers(text)?;
+    Some(Command::Advance { source, target })
+}
+
+// What stands behind `item `.
+fn read_item(text: &[u8]) -> Option<Command>
+    ensures { Finds result (IsItemCommand text.now) }
+{
+    let (first, tail) = cut(text, b' ')?;
+    let (second, mark) = first_field(tail);
+    let number = read_number(first)?;
+    let index = read_index(second)?;
+    let under = read_under(mark)?;
+    Some(Command::Item {
+        number,
+        index,
+        under,
+    })
+}
+
+// What stands behind `link `.
+fn read_link(text: &[u8]) -> Option<Command>
+    ensures { Finds result (IsLink text.now) }
+{
+    let count = read_number(text)?;
+    Some(Command::Link { count })
+}
+
 // What stands behind a session's name.
 fn read_command(alloc: Global, text: &[u8]) -> Result<Option<Command>, AllocError>
     ensures { IfOk result (λ command. Finds command (IsCommand text.now)) }
@@ -35,8 +86,23 @@ fn read_command(alloc: Global, text: &[u8]) -> Result<Option<Command>, AllocErro
     if let Some(rest) = after(text, b"set") {
         return read_set(alloc, rest);
     }
-    match after(text, b"header ") {
-        Some(rest) => Ok(read_header(rest)),
+    if let Some(rest) = after(text, b"header ") {
+        return Ok(read_header(rest));
+    }
+    if let Some(rest) = after(text, b"state") {
+        return Ok(read_state(rest));
+    }
+    if let Some(rest) = after(text, b"prove ") {
+        return Ok(read_prove(rest));
+    }
+    if let Some(rest) = after(text, b"advance ") {
+        return Ok(read_advance(rest));
+    }
+    if let Some(rest) = after(text, b"item ") {
+        return Ok(read_item(rest));
+    }
+    match after(text, b"link ") {
+        Some(rest) => Ok(read_link(rest)),
         None => Ok(None),
     }
 }

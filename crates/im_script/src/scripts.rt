@@ -1,11 +1,11 @@
-ghost use Rattle.std.specs.Prelude.{◌≡◌, ◌<◌, ◌+◌, ◌↔◌, ℕ, length, IfOk, IsTrue, false};
+ghost use Rattle.std.specs.Prelude.{◌≡◌, ◌+◌, ◌↔◌, ℕ, IfOk, IsTrue, false};
 ghost use Rattle.im_cuts.specs.Finds.{Finds};
-ghost use Rattle.im_talk.specs.Script.{IsLine, IsPassedOver, MayFollow, IsScript, StopsAfter};
-ghost use Rattle.im_script.specs.Arguments.{IsFirstText, IsTaken, IsRefused};
+ghost use Rattle.im_script.specs.Script.{IsLine, IsPassedOver, MayFollow, IsScript, StopsAfter};
+ghost use Rattle.im_script.specs.Arguments.{IsTaken, IsRefused};
 
+use crate::commands::Line;
 use crate::lines::read_line;
-use im_cuts::cut;
-use im_talk::lines::Line;
+use im_cuts::first_line;
 use std::alloc::{AllocError, Global};
 
 /// Why a script wasn't read.
@@ -73,18 +73,6 @@ fn take_text(alloc: Global, text: &[u8], lines: &mut Vec<Line>) -> Result<bool, 
     Ok(true)
 }
 
-// The text of the first line, and what stands behind its LF.
-fn first_text(octets: &[u8]) -> (&[u8], &[u8])
-    requires { 0 < length octets.now }
-    ensures first { IsFirstText octets.now result.0.now result.1.now }
-    ensures shorter { length result.1.now < length octets.now }
-{
-    match cut(octets, b'\n') {
-        Some(parts) => parts,
-        None => (octets, &[]),
-    }
-}
-
 /// The lines of a script, or the number of the first line that isn't in the grammar or that may not stand
 /// where it does. It reads each octet a fixed number of times.
 pub fn read_script(alloc: Global, octets: &[u8]) -> Result<Vec<Line>, ScriptError>
@@ -95,7 +83,7 @@ pub fn read_script(alloc: Global, octets: &[u8]) -> Result<Vec<Line>, ScriptErro
     let mut number = 0;
     let mut rest = octets;
     while !rest.is_empty() {
-        let (text, behind) = first_text(rest);
+        let (text, behind) = first_line(rest);
         number += 1;
         if !take_text(alloc, text, &mut lines)? {
             return Err(ScriptError::Line(number));

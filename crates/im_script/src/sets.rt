@@ -1,6 +1,6 @@
 ghost use Rattle.std.specs.Prelude.{IfOk};
 ghost use Rattle.im_cuts.specs.Finds.{Finds};
-ghost use Rattle.im_talk.specs.Script.{AreFields};
+ghost use Rattle.im_script.specs.Script.{AreFields};
 ghost use Rattle.im_script.specs.Arguments.{IsFirstField};
 
 use crate::fields::read_field;
@@ -9,7 +9,7 @@ use im_draft::drafts::Drafts;
 use std::alloc::{AllocError, Global};
 
 // The text up to the first space or the end, and what is left from there.
-fn first_field(text: &[u8]) -> (&[u8], &[u8])
+pub(crate) fn first_field(text: &[u8]) -> (&[u8], &[u8])
     ensures { IsFirstField text.now result.0.now result.1.now }
 {
     match cut(text, b' ') {

@@ -1,7 +1,7 @@
+use crate::commands::{Command, Line};
 use crate::lines::read_line;
 use crate::scripts::{ScriptError, read_script};
 use im_draft::drafts::{Attrs, Draft};
-use im_talk::lines::{Command, Line};
 use std::test::Fail;
 
 // The drafts that a line of the session `a` sets.
@@ -95,4 +95,126 @@ fn first_line_that_is_refused(rt: HostRuntime) {
             _ => assert!(rt; false, "line {want} was read"),
         }
     }
+}
+
+#[test]
+fn a_state(rt: HostRuntime) -> Result<(), Fail> {
+    let line = read_line(rt.alloc(), b"a: state")?.ok_or("refused")?;
+    assert!(rt; matches!(line.command, Command::State));
+    Ok(())
+}
+
+#[test]
+fn a_prove(rt: HostRuntime) -> Result<(), Fail> {
+    let line = read_line(rt.alloc(), b"a: prove 3 18446744073709551615")?.ok_or("refused")?;
+    match line.command {
+        Command::Prove { source, target } => {
+            assert_eq!(rt; source, 3);
+            assert_eq!(rt; target, u64::MAX);
+        }
+        _ => assert!(rt; false, "no prove"),
+    }
+    Ok(())
+}
+
+#[test]
+fn an_advance(rt: HostRuntime) -> Result<(), Fail> {
+    let line = read_line(rt.alloc(), b"a: advance 18446744073709551615 007")?.ok_or("refused")?;
+    match line.command {
+        Command::Advance { source, target } => {
+            assert_eq!(rt; source, u64::MAX);
+            assert_eq!(rt; target, 7);
+        }
+        _ => assert!(rt; false, "no advance"),
+    }
+    Ok(())
+}
+
+#[test]
+fn an_item(rt: HostRuntime) -> Result<(), Fail> {
+    let line = read_line(rt.alloc(), b"a: item 5 4294967295")?.ok_or("refused")?;
+    match line.command {
+        Command::Item {
+            number,
+            index,
+            under,
+        } => {
+            assert_eq!(rt; number, 5);
+            assert_eq!(rt; index, u32::MAX);
+            assert_eq!(rt; under, None);
+        }
+        _ => assert!(rt; false, "no item"),
+    }
+    Ok(())
+}
+
+#[test]
+fn an_item_under_a_state(rt: HostRuntime) -> Result<(), Fail> {
+    let line = read_line(rt.alloc(), b"a: item 5 0 @18446744073709551615")?.ok_or("refused")?;
+    match line.command {
+        Command::Item {
+            number,
+            index,
+            under,
+        } => {
+            assert_eq!(rt; number, 5);
+            assert_eq!(rt; index, 0);
+            assert_eq!(rt; under, Some(u64::MAX));
+        }
+        _ => assert!(rt; false, "no item"),
+    }
+    Ok(())
+}
+
+#[test]
+fn a_link(rt: HostRuntime) -> Result<(), Fail> {
+    let line = read_line(rt.alloc(), b"a: link 18446744073709551615")?.ok_or("refused")?;
+    match line.command {
+        Command::Link { count } => assert_eq!(rt; count, u64::MAX),
+        _ => assert!(rt; false, "no link"),
+    }
+    Ok(())
+}
+
+#[test]
+fn states_and_numbers_that_are_refused(rt: HostRuntime) -> Result<(), Fail> {
+    for text in [
+        b"a: state ".as_slice(),
+        b"a: states".as_slice(),
+        b"a: header 1 2".as_slice(),
+        b"a: prove 1".as_slice(),
+        b"a: prove 1  2".as_slice(),
+        b"a: prove 1 2 3".as_slice(),
+        b"a: advance 1".as_slice(),
+    ] {
+        assert!(rt; read_line(rt.alloc(), text)?.is_none());
+    }
+    Ok(())
+}
+
+#[test]
+fn items_that_are_refused(rt: HostRuntime) -> Result<(), Fail> {
+    for text in [
+        b"a: item 1".as_slice(),
+        b"a: item 1 4294967296".as_slice(),
+        b"a: item 1 2@3".as_slice(),
+        b"a: item 1 2 @".as_slice(),
+        b"a: item 1 2 3".as_slice(),
+        b"a: item 1 2 @3 ".as_slice(),
+    ] {
+        assert!(rt; read_line(rt.alloc(), text)?.is_none());
+    }
+    Ok(())
+}
+
+#[test]
+fn links_that_are_refused(rt: HostRuntime) -> Result<(), Fail> {
+    for text in [
+        b"a: link".as_slice(),
+        b"a: link 18446744073709551616".as_slice(),
+        b"a: link -1".as_slice(),
+    ] {
+        assert!(rt; read_line(rt.alloc(), text)?.is_none());
+    }
+    Ok(())
 }

@@ -1,9 +1,7 @@
-//! The talk of the program: the lines of a script, the texts of replies, and the report of a run, as
-//! definitions in `specs/`, and a plain program for the texts.
+//! What texts of the program share: sessions, octets as words or hex, numbers, and headers in JSON, as
+//! definitions in `specs/`, and a plain program that writes them.
 #![tactic(auto)]
 
-pub mod lines;
-pub mod replies;
 #[cfg(test)]
 mod tests;
 pub mod texts;

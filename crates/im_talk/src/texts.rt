@@ -6,8 +6,8 @@ ghost use Rattle.im_talk.specs.Texts.{header_front, header_middle, header_back, 
 use im_model::headers::Header;
 use std::alloc::{AllocError, Global};
 
-// Adds a text, and then octets as lower-case hex. Where memory is refused a part may have been added.
-pub(crate) fn push_hex(
+/// Adds a text, and then octets as lower-case hex. Where memory is refused a part may have been added.
+pub fn push_hex(
     alloc: Global,
     out: &mut Vec<u8>,
     text: &[u8],
@@ -19,13 +19,8 @@ pub(crate) fn push_hex(
     out.extend_from_slice(hex::encode(alloc, octets)?.as_bytes())
 }
 
-// Adds a text, and then a number in decimal. Where memory is refused a part may have been added.
-pub(crate) fn push_number(
-    alloc: Global,
-    out: &mut Vec<u8>,
-    text: &[u8],
-    n: u64,
-) -> Result<(), AllocError>
+/// Adds a text, and then a number in decimal. Where memory is refused a part may have been added.
+pub fn push_number(alloc: Global, out: &mut Vec<u8>, text: &[u8], n: u64) -> Result<(), AllocError>
     ensures { OnOk result (out.new.items ≡ out.old.items ++ text.now ++ decimal n) }
 {
     out.extend_from_slice(text)?;

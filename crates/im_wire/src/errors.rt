@@ -2,13 +2,16 @@ ghost use Rattle.std.specs.Prelude.{◌≡◌};
 ghost use Rattle.im_wire.specs.declared.errors.WireError.TheVariants.{Memory};
 
 use std::alloc::{AllocError, AllocFailed};
+use thiserror::Error;
 
 /// Why a text was not read as a message.
-#[derive(Debug, Drop)]
+#[derive(Debug, Drop, Error)]
 pub enum WireError {
     /// The allocator refused memory.
+    #[error("out of memory")]
     Memory,
     /// The text says no message.
+    #[error("the text is no message")]
     Syntax,
 }
 

@@ -10,12 +10,9 @@ use Rattle.clap.specs.ValueTests.{is_unsigned_in}
 use Rattle.clap.specs.declared.builder.value_parser.ValueParser.TheVariants.{Unsigned}
 use Rattle.clap.proofs.ValueTestLemmas.{accepts-Accepts}
 use Rattle.im_words.specs.Command.{IsRefused, IsFaultless, Texts, im_at, im_command, link_names, link_texts, texts_behind}
-use Rattle.im_words.specs.Form.{IsForm}
 use Rattle.im_words.specs.Meaning.{logs_of_text}
-use Rattle.im_words.specs.declared.Link.{Link}
 use Rattle.im_words.specs.declared.WordsError.{WordsError}
 use Rattle.im_words.specs.declared.WordsError.TheVariants.{Memory, Usage}
-use Rattle.im_words.proofs.FormLemmas.{form_means}
 use Rattle.im_words.proofs.PlacedFaults.{fault_of-place, subcommand_of-place}
 
 -- the number that is read of a text that writes one
@@ -38,12 +35,10 @@ pub logs_answer : (E : Type 0) (G : List ℕ → Result ℕ E → Type 0) (one :
 logs_answer E G None r none value only some = ap (λ (o : Option ℕ). Some (unwrap_or o 1)) (sym (none refl))
 logs_answer E G (Some t) r none value only some = read_number E G t r (value t refl) only some
 
--- an error at words of the form is want of memory
-pub form_error : (words : List Text) (logs : ℕ) (link : Link) (e : WordsError) → IsForm words logs link → (e ≡ Usage → IsRefused words) → e ≡ Memory
-form_error words logs link Memory form refused = refl
-form_error words logs link Usage form refused =
-    let why = refused refl in
-    absurd (subst (IsAmong why.kind) (form_means words logs link form).faultless why.among)
+-- an error at words that aren't refused is want of memory
+pub taken_error : (words : List Text) (e : WordsError) → (IsRefused words → ⊥) → (e ≡ Usage → IsRefused words) → e ≡ Memory
+taken_error words Memory taken refused = refl
+taken_error words Usage taken refused = absurd (taken (refused refl))
 
 -- `?` passes an error up as it is
 pub error_up : {T : Type 0} (r : Result T WordsError) (e f : WordsError) → IsErrAnd r (λ x. x ≡ e) → e ≡ f → r ≡ Err f

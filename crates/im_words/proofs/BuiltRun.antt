@@ -1,8 +1,8 @@
--- The subcommand `run` as clap builds it.
+-- The subcommands as clap builds them.
 use Rattle.std.proofs.Common.{Bool, cond, List, [], ◌∷◌, Option, Some, None}
 use Rattle.clap.specs.Words.{Rule, Shape, built}
 use Rattle.clap.specs.Simple.{built_leaf, filled, inherited}
-use Rattle.im_words.specs.Command.{Texts, im_at, link_rule, logs_rule, run_shape}
+use Rattle.im_words.specs.Command.{Texts, im_at, im_command, link_rule, logs_rule, run_shape, verify_shape}
 
 -- `--logs` as built
 abbrev pub logs_built : Rule
@@ -12,11 +12,19 @@ logs_built = filled logs_rule
 abbrev pub link_built : Texts → Rule
 link_built names = filled (link_rule names)
 
--- the subcommand
+-- the subcommand `run`
 abbrev pub run_built : Texts → Shape
 run_built names = built_leaf (inherited (built (im_at names)).top (run_shape names))
 
--- its options
+-- the subcommand `verify`
+abbrev pub verify_built : Shape
+verify_built = built_leaf (inherited (built im_command).top verify_shape)
+
+-- the subcommand that passes its test, the first of both
+abbrev pub first_built : Texts → Bool → Bool → Option Shape
+first_built names run verify = cond run (Some (run_built names)) (cond verify (Some verify_built) None)
+
+-- the options of `run`
 abbrev pub rules_built : Texts → List Rule
 rules_built names = logs_built ∷ link_built names ∷ []
 

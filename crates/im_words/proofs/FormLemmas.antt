@@ -1,12 +1,12 @@
--- Words of the form are taken, and mean what they say.
-use Rattle.std.proofs.Common.{◌≡◌, ◌≤◌, ℕ, zero, suc, List, [], ◌∷◌, ◌++◌, Some, refl, subst, sym, codes, inl, inr, arith}
+-- Words of the forms are taken, and mean what they say.
+use Rattle.std.proofs.Common.{◌≡◌, ◌∙◌, ◌≤◌, ℕ, zero, suc, List, [], ◌∷◌, ◌++◌, Some, refl, subst, sym, codes, inl, inr, arith}
 use Rattle.std.specs.Fmt.{digits}
-use Rattle.clap.specs.Words.{Text, fault_of, subcommand_of}
+use Rattle.clap.specs.Words.{IsAmong, Text, fault_of, subcommand_of}
 use Rattle.clap.proofs.OnLiterals.{clap_on_literals}
-use Rattle.im_words.specs.Command.{im_command}
-use Rattle.im_words.specs.Meaning.{asked_of}
-use Rattle.im_words.specs.Form.{GivesOptions, IsForm, link_words, logs_words}
-use Rattle.im_words.specs.declared.Asked.TheVariants.{Run}
+use Rattle.im_words.specs.Command.{IsRefused, im_command}
+use Rattle.im_words.specs.Meaning.{AsksRun, AsksVerify, asked_of}
+use Rattle.im_words.specs.Form.{GivesOptions, IsForm, IsVerifyForm, link_words, logs_words}
+use Rattle.im_words.specs.declared.Asked.TheVariants.{Run, Verify}
 use Rattle.im_words.specs.declared.Link.{Link}
 use Rattle.im_words.specs.declared.Link.TheVariants.{Auto, Manual}
 
@@ -72,3 +72,41 @@ options_mean name options logs link some few (inr (inr (inr (inr given)))) =
 pub form_means : (words : List Text) (logs : ℕ) (link : Link) → IsForm words logs link → Means words logs link
 form_means words logs link form =
     subst (λ (ws : List Text). Means ws logs link) (sym form.are) (options_mean form.name form.options logs link form.some form.few form.given)
+
+-- and ask for a run
+pub form_asks : (words : List Text) (logs : ℕ) (link : Link) → IsForm words logs link → AsksRun words
+form_asks words logs link form = (logs, link, (form_means words logs link form).asked)
+
+-- clap takes the words, and they ask for `verify`
+pub record MeansVerify (words : List Text) : Type 0 where
+  pub faultless : fault_of im_command words ≡ []
+  pub asks : AsksVerify words
+
+verify_alone : (name : Text) → MeansVerify (name ∷ codes "verify" ∷ [])
+unfolding clap_on_literals
+verify_alone name = record { faultless = refl; asks = refl }
+
+-- the words of `verify` are taken, and ask for it
+pub verify_means : (words : List Text) → IsVerifyForm words → MeansVerify words
+verify_means words form = subst MeansVerify (sym form.are) (verify_alone form.name)
+
+pub verify_asks : (words : List Text) → IsVerifyForm words → AsksVerify words
+verify_asks words form = (verify_means words form).asks
+
+-- words with no fault aren't refused
+none_refused : (words : List Text) → fault_of im_command words ≡ [] → IsRefused words → ⊥
+none_refused words faultless why = subst (IsAmong why.kind) faultless why.among
+
+-- words of the forms are never refused
+pub form_taken : (words : List Text) (logs : ℕ) (link : Link) → IsForm words logs link → IsRefused words → ⊥
+form_taken words logs link form = none_refused words (form_means words logs link form).faultless
+
+pub verify_taken : (words : List Text) → IsVerifyForm words → IsRefused words → ⊥
+verify_taken words form = none_refused words (verify_means words form).faultless
+
+-- no words ask for a run and for `verify`
+pub asks_one : (words : List Text) → AsksRun words → AsksVerify words → ⊥
+asks_one words run verify = go (sym run.2 ∙ verify)
+  where
+    go : Some (Run run.0 run.1) ≡ Some Verify → ⊥
+    go same = cc

@@ -33,6 +33,10 @@ abbrev pub run_shape : Texts → Shape
 run_shape names =
     record ((new_app (codes "run")).top) { rules = logs_rule ∷ link_rule names ∷ [] }
 
+-- the subcommand `verify`, which has no option
+abbrev pub verify_shape : Shape
+verify_shape = (new_app (codes "verify")).top
+
 -- `im` with no help and no subcommand yet, of which one is required
 abbrev pub im_top : App
 im_top = record (new_app (codes "im")) {
@@ -43,9 +47,9 @@ im_top = record (new_app (codes "im")) {
   };
 }
 
--- `im` where the names of links lie at these references
+-- `im` with both subcommands, where the names of links lie at these references
 abbrev pub im_at : Texts → App
-im_at names = with_subcommand im_top (run_shape names)
+im_at names = with_subcommand (with_subcommand im_top (run_shape names)) verify_shape
 
 -- the names of links
 abbrev pub link_texts : List Text

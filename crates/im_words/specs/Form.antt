@@ -33,3 +33,8 @@ pub record IsForm (words : List Text) (logs : ℕ) (link : Link) : Type 0 where
   pub some : 1 ≤ logs
   pub few : logs ≤ 4
   pub given : GivesOptions options logs link
+
+-- the words are the program's name and `verify`
+pub record IsVerifyForm (words : List Text) : Type 0 where
+  pub name : Text
+  pub are : words ≡ name ∷ codes "verify" ∷ []

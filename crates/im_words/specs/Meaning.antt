@@ -1,12 +1,13 @@
 -- What the matches of a command line ask for.
-use Rattle.std.specs.Prelude.{◌≤◌, ℕ, List, Option, Some, None, codes, option_map, option_and_then, if◌then◌else◌}
+use Rattle.std.specs.Prelude.{◌≡◌, ◌≤◌, ℕ, List, Option, Some, None, codes, option_map, option_and_then, if◌then◌else◌}
 use Rattle.std.specs.Option.{option_map_or}
 use Rattle.std.specs.Str.{bytes_eq}
 use Rattle.std.specs.Str.Parse.{digits_value, without_leading_plus}
-use Rattle.clap.specs.Words.{Row, Text, first_of, one_of}
+use Rattle.clap.specs.Words.{Row, Text, first_of, one_of, subcommand_of}
 use Rattle.clap.specs.ValueTests.{is_unsigned_in}
+use Rattle.im_words.specs.Command.{im_command}
 use Rattle.im_words.specs.declared.Asked.{Asked}
-use Rattle.im_words.specs.declared.Asked.TheVariants.{Run}
+use Rattle.im_words.specs.declared.Asked.TheVariants.{Run, Verify}
 use Rattle.im_words.specs.declared.Link.{Link}
 use Rattle.im_words.specs.declared.Link.TheVariants.{Auto, Manual}
 
@@ -35,8 +36,19 @@ run_of rows = option_and_then (λ logs. option_map (λ link. Run logs link) (lin
 -- what the subcommand's name and matches ask for
 abbrev pub asked_of : Option (Text × List Row) → Option Asked
 asked_of None = None
-asked_of (Some p) = if bytes_eq p.0 (codes "run") then run_of p.1 else None
+asked_of (Some p) = if bytes_eq p.0 (codes "run") then run_of p.1
+    else (if bytes_eq p.0 (codes "verify") then Some Verify else None)
+
+-- the words ask for a run
+abbrev pub AsksRun : List Text → Type 0
+AsksRun words = (logs : ℕ) × (link : Link)
+    × (asked_of (subcommand_of im_command words) ≡ Some (Run logs link))
+
+-- the words ask for `verify`
+abbrev pub AsksVerify : List Text → Type 0
+AsksVerify words = asked_of (subcommand_of im_command words) ≡ Some Verify
 
 -- a run has 1 to 4 logs
 abbrev pub HasFewLogs : Asked → Type 0
 HasFewLogs (Run logs link) = (1 ≤ logs) × (logs ≤ 4)
+HasFewLogs Verify = Unit {0}

@@ -1,12 +1,12 @@
 //! The words of the command line of the program `im`, read with `clap`:
-//! `im run [--logs 1..4] [--link auto|manual]`.
+//! `im run [--logs 1..4] [--link auto|manual]` and `im verify`.
 #![tactic(auto)]
 
 ghost use Rattle.std.specs.Prelude.{◌≡◌, ◌≢◌, ◌↔◌, ◌⊎◌, ℕ, IfOk, Some, map};
 ghost use Rattle.std.specs.String.{string_bytes};
 ghost use Rattle.clap.specs.Words.{kind_of, subcommand_of, subcommand_rows_of};
 ghost use Rattle.im_words.specs.Command.{IsFaultless, IsRefused, im_command};
-ghost use Rattle.im_words.specs.Form.{IsForm};
+ghost use Rattle.im_words.specs.Form.{IsForm, IsVerifyForm};
 ghost use Rattle.im_words.specs.Meaning.{HasFewLogs, asked_of};
 
 mod command;
@@ -21,7 +21,7 @@ use std::alloc::{AllocError, Global};
 /// When a run links its transactions into the tree.
 #[derive(Clone, Copy, Debug, PartialEq, Eq)]
 pub enum Link {
-    /// By itself, as they come.
+    /// By itself, as they come; so far at the lines of the script alone.
     Auto,
     /// Only where a line of the script asks for it.
     Manual,
@@ -32,6 +32,8 @@ pub enum Link {
 pub enum Asked {
     /// A run, with its number of logs, 1 to 4, and its link.
     Run { logs: u8, link: Link },
+    /// The client that checks the lines it is shown.
+    Verify,
 }
 
 /// Why the words got no answer.
@@ -91,11 +93,13 @@ pub fn read_words(alloc: Global, words: &[String]) -> Result<Asked, WordsError>
         → (result ≡ Err WordsError.Usage) ⊎ (result ≡ Err WordsError.Memory) }
     ensures faultless { IfOk result (λ asked. IsFaultless (map string_bytes words.now)) }
 
-    // Which answer comes, at all words and at words of the form.
+    // Which answer comes, at all words and at words of the forms.
     ensures asked { IfOk result (λ asked. asked_of (subcommand_of im_command
         (map string_bytes words.now)) ≡ Some asked) }
     ensures taken { (logs : ℕ) (link : Link) → IsForm (map string_bytes words.now) logs link
         → (result ≡ Ok (Asked.Run logs link)) ⊎ (result ≡ Err WordsError.Memory) }
+    ensures taken_verify { IsVerifyForm (map string_bytes words.now)
+        → (result ≡ Ok Asked.Verify) ⊎ (result ≡ Err WordsError.Memory) }
     ensures limits { IfOk result HasFewLogs }
 {
     let matches = matched(alloc, words)?;

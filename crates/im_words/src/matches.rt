@@ -55,6 +55,7 @@ pub(crate) fn asked(matches: &ArgMatches) -> Asked
 {
     match matches.subcommand() {
         Some(("run", matches)) => run(matches),
+        Some(("verify", _)) => Asked::Verify,
         _ => unreachable!(),
     }
 }

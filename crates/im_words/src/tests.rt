@@ -37,3 +37,14 @@ fn refuses_other_words(rt: HostRuntime) -> Result<(), Fail> {
     assert!(rt; answer(alloc, "im walk")? == Err(WordsError::Usage));
     Ok(())
 }
+
+#[test]
+fn takes_verify(rt: HostRuntime) -> Result<(), Fail> {
+    let alloc = rt.alloc();
+    assert!(rt; answer(alloc, "im verify")? == Ok(Asked::Verify));
+    assert!(rt; answer(alloc, "im verify x")? == Err(WordsError::Usage));
+    assert!(rt; answer(alloc, "im verify --logs 1")? == Err(WordsError::Usage));
+    assert!(rt; answer(alloc, "im verify verify")? == Err(WordsError::Usage));
+    assert!(rt; answer(alloc, "im Verify")? == Err(WordsError::Usage));
+    Ok(())
+}

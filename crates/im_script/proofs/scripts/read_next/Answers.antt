@@ -1,8 +1,8 @@
 use Rattle.std.proofs.Common.{subst}
 use Rattle.std.proofs.lemmas.Bool.{both_ways}
 use Rattle.im_cuts.proofs.FindsLemmas.{Finds-none, Finds-some}
-use Rattle.im_talk.specs.declared.lines.Line.{Line}
-use Rattle.im_talk.specs.Script.{MayFollow}
+use Rattle.im_script.specs.declared.commands.Line.{Line}
+use Rattle.im_script.specs.Script.{MayFollow}
 use Rattle.im_script.proofs.Unique.{line-unique}
 use Rattle.im_script.proofs.scripts.read_next.Goals as goal
 

@@ -7,16 +7,16 @@ returns-then-not-branch-clause-line c = λ k e.
     let some : 0 < length c.loop-rest.rest.now = grind arith in
     let number : k ≡ c.loop-rest.number + 1 = cc in
     refused-at c.args.octets.now c.loop-rest.number k number
-    (c.loop-rest.invariant.stops 0 (stops-here c.loop-rest.lines.items c.loop-rest.rest.now c.first_text.result.0.now c.first_text.result.1.now some c.first_text.ensures.first (c.in_ok-take_text.ensures.refused c.if-not-branch.true)))
+    (c.loop-rest.invariant.stops 0 (stops-here c.loop-rest.lines.items c.loop-rest.rest.now c.first_line.result.0.now c.first_line.result.1.now some c.first_line.ensures.first (c.in_ok-take_text.ensures.refused c.if-not-branch.true)))
 
 pub loop-rest-preserved : goal.loop-rest-preserved
 loop-rest-preserved c =
     let some : 0 < length c.loop-rest.rest.now = grind arith in
     let taken = c.in_ok-take_text.ensures.taken c.if-not-branch.false in
-    let fewer : c.loop-rest.number + 1 + length c.first_text.result.1.now ≤ length c.args.octets.now = omega arith in
+    let fewer : c.loop-rest.number + 1 + length c.first_line.result.1.now ≤ length c.args.octets.now = omega arith in
     record {
-      read = read-next c.loop-rest.lines.items c.take_text.new.lines.items c.args.octets.now c.loop-rest.rest.now c.first_text.result.0.now c.first_text.result.1.now some c.first_text.ensures.first taken c.loop-rest.invariant.read;
-      stops = stops-next c.loop-rest.lines.items c.take_text.new.lines.items c.args.octets.now c.loop-rest.rest.now c.first_text.result.0.now c.first_text.result.1.now c.loop-rest.number some c.first_text.ensures.first taken c.loop-rest.invariant.stops;
+      read = read-next c.loop-rest.lines.items c.take_text.new.lines.items c.args.octets.now c.loop-rest.rest.now c.first_line.result.0.now c.first_line.result.1.now some c.first_line.ensures.first taken c.loop-rest.invariant.read;
+      stops = stops-next c.loop-rest.lines.items c.take_text.new.lines.items c.args.octets.now c.loop-rest.rest.now c.first_line.result.0.now c.first_line.result.1.now c.loop-rest.number some c.first_line.ensures.first taken c.loop-rest.invariant.stops;
       few = fewer;
     }
 

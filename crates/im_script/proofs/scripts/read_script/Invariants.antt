@@ -1,6 +1,6 @@
 use Rattle.std.proofs.Common.{◌+◌, ◌≤◌, ℕ, List, length, ◌++◌}
-use Rattle.im_talk.specs.declared.lines.Line.{Line}
-use Rattle.im_talk.specs.Script.{IsScript, StopsAfter}
+use Rattle.im_script.specs.declared.commands.Line.{Line}
+use Rattle.im_script.specs.Script.{IsScript, StopsAfter}
 use Rattle.im_script.proofs.ScriptLemmas.{ScriptBehind, StopsBehind}
 use Rattle.im_script.proofs.scripts.read_script.Given as goal
 

@@ -2,7 +2,7 @@ use Rattle.std.proofs.Common.{◌≡◌, ◌==◌, ℕ, List, [], ◌∷◌, ◌
 use Rattle.std.proofs.lemmas.Bool.{both_ways}
 use Rattle.im_cuts.proofs.FindsLemmas.{Finds-none, Finds-some}
 use Rattle.im_draft.specs.declared.drafts.Draft.{Draft}
-use Rattle.im_talk.specs.Script.{AreFields}
+use Rattle.im_script.specs.Script.{AreFields}
 use Rattle.im_script.proofs.SetLemmas.{fields-bad-field, fields-unspaced, fields-next, refuse-next, fields-all}
 use Rattle.im_script.proofs.sets.read_fields.Goals as goal
 

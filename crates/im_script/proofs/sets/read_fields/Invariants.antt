@@ -1,6 +1,6 @@
 use Rattle.std.proofs.Common.{List, length, ◌++◌}
 use Rattle.im_draft.specs.declared.drafts.Draft.{Draft}
-use Rattle.im_talk.specs.Script.{AreFields}
+use Rattle.im_script.specs.Script.{AreFields}
 use Rattle.im_script.proofs.sets.read_fields.Given as goal
 
 abbrev pub invariant-loop-fields : goal.invariant-loop-fields

@@ -1,0 +1,76 @@
+//! Sinks, sources and keepers that fail under `verify`.
+
+use super::exchange::verify_with;
+use super::{Blocks, Narrow, run};
+use crate::status::Status;
+use im_digest::Sum;
+use im_edge::fused_keeper::FusedKeeper;
+use im_edge::keeper::{Keeper, MemKeeper};
+use im_edge::sink::Writing;
+use im_edge::source::Reading;
+use std::test::Fail;
+
+const THREE: &[u8] = b"a: set a=1 b=2 c=3\na: state\na: item 1 2\n";
+
+// `ok 2 state 1` and its LF have 13 octets, `ok 3 item 1 2` and its LF 14. A message is kept before its line
+// is written.
+#[test]
+fn a_sink_that_fails(rt: HostRuntime) -> Result<(), Fail> {
+    let cases = [
+        (0, Status::WriteFault, 1),
+        (12, Status::WriteFault, 1),
+        (13, Status::WriteFault, 2),
+        (26, Status::WriteFault, 2),
+        (27, Status::Ok, 2),
+    ];
+    let (_, report) = run(&rt, &Sum, THREE)?;
+    for (room, want, kept) in cases {
+        let mut source = Reading::new(report.as_slice());
+        let mut sink = Narrow { room, faults: 0 };
+        let mut keeper = MemKeeper::new(rt.alloc());
+        let status = verify_with(&rt, &Sum, &mut source, &mut sink, &mut keeper)?;
+        assert_eq!(rt; status, want);
+        assert_eq!(rt; keeper.lines(rt.alloc())?.len(), kept);
+    }
+    Ok(())
+}
+
+// The keeper is asked for its lines, and then for each accepted message; a call that fails ends the run, with
+// what was told before it.
+#[test]
+fn a_keeper_that_fails(rt: HostRuntime) -> Result<(), Fail> {
+    let cases: [(u64, Status, &[u8]); 4] = [
+        (0, Status::KeeperFault, b""),
+        (1, Status::KeeperFault, b""),
+        (2, Status::KeeperFault, b"ok 2 state 1\n"),
+        (3, Status::Ok, b"ok 2 state 1\nok 3 item 1 2\n"),
+    ];
+    let (_, report) = run(&rt, &Sum, THREE)?;
+    for (calls, want, told) in cases {
+        let mut source = Reading::new(report.as_slice());
+        let mut sink = Writing::new(Vec::new(rt.alloc()));
+        let mut keeper = FusedKeeper::new(MemKeeper::new(rt.alloc()), calls);
+        let status = verify_with(&rt, &Sum, &mut source, &mut sink, &mut keeper)?;
+        assert_eq!(rt; status, want);
+        assert_eq!(rt; sink.inner.as_slice(), told);
+    }
+    Ok(())
+}
+
+#[test]
+fn a_source_that_fails_or_is_too_long(rt: HostRuntime) -> Result<(), Fail> {
+    let cases = [(3, true, Status::ReadFault), (1 << 32, false, Status::Long)];
+    for (left, fails, want) in cases {
+        let mut source = Blocks {
+            left,
+            fails,
+            faults: 0,
+        };
+        let mut sink = Writing::new(Vec::new(rt.alloc()));
+        let mut keeper = MemKeeper::new(rt.alloc());
+        let status = verify_with(&rt, &Sum, &mut source, &mut sink, &mut keeper)?;
+        assert_eq!(rt; status, want);
+        assert!(rt; sink.inner.is_empty());
+    }
+    Ok(())
+}

@@ -1,0 +1,66 @@
+ghost use Rattle.std.specs.Prelude.{◌≡◌, ◌⊎◌, ℕ, ◌+◌, ◌<◌, [], length, IfSome, Some};
+ghost use Rattle.im_edge.specs.Counts.{Rose};
+ghost use Rattle.im_verify.specs.Judged.{StopsKept};
+ghost use Rattle.im_verify.specs.Runs.{BreaksInto, BreaksOff, Verifies};
+ghost use Rattle.im_verify.specs.declared.ended.Ended.TheVariants as ended;
+ghost use Rattle.im_app.specs.Fates.{HasVerdict};
+ghost use Rattle.im_app.specs.Statuses.{EndsVerify};
+
+use crate::status::Status;
+use im_digest::Hash32;
+use im_edge::keeper::Keeper;
+use im_edge::sink::Sink;
+use im_edge::source::Source;
+use im_verify::ended::Ended;
+use im_verify::verify::verify;
+use std::alloc::Global;
+
+/// Reads a stream to its end, judges its lines behind the kept ones, keeps what is accepted, and tells what
+/// became of each.
+pub(crate) fn verdict<H: Hash32, S: Source, K: Sink, P: Keeper>(
+    alloc: Global,
+    hash: &H,
+    source: &mut S,
+    sink: &mut K,
+    keeper: &mut P,
+) -> Status
+    ensures accepted { result ≡ Status.Ok → IfSome (S.left source.old) (λ stream. IfSome (P.kept keeper.old) (λ kept.
+        Verifies (H.digest hash.now) stream kept ended.Ok (K.written sink.old) (K.written sink.new) (P.kept keeper.new))) }
+    ensures refused { result ≡ Status.Refused → IfSome (S.left source.old) (λ stream. IfSome (P.kept keeper.old) (λ kept.
+        Verifies (H.digest hash.now) stream kept ended.Refused (K.written sink.old) (K.written sink.new) (P.kept keeper.new))) }
+    ensures into { result ≡ Status.WriteFault → IfSome (S.left source.old) (λ stream. IfSome (P.kept keeper.old) (λ kept.
+        BreaksInto (H.digest hash.now) stream kept (K.written sink.old) (K.written sink.new) (P.kept keeper.new))) }
+    ensures off { (result ≡ Status.KeeperFault) ⊎ (result ≡ Status.Memory) →
+        ((K.written sink.new ≡ K.written sink.old) × (P.kept keeper.new ≡ P.kept keeper.old))
+        ⊎ IfSome (S.left source.old) (λ stream. IfSome (P.kept keeper.old) (λ kept.
+        BreaksOff (H.digest hash.now) stream kept (K.written sink.old) (K.written sink.new) (P.kept keeper.new))) }
+    ensures nothing { (result ≡ Status.ReadFault) ⊎ ((result ≡ Status.Long) ⊎ ((k : ℕ) × (result ≡ Status.Kept k))) →
+        (sink.new ≡ sink.old) × (P.kept keeper.new ≡ P.kept keeper.old) }
+    ensures kept { (k : ℕ) → result ≡ Status.Kept k → IfSome (P.kept keeper.old) (λ kept.
+        (n : ℕ) × (k ≡ n + 1) × StopsKept (H.digest hash.now) kept n) }
+    ensures ends { EndsVerify result }
+    ensures never { result ≡ Status.Usage → ⊥ }
+    ensures long { result ≡ Status.Long → IfSome (S.left source.old) (λ stream. 67108864 < length stream) }
+    ensures emptied { (result ≡ Status.Ok) ⊎ ((result ≡ Status.WriteFault) ⊎ ((result ≡ Status.KeeperFault) ⊎ ((result ≡ Status.Refused) ⊎ ((k : ℕ) × (result ≡ Status.Kept k))))) →
+        IfSome (S.left source.old) (λ _. S.left source.new ≡ Some []) }
+    ensures read { result ≡ Status.ReadFault → Rose (S.faults source.old) (S.faults source.new) }
+    ensures write { result ≡ Status.WriteFault → Rose (K.faults sink.old) (K.faults sink.new) }
+    ensures keep { result ≡ Status.KeeperFault → Rose (P.faults keeper.old) (P.faults keeper.new) }
+    ensures source_count { (result ≡ Status.ReadFault → ⊥) → S.faults source.new ≡ S.faults source.old }
+    ensures sink_count { (result ≡ Status.WriteFault → ⊥) → K.faults sink.new ≡ K.faults sink.old }
+    ensures keeper_count { (result ≡ Status.KeeperFault → ⊥) → P.faults keeper.new ≡ P.faults keeper.old }
+    ensures fate { (Rose (S.faults source.old) (S.faults source.new) → ⊥) → (Rose (K.faults sink.old) (K.faults sink.new) → ⊥)
+        → (Rose (P.faults keeper.old) (P.faults keeper.new) → ⊥)
+        → IfSome (S.left source.old) (λ stream. IfSome (P.kept keeper.old) (HasVerdict (H.digest hash.now) result stream)) }
+{
+    match verify(alloc, hash, source, sink, keeper) {
+        Ended::Ok => Status::Ok,
+        Ended::Refused => Status::Refused,
+        Ended::ReadFault => Status::ReadFault,
+        Ended::WriteFault => Status::WriteFault,
+        Ended::KeeperFault => Status::KeeperFault,
+        Ended::Memory => Status::Memory,
+        Ended::Long => Status::Long,
+        Ended::Kept { line } => Status::Kept { line },
+    }
+}

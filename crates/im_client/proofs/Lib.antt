@@ -1,0 +1,3 @@
+pub mod NamedLemmas
+pub mod OutcomeLemmas
+pub mod TextLemmas

@@ -1,0 +1,3 @@
+pub mod LineChecks
+pub mod Folds
+pub mod Texts

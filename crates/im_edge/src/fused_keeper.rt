@@ -1,0 +1,66 @@
+ghost use Rattle.std.specs.Prelude.{◌≡◌, ◌+◌, ◌-◌, ◌↔◌, IsTrue};
+
+use crate::keeper::{Keeper, KeeperError, counted};
+use im_octet::octets::Octets;
+use std::alloc::Global;
+
+/// A keeper that passes so many calls on to another one, and fails at each call behind them: what a test
+/// makes of a keeper that breaks at a known call. A call that fails here doesn't reach the inner keeper.
+#[derive(Drop)]
+pub struct FusedKeeper<K> {
+    /// The keeper that keeps the lines.
+    pub inner: K,
+    /// How many calls are still passed on.
+    pub calls_left: u64,
+    /// How often this keeper itself has failed, at most `u64::MAX`.
+    pub failures: u64,
+}
+
+impl<K: Keeper> FusedKeeper<K> {
+    /// A keeper that passes `calls` calls on to `inner`.
+    pub fn new(inner: K, calls: u64) -> Self
+        ensures inner { result.inner ≡ inner }
+        ensures calls_left { result.calls_left ≡ calls }
+        ensures failures { result.failures ≡ 0 }
+    {
+        FusedKeeper {
+            inner,
+            calls_left: calls,
+            failures: 0,
+        }
+    }
+}
+
+impl<K: Keeper> Keeper for FusedKeeper<K> {
+    ghost kept = { λ keeper. K.kept keeper.inner };
+
+    ghost faults = { λ keeper. K.faults keeper.inner + keeper.failures };
+
+    fn lines(&mut self, alloc: Global) -> Result<Vec<Octets>, KeeperError> {
+        if is_blown(&mut self.calls_left) {
+            return counted(&mut self.failures, Err(KeeperError::Failed));
+        }
+        self.inner.lines(alloc)
+    }
+
+    fn append(&mut self, line: &[u8]) -> Result<(), KeeperError> {
+        if is_blown(&mut self.calls_left) {
+            return counted(&mut self.failures, Err(KeeperError::Failed));
+        }
+        self.inner.append(line)
+    }
+}
+
+// Whether no call is left, and else uses one up.
+fn is_blown(calls_left: &mut u64) -> bool
+    ensures blown { IsTrue result ↔ (calls_left.old ≡ 0) }
+    ensures used { calls_left.new ≡ calls_left.old - 1 }
+{
+    match calls_left.checked_sub(1) {
+        Some(left) => {
+            *calls_left = left;
+            false
+        }
+        None => true,
+    }
+}

@@ -1,0 +1,130 @@
+-- Which replies say that something was placed.
+use Rattle.std.proofs.Common.{◌≡◌, ◌==◌, ◌||◌, ℕ, List, ◌∷◌, Bool, true, false, codes, refl, sym, ◌∙◌, if◌then◌else◌, nat_lt, length}
+use Rattle.std.proofs.lemmas.Slice.Eq.{bytes_eq-Decides}
+use Rattle.std.specs.Str.{bytes_eq}
+use Rattle.im_cuts.proofs.CutLemmas.{heads-differ}
+use Rattle.im_digest.specs.Digests.{Hash}
+use Rattle.im_model.specs.History.{header_of, transaction_of}
+use Rattle.im_model.specs.declared.entries.Entry.{Entry}
+use Rattle.im_model.specs.declared.headers.Header.{Header}
+use Rattle.im_model.specs.declared.transactions.Transaction.{Transaction}
+use Rattle.im_draft.specs.declared.refusals.PrepareError.{PrepareError}
+use Rattle.im_draft.specs.declared.refusals.PrepareError.TheVariants.{Memory, NoEntries, TooMany, KeyEmpty, KeyLong, ValueLong, Twice}
+use Rattle.im_proof.specs.declared.proofs.DualProof.{DualProof}
+use Rattle.im_wire.specs.Texts.{text}
+use Rattle.im_wire.specs.declared.messages.Message.{Message}
+use Rattle.im_wire.specs.declared.messages.Message.TheVariants.{State, Dual, Advance, Item}
+use Rattle.im_report.specs.Replies.{advance_reply, anchor_between, between_reply, beyond_reply, dual_between, full_reply, header_reply, item_reply, item_shown, linked_reply, no_entry_reply, order_reply, prove_reply, refused_reply, reserved_reply, shown_header, state_reply, tx_reply}
+
+-- `tx <n>` says so
+pub tx-placed : (n : ℕ) → bytes_eq (tx_reply n) (tx_reply n) ≡ true
+tx-placed n = (bytes_eq-Decides (tx_reply n) (tx_reply n)).1 refl
+
+never : (b : Bool) → (b ≡ true → ⊥) → b ≡ false
+never true h = absurd (h refl)
+never false h = refl
+
+-- a reply that begins with another letter doesn't
+other-letter : (o : ℕ) (rest reply : List ℕ) (n : ℕ) → (o == 116) ≡ false → reply ≡ o ∷ rest → bytes_eq reply (tx_reply n) ≡ false
+unfolding tx_reply
+other-letter o rest reply n other e =
+    never (bytes_eq reply (tx_reply n)) (λ h. heads-differ o 116 rest _ other (sym e ∙ (bytes_eq-Decides reply (tx_reply n)).0 h))
+
+pub reserved-not-placed : (i n : ℕ) → bytes_eq (reserved_reply i) (tx_reply n) ≡ false
+unfolding reserved_reply
+reserved-not-placed i n = other-letter 114 _ (reserved_reply i) n refl refl
+
+pub full-not-placed : (n : ℕ) → bytes_eq full_reply (tx_reply n) ≡ false
+full-not-placed n = other-letter 102 _ full_reply n refl refl
+
+pub refused-not-placed : (why : PrepareError) (n : ℕ) → (why ≡ Memory → ⊥) → bytes_eq (refused_reply why) (tx_reply n) ≡ false
+unfolding refused_reply
+refused-not-placed Memory n h = absurd (h refl)
+refused-not-placed NoEntries n h = other-letter 114 _ (refused_reply NoEntries) n refl refl
+refused-not-placed (TooMany m) n h = other-letter 114 _ (refused_reply (TooMany m)) n refl refl
+refused-not-placed (KeyEmpty i) n h = other-letter 114 _ (refused_reply (KeyEmpty i)) n refl refl
+refused-not-placed (KeyLong i len) n h = other-letter 114 _ (refused_reply (KeyLong i len)) n refl refl
+refused-not-placed (ValueLong i len) n h = other-letter 114 _ (refused_reply (ValueLong i len)) n refl refl
+refused-not-placed (Twice i j) n h = other-letter 114 _ (refused_reply (Twice i j)) n refl refl
+
+shown-not-placed : (hash : Hash) (header : Header) (n : ℕ) → bytes_eq (shown_header hash header) (tx_reply n) ≡ false
+unfolding shown_header
+shown-not-placed hash header n = other-letter 104 _ (shown_header hash header) n refl refl
+
+beyond-not-placed : (m n : ℕ) → bytes_eq (beyond_reply m) (tx_reply n) ≡ false
+unfolding beyond_reply
+beyond-not-placed m n = other-letter 114 _ (beyond_reply m) n refl refl
+
+pub header-not-placed : (hash : Hash) (history : List Transaction) (k n : ℕ) → bytes_eq (header_reply hash history k) (tx_reply n) ≡ false
+unfolding header_reply
+header-not-placed hash history k n =
+    elim (k == 0) as (λ b. bytes_eq (if b then codes "refused order 0 0" else (if nat_lt (length history) k then beyond_reply (length history) else shown_header hash (header_of hash history k))) (tx_reply n) ≡ false) [
+      | true ↦ other-letter 114 _ (codes "refused order 0 0") n refl refl
+      | false ↦ elim (nat_lt (length history) k) as (λ b. bytes_eq (if b then beyond_reply (length history) else shown_header hash (header_of hash history k)) (tx_reply n) ≡ false) [
+        | true ↦ beyond-not-placed (length history) n
+        | false ↦ shown-not-placed hash (header_of hash history k) n
+      ]
+    ]
+
+-- a message begins with a brace
+message-not-placed : (m : Message) (n : ℕ) → bytes_eq (text m) (tx_reply n) ≡ false
+unfolding text
+message-not-placed (State header) n = other-letter 123 _ (text (State header)) n refl refl
+message-not-placed (Dual dual) n = other-letter 123 _ (text (Dual dual)) n refl refl
+message-not-placed (Advance dual anchor) n = other-letter 123 _ (text (Advance dual anchor)) n refl refl
+message-not-placed (Item dual entry index path) n = other-letter 123 _ (text (Item dual entry index path)) n refl refl
+
+pub state-not-placed : (hash : Hash) (history : List Transaction) (n : ℕ) → bytes_eq (state_reply hash history) (tx_reply n) ≡ false
+unfolding state_reply
+state-not-placed hash history n =
+    elim (length history == 0) as (λ b. bytes_eq (if b then codes "refused empty" else text (State (header_of hash history (length history)))) (tx_reply n) ≡ false) [
+      | true ↦ other-letter 114 _ (codes "refused empty") n refl refl
+      | false ↦ message-not-placed (State (header_of hash history (length history))) n
+    ]
+
+order-not-placed : (s t n : ℕ) → bytes_eq (order_reply s t) (tx_reply n) ≡ false
+unfolding order_reply
+order-not-placed s t n = other-letter 114 _ (order_reply s t) n refl refl
+
+-- what is shown between two transactions, or refused
+between-not-placed : (history : List Transaction) (s t n : ℕ) (shown : List ℕ) → bytes_eq shown (tx_reply n) ≡ false → bytes_eq (between_reply history s t shown) (tx_reply n) ≡ false
+between-not-placed history s t n shown h =
+    elim (s == 0 || nat_lt t s) as (λ b. bytes_eq (if b then order_reply s t else (if nat_lt (length history) t then beyond_reply (length history) else shown)) (tx_reply n) ≡ false) [
+      | true ↦ order-not-placed s t n
+      | false ↦ elim (nat_lt (length history) t) as (λ b. bytes_eq (if b then beyond_reply (length history) else shown) (tx_reply n) ≡ false) [
+        | true ↦ beyond-not-placed (length history) n
+        | false ↦ h
+      ]
+    ]
+
+pub prove-not-placed : (hash : Hash) (history : List Transaction) (s t n : ℕ) → bytes_eq (prove_reply hash history s t) (tx_reply n) ≡ false
+unfolding prove_reply
+prove-not-placed hash history s t n = between-not-placed history s t n (text (Dual (dual_between hash history s t))) (message-not-placed (Dual (dual_between hash history s t)) n)
+
+pub advance-not-placed : (hash : Hash) (history : List Transaction) (s t n : ℕ) → bytes_eq (advance_reply hash history s t) (tx_reply n) ≡ false
+unfolding advance_reply
+advance-not-placed hash history s t n =
+    let m : Message = Advance (dual_between hash history s t) (anchor_between hash history s t) in
+    between-not-placed history s t n (text m) (message-not-placed m n)
+
+no-entry-not-placed : (width n : ℕ) → bytes_eq (no_entry_reply width) (tx_reply n) ≡ false
+unfolding no_entry_reply
+no-entry-not-placed width n = other-letter 114 _ (no_entry_reply width) n refl refl
+
+shown-item-not-placed : (hash : Hash) (dual : DualProof) (entries : List Entry) (i n : ℕ) → bytes_eq (item_shown hash dual entries i) (tx_reply n) ≡ false
+unfolding item_shown
+shown-item-not-placed hash dual entries i n = message-not-placed _ n
+
+pub item-not-placed : (hash : Hash) (history : List Transaction) (t i s n : ℕ) → bytes_eq (item_reply hash history t i s) (tx_reply n) ≡ false
+unfolding item_reply
+item-not-placed hash history t i s n =
+    let entries : List Entry = (transaction_of history t).entries in
+    let dual : DualProof = dual_between hash history t s in
+    between-not-placed history t s n (if nat_lt i (length entries) then item_shown hash dual entries i else no_entry_reply (length entries))
+    (elim (nat_lt i (length entries)) as (λ b. bytes_eq (if b then item_shown hash dual entries i else no_entry_reply (length entries)) (tx_reply n) ≡ false) [
+      | true ↦ shown-item-not-placed hash dual entries i n
+      | false ↦ no-entry-not-placed (length entries) n
+    ])
+
+pub linked-not-placed : (n : ℕ) → bytes_eq linked_reply (tx_reply n) ≡ false
+linked-not-placed n = other-letter 108 _ linked_reply n refl refl

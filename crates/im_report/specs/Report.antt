@@ -1,0 +1,93 @@
+-- What a run of a script writes.
+use Rattle.std.specs.Prelude.{◌≡◌, ◌⊎◌, ℕ, ◌<◌, ◌≤◌, ◌+◌, ◌-◌, List, [], ◌∷◌, ◌++◌, length, take, drop, map, filter, min, Bool, IsTrue, All, AllPairs, Some, None, if◌then◌else◌, codes}
+use Rattle.std.specs.List.{flat_map, range_with_len}
+use Rattle.std.specs.Str.{bytes_eq}
+use Rattle.std.specs.Fmt.{decimal}
+use Rattle.im_digest.specs.Digests.{Hash}
+use Rattle.im_model.specs.History.{transaction_of, IsHistory}
+use Rattle.im_model.specs.declared.transactions.Transaction.{Transaction}
+use Rattle.im_draft.specs.Drafts.{entry_of, AreEntries, AreFree, IsReserved, Refuses}
+use Rattle.im_draft.specs.declared.drafts.Draft.{Draft}
+use Rattle.im_draft.specs.declared.refusals.PrepareError.{PrepareError}
+use Rattle.im_report.specs.Replies.{advance_reply, full_reply, header_reply, item_reply, linked_reply, prove_reply, refused_reply, reserved_reply, state_reply, tx_reply}
+use Rattle.im_script.specs.declared.commands.Line.{Line}
+use Rattle.im_script.specs.declared.commands.Command.{Command}
+use Rattle.im_script.specs.declared.commands.Command.TheVariants.{Set, Header, State, Prove, Advance, Item, Link}
+
+-- the reply to a set at n. A key that begins with octet 00 is refused first, then what is no
+-- transaction; then, after n transactions, that these are as many as there may be, and else number n
+-- has the entries that were asked for.
+abbrev pub IsSetAnswer : List Transaction → List Draft → ℕ → List ℕ → Type 0
+IsSetAnswer history drafts n reply =
+    ((i : ℕ) × IsReserved drafts i × (reply ≡ reserved_reply i))
+    ⊎ (AreFree drafts × (((why : PrepareError) × Refuses drafts why × (reply ≡ refused_reply why))
+    ⊎ (AreEntries drafts × (((n ≡ 1048576) × (reply ≡ full_reply))
+    ⊎ ((1 ≤ n) × ((transaction_of history n).entries ≡ map entry_of drafts) × (reply ≡ tx_reply n))))))
+
+-- the reply to a command at n: what it says of the first n transactions of the history
+abbrev pub IsAnswer : Hash → List Transaction → Command → ℕ → List ℕ → Type 0
+IsAnswer hash history (Set drafts) n reply = IsSetAnswer history drafts n reply
+IsAnswer hash history (Header k) n reply = reply ≡ header_reply hash (take n history) k
+IsAnswer hash history State n reply = reply ≡ state_reply hash (take n history)
+IsAnswer hash history (Prove s t) n reply = reply ≡ prove_reply hash (take n history) s t
+IsAnswer hash history (Advance s t) n reply = reply ≡ advance_reply hash (take n history) s t
+IsAnswer hash history (Item t i None) n reply = reply ≡ item_reply hash (take n history) t i n
+IsAnswer hash history (Item t i (Some s)) n reply = reply ≡ item_reply hash (take n history) t i s
+IsAnswer hash history (Link count) n reply = reply ≡ linked_reply
+
+-- a line, the number before its reply, and the reply
+pub record Answered : Type 0 where
+  pub line : Line
+  pub number : ℕ
+  pub reply : List ℕ
+
+-- a reply as it is written: `<session> <n> <reply>` and LF
+unfoldable pub reply_line : List ℕ → ℕ → List ℕ → List ℕ
+reply_line session n reply = session ++ codes " " ++ decimal n ++ codes " " ++ reply ++ codes "\n"
+
+-- the octets of an answered line
+abbrev pub written : Answered → List ℕ
+written a = reply_line a.line.session a.number a.reply
+
+-- the reply is `tx <n>` at its own number
+abbrev pub is_placed : Answered → Bool
+is_placed a = bytes_eq a.reply (tx_reply a.number)
+
+-- the least size of the tree behind a command at n: `link` raises it by its count, at most to n
+abbrev pub floor_by : Command → ℕ → ℕ → ℕ
+floor_by (Link count) n floor = min (floor + count) n
+floor_by (Set drafts) n floor = floor
+floor_by (Header k) n floor = floor
+floor_by State n floor = floor
+floor_by (Prove s t) n floor = floor
+floor_by (Advance s t) n floor = floor
+floor_by (Item t i under) n floor = floor
+
+-- the size of the tree behind some answered lines
+abbrev pub floor_after : ℕ → List Answered → ℕ
+floor_after floor [] = floor
+floor_after floor (a ∷ answers) = floor_after (floor_by a.line.command a.number floor) answers
+
+-- the size of the tree at each line that placed something
+abbrev pub floors : ℕ → List Answered → List ℕ
+floors floor [] = []
+floors floor (a ∷ answers) =
+    (if is_placed a then floor ∷ [] else []) ++ floors (floor_by a.line.command a.number floor) answers
+
+-- What is written for the lines of a script by one session that found the history h0 and left h, where
+-- lines alone link.
+pub record Report (hash : Hash) (h0 h : List Transaction) (lines : List Line) (octets : List ℕ) : Type 0 where
+  pub history : IsHistory h
+  pub answers : List Answered
+  -- one reply for each line, in the script's order
+  pub lines_are : map (λ a. a.line) answers ≡ lines
+  pub octets_are : octets ≡ flat_map written answers
+  pub each : All (λ a. IsAnswer hash h a.line.command a.number a.reply) answers
+  -- the transactions behind h0 and the lines that reply `tx` are one another's, by the number printed
+  pub begins : take (length h0) h ≡ h0
+  pub placed : map (λ a. a.number) (filter is_placed answers) ≡ range_with_len (length h0 + 1) (length h - length h0)
+  -- no number falls, and that of a `tx` is above each before it
+  pub within : All (λ a. (length h0 ≤ a.number) × (a.number ≤ length h)) answers
+  pub rising : AllPairs (λ a b. (a.number ≤ b.number) × (IsTrue (is_placed b) → a.number < b.number)) answers
+  -- each was placed over the tree that the lines before it had linked, from that of what was found on
+  pub floor : map (λ tx. tx.bl) (drop (length h0) h) ≡ floors (length h0) answers

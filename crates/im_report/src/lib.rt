@@ -1,0 +1,7 @@
+//! The report of a run: what each command is answered, and what a run of a script writes, as definitions
+//! in `specs/`, and the texts of replies.
+#![tactic(auto)]
+
+pub mod replies;
+#[cfg(test)]
+mod tests;

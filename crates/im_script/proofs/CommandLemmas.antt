@@ -1,0 +1,97 @@
+-- Commands by their words, and where a text is none.
+use Rattle.std.proofs.Common.{◌≡◌, ℕ, List, [], ◌++◌, codes, Option, Some, None, refl, subst, sym}
+use Rattle.im_cuts.specs.Finds.{Finds}
+use Rattle.im_cuts.specs.Words.{IsNumber}
+use Rattle.im_cuts.proofs.CutLemmas.{append-same, head-is, heads-differ}
+use Rattle.im_script.specs.declared.commands.Command.{Command}
+use Rattle.im_script.specs.declared.commands.Command.TheVariants.{Set, Header, State, Prove, Advance, Item, Link}
+use Rattle.im_script.specs.Script.{AreFields, AreNumbers, IsItem, IsCommand}
+use Rattle.im_script.specs.Arguments.{IsSet, IsHeader, IsState, IsProve, IsAdvance, IsItemCommand, IsLink}
+
+set-or-state : (a : List ℕ) → codes "set" ++ a ≡ codes "state" → ⊥
+set-or-state a e = heads-differ 101 116 _ _ refl (head-is 115 115 _ _ e).1
+
+state-or-set : (a b : List ℕ) → codes "state" ++ a ≡ codes "set" ++ b → ⊥
+state-or-set a b e = heads-differ 116 101 _ _ refl (head-is 115 115 _ _ e).1
+
+-- where no two numbers stand behind a word
+pub prove-no-numbers : (text : List ℕ) → ((numbers : ℕ × ℕ) → AreNumbers text numbers.0 numbers.1 → ⊥) → (c : Command) → IsProve text c → ⊥
+prove-no-numbers text none c h = none (h.0, h.1) h.3
+
+pub advance-no-numbers : (text : List ℕ) → ((numbers : ℕ × ℕ) → AreNumbers text numbers.0 numbers.1 → ⊥) → (c : Command) → IsAdvance text c → ⊥
+advance-no-numbers text none c h = none (h.0, h.1) h.3
+
+-- a command that begins with a word is that word's
+pub only-set : (rest : List ℕ) (c : Command) → IsCommand (codes "set" ++ rest) c → IsSet rest c
+only-set rest (Set drafts) h =
+    (drafts, refl, subst (λ (t : List ℕ). AreFields t drafts) (append-same (codes "set") h.0 rest (sym h.1)) h.2)
+only-set rest State h = absurd (set-or-state rest h)
+only-set rest other h = absurd (heads-differ 115 _ _ _ refl h.1)
+
+pub only-header : (rest : List ℕ) (c : Command) → IsCommand (codes "header " ++ rest) c → IsHeader rest c
+only-header rest (Header n) h =
+    (n, refl, subst (λ (t : List ℕ). IsNumber t n) (append-same (codes "header ") h.0 rest (sym h.1)) h.2)
+only-header rest State h = absurd (heads-differ 104 115 _ _ refl h)
+only-header rest other h = absurd (heads-differ 104 _ _ _ refl h.1)
+
+pub only-state : (rest : List ℕ) (c : Command) → IsCommand (codes "state" ++ rest) c → IsState rest c
+only-state rest State h = (refl, append-same (codes "state") rest [] h)
+only-state rest (Set drafts) h = absurd (state-or-set rest h.0 h.1)
+only-state rest other h = absurd (heads-differ 115 _ _ _ refl h.1)
+
+pub only-prove : (rest : List ℕ) (c : Command) → IsCommand (codes "prove " ++ rest) c → IsProve rest c
+only-prove rest (Prove m n) h =
+    (m, n, refl, subst (λ (t : List ℕ). AreNumbers t m n) (append-same (codes "prove ") h.0 rest (sym h.1)) h.2)
+only-prove rest State h = absurd (heads-differ 112 115 _ _ refl h)
+only-prove rest other h = absurd (heads-differ 112 _ _ _ refl h.1)
+
+pub only-advance : (rest : List ℕ) (c : Command) → IsCommand (codes "advance " ++ rest) c → IsAdvance rest c
+only-advance rest (Advance m n) h =
+    (m, n, refl, subst (λ (t : List ℕ). AreNumbers t m n) (append-same (codes "advance ") h.0 rest (sym h.1)) h.2)
+only-advance rest State h = absurd (heads-differ 97 115 _ _ refl h)
+only-advance rest other h = absurd (heads-differ 97 _ _ _ refl h.1)
+
+pub only-item : (rest : List ℕ) (c : Command) → IsCommand (codes "item " ++ rest) c → IsItemCommand rest c
+only-item rest (Item n i u) h =
+    (n, i, u, refl, subst (λ (t : List ℕ). IsItem t n i u) (append-same (codes "item ") h.0 rest (sym h.1)) h.2)
+only-item rest State h = absurd (heads-differ 105 115 _ _ refl h)
+only-item rest other h = absurd (heads-differ 105 _ _ _ refl h.1)
+
+pub only-link : (rest : List ℕ) (c : Command) → IsCommand (codes "link " ++ rest) c → IsLink rest c
+only-link rest (Link n) h =
+    (n, refl, subst (λ (t : List ℕ). IsNumber t n) (append-same (codes "link ") h.0 rest (sym h.1)) h.2)
+only-link rest State h = absurd (heads-differ 108 115 _ _ refl h)
+only-link rest other h = absurd (heads-differ 108 _ _ _ refl h.1)
+
+found : (word text rest : List ℕ) (P : Command → Type 0) → text ≡ word ++ rest → ((c : Command) → P c → IsCommand (word ++ rest) c) → ((c : Command) → IsCommand (word ++ rest) c → P c) → (o : Option Command) → Finds o P → Finds o (IsCommand text)
+found word text rest P e says only (Some c) h = subst (λ (t : List ℕ). IsCommand t c) (sym e) (says c h)
+found word text rest P e says only None h = λ c p. h c (only c (subst (λ (t : List ℕ). IsCommand t c) e p))
+
+-- what is read behind a word is what the command says
+pub found-set : (text rest : List ℕ) → text ≡ codes "set" ++ rest → (o : Option Command) → Finds o (IsSet rest) → Finds o (IsCommand text)
+found-set text rest e =
+    found (codes "set") text rest (IsSet rest) e (λ c h. subst (λ (d : Command). IsCommand (codes "set" ++ rest) d) (sym h.1) (rest, refl, h.2)) (only-set rest)
+
+pub found-header : (text rest : List ℕ) → text ≡ codes "header " ++ rest → (o : Option Command) → Finds o (IsHeader rest) → Finds o (IsCommand text)
+found-header text rest e =
+    found (codes "header ") text rest (IsHeader rest) e (λ c h. subst (λ (d : Command). IsCommand (codes "header " ++ rest) d) (sym h.1) (rest, refl, h.2)) (only-header rest)
+
+pub found-state : (text rest : List ℕ) → text ≡ codes "state" ++ rest → (o : Option Command) → Finds o (IsState rest) → Finds o (IsCommand text)
+found-state text rest e =
+    found (codes "state") text rest (IsState rest) e (λ c h. subst (λ (d : Command). IsCommand (codes "state" ++ rest) d) (sym h.0) (rw h.1 refl)) (only-state rest)
+
+pub found-prove : (text rest : List ℕ) → text ≡ codes "prove " ++ rest → (o : Option Command) → Finds o (IsProve rest) → Finds o (IsCommand text)
+found-prove text rest e =
+    found (codes "prove ") text rest (IsProve rest) e (λ c h. subst (λ (d : Command). IsCommand (codes "prove " ++ rest) d) (sym h.2) (rest, refl, h.3)) (only-prove rest)
+
+pub found-advance : (text rest : List ℕ) → text ≡ codes "advance " ++ rest → (o : Option Command) → Finds o (IsAdvance rest) → Finds o (IsCommand text)
+found-advance text rest e =
+    found (codes "advance ") text rest (IsAdvance rest) e (λ c h. subst (λ (d : Command). IsCommand (codes "advance " ++ rest) d) (sym h.2) (rest, refl, h.3)) (only-advance rest)
+
+pub found-item : (text rest : List ℕ) → text ≡ codes "item " ++ rest → (o : Option Command) → Finds o (IsItemCommand rest) → Finds o (IsCommand text)
+found-item text rest e =
+    found (codes "item ") text rest (IsItemCommand rest) e (λ c h. subst (λ (d : Command). IsCommand (codes "item " ++ rest) d) (sym h.3) (rest, refl, h.4)) (only-item rest)
+
+pub found-link : (text rest : List ℕ) → text ≡ codes "link " ++ rest → (o : Option Command) → Finds o (IsLink rest) → Finds o (IsCommand text)
+found-link text rest e =
+    found (codes "link ") text rest (IsLink rest) e (λ c h. subst (λ (d : Command). IsCommand (codes "link " ++ rest) d) (sym h.1) (rest, refl, h.2)) (only-link rest)

@@ -1,0 +1,39 @@
+ghost use Rattle.im_cuts.specs.Finds.{Finds};
+ghost use Rattle.im_script.specs.Script.{AreNumbers, IsUnder};
+ghost use Rattle.im_script.specs.Arguments.{IsIndex};
+
+use crate::fields::read_number;
+use im_cuts::{after, cut};
+
+// The two numbers that a text says, parted by one space.
+pub(crate) fn read_numbers(text: &[u8]) -> Option<(u64, u64)>
+    ensures { Finds result (λ numbers. AreNumbers text.now numbers.0 numbers.1) }
+{
+    let (front, back) = cut(text, b' ')?;
+    let first = read_number(front)?;
+    let second = read_number(back)?;
+    Some((first, second))
+}
+
+// The index, at most 2^32 - 1, that a text says.
+pub(crate) fn read_index(text: &[u8]) -> Option<u32>
+    ensures { Finds result (IsIndex text.now) }
+{
+    let number = read_number(text)?;
+    if number > u64::from(u32::MAX) {
+        return None;
+    }
+    Some(number as u32)
+}
+
+// The state that the end of an item names, ` @` and its number, or none where nothing is left.
+pub(crate) fn read_under(text: &[u8]) -> Option<Option<u64>>
+    ensures { Finds result (IsUnder text.now) }
+{
+    if text.is_empty() {
+        return Some(None);
+    }
+    let digits = after(text, b" @")?;
+    let number = read_number(digits)?;
+    Some(Some(number))
+}

@@ -1,0 +1,98 @@
+-- Ledgers grow by a transaction, and their trees are raised.
+use Rattle.std.proofs.Common.{◌≡◌, ◌<◌, ◌≤◌, length, ℕ, zero, suc, ◌+◌, ◌-◌, List, [], ◌∷◌, ◌++◌, take, refl, arith, ap, subst, ◌∙◌, sym, length-append, get_or, All}
+use Rattle.std.proofs.lemmas.List.{take-append-le, length-take-le}
+use Rattle.std.proofs.lemmas.List.Elements.{All-push}
+use Rattle.im_digest.specs.Digests.{Hash}
+use Rattle.im_model.specs.Headers.{alh}
+use Rattle.im_model.specs.History.{alhs_of, header_of, next_header, no_transaction, Follow, IsTransaction}
+use Rattle.im_model.specs.declared.headers.Header.{Header}
+use Rattle.im_model.specs.declared.transactions.Transaction.{Transaction}
+use Rattle.im_model.proofs.HistoryLemmas.{length-alhs_of}
+use Rattle.im_proof.specs.Built.{headers_of}
+use Rattle.im_proof.proofs.HeaderLemmas.{alhs-next, headers-length, headers-next, headers-nth}
+use Rattle.im_dual.specs.Kept.{header_at, no_header}
+use Rattle.im_session.specs.Ledgers.{Held, IsLedger}
+
+-- what is so of lists is so of equal ones
+held-same : (P : Held → Type 0) (a b : Held) → a.transactions ≡ b.transactions → a.headers ≡ b.headers → a.alhs ≡ b.alhs → a.tree ≡ b.tree → P b → P a
+held-same P a b transactions headers alhs tree p =
+    let A : List Transaction → Type 0 = λ txs. P (record { transactions = txs; headers = a.headers; alhs = a.alhs; tree = a.tree }) in
+    let B : List Header → Type 0 = λ hs. P (record { transactions = b.transactions; headers = hs; alhs = a.alhs; tree = a.tree }) in
+    let C : List (List ℕ) → Type 0 = λ ds. P (record { transactions = b.transactions; headers = b.headers; alhs = ds; tree = a.tree }) in
+    let D : List (List ℕ) → Type 0 = λ ds. P (record { transactions = b.transactions; headers = b.headers; alhs = b.alhs; tree = ds }) in
+    subst A (sym transactions) (subst B (sym headers) (subst C (sym alhs) (subst D (sym tree) p)))
+
+-- a transaction behind others that were placed over no larger trees
+pub Follow-onward : (n bl : ℕ) (txs : List Transaction) (tx : Transaction) → Follow n bl txs → bl ≤ tx.bl → All (λ t. t.bl ≤ tx.bl) txs → IsTransaction (n + length txs) tx → Follow n bl (txs ++ tx ∷ [])
+Follow-onward n bl [] tx f below each is =
+    let same : n + 0 ≡ n = omega arith in
+    let P : ℕ → Type 0 = λ m. IsTransaction m tx in
+    (subst P same is, below, tt)
+Follow-onward n bl (t ∷ txs) tx f below each is =
+    let same : n + suc (length txs) ≡ n + 1 + length txs = omega arith in
+    let P : ℕ → Type 0 = λ m. IsTransaction m tx in
+    let head : t.bl ≤ tx.bl = each 0 t (omega arith) in
+    (f.0, f.1, Follow-onward (n + 1) t.bl txs tx f.2 head (λ i d h. each (suc i) d (omega arith)) (subst P same is))
+
+-- the lists with those of one transaction more
+abbrev pub grown_by : Hash → Held → Transaction → Held
+grown_by hash held tx = record {
+  transactions = held.transactions ++ tx ∷ [];
+  headers = held.headers ++ next_header hash held.alhs tx ∷ [];
+  alhs = held.alhs ++ alh hash (next_header hash held.alhs tx) ∷ [];
+  tree = held.tree;
+}
+
+-- a ledger grows by a transaction over its tree
+pub ledger-grown : (hash : Hash) (held : Held) (tx : Transaction) → IsLedger hash held → length held.transactions < 1048576 → IsTransaction (length held.transactions) tx → tx.bl ≡ length held.tree
+    → IsLedger hash (grown_by hash held tx)
+ledger-grown hash held tx l room is over =
+    let one : List Transaction = tx ∷ [] in
+    let size : length (held.transactions ++ one) ≡ length held.transactions + 1 = length-append held.transactions one in
+    let within : length held.tree ≤ length held.transactions = l.within in
+    let count : length held.alhs ≡ length held.transactions = ap length l.alhs ∙ length-alhs_of hash held.transactions in
+    let fewer : length held.tree ≤ length held.alhs = omega arith in
+    let P : ℕ → Type 0 = λ n. All (λ t. t.bl ≤ n) held.transactions in
+    let Q : ℕ → Type 0 = λ n. IsTransaction n tx in
+    let place : length held.transactions ≡ 0 + length held.transactions = omega arith in
+    record {
+      history = record {
+        few = omega arith;
+        follow = Follow-onward 0 0 held.transactions tx l.history.follow (omega arith) (subst P (sym over) l.least) (subst Q place is);
+      };
+      headers = ap (λ (hs : List Header). hs ++ next_header hash held.alhs tx ∷ []) l.headers
+          ∙ ap (λ (ds : List (List ℕ)). headers_of hash held.transactions ++ next_header hash ds tx ∷ []) l.alhs
+          ∙ sym (headers-next hash held.transactions tx);
+      alhs = ap (λ (ds : List (List ℕ)). ds ++ alh hash (next_header hash ds tx) ∷ []) l.alhs ∙ sym (alhs-next hash held.transactions tx);
+      tree = l.tree ∙ sym (take-append-le (length held.tree) held.alhs (alh hash (next_header hash held.alhs tx) ∷ []) fewer);
+      within = omega arith;
+      least = All-push (λ (t : Transaction). t.bl ≤ length held.tree) held.transactions tx l.least (omega arith);
+    }
+
+-- so does one whose lists grew by the transaction, its header and its Alh
+pub ledger-placed : (hash : Hash) (before after : Held) (tx : Transaction) → IsLedger hash before → length before.transactions < 1048576 → IsTransaction (length before.transactions) tx → tx.bl ≡ length before.tree
+    → after.transactions ≡ before.transactions ++ tx ∷ [] → after.headers ≡ before.headers ++ next_header hash before.alhs tx ∷ []
+    → after.alhs ≡ before.alhs ++ alh hash (next_header hash before.alhs tx) ∷ [] → after.tree ≡ before.tree → IsLedger hash after
+ledger-placed hash before after tx l room is over transactions headers alhs tree =
+    held-same (IsLedger hash) after (grown_by hash before tx) transactions headers alhs tree (ledger-grown hash before tx l room is over)
+
+-- there is a header for each transaction
+pub headers-counted : (hash : Hash) (held : Held) → IsLedger hash held → length held.headers ≡ length held.transactions
+headers-counted hash held l = ap length l.headers ∙ headers-length hash held.transactions
+
+-- a header tells the tree of its transaction
+tree-told : (hash : Hash) (alhs : List (List ℕ)) (tx : Transaction) → (next_header hash alhs tx).bl_tx_id ≡ tx.bl
+unfolding next_header
+tree-told hash alhs tx = refl
+
+-- no header has a larger tree than the ledger
+pub trees-within : (hash : Hash) (held : Held) (t : ℕ) → IsLedger hash held → 1 ≤ t → t ≤ length held.transactions → (header_at held.headers t).bl_tx_id ≤ length held.tree
+trees-within hash held t l some within =
+    let h : List Transaction = held.transactions in
+    let tx : Transaction = get_or h (t - 1) no_transaction in
+    let kept : header_at held.headers t ≡ header_of hash h t =
+    ap (λ (hs : List Header). get_or hs (t - 1) no_header) l.headers ∙ headers-nth hash h t no_header some within in
+    let told : (header_at held.headers t).bl_tx_id ≡ tx.bl =
+    ap (λ (x : Header). x.bl_tx_id) kept ∙ tree-told hash (alhs_of hash (take (t - 1) h)) tx in
+    let least : tx.bl ≤ length held.tree = l.least (t - 1) no_transaction (omega arith) in
+    omega arith

@@ -1,0 +1,193 @@
+-- What one answered line does to the ledger and to the report.
+use Rattle.std.proofs.Common.{◌≡◌, ◌≤◌, length, ℕ, ◌+◌, ◌-◌, ℤ, List, [], ◌∷◌, ◌++◌, refl, arith, ap, subst, ◌∙◌, sym, get_or, length-append, append-nil, All, AllPairs, Option, Some, None, false, map, take, unwrap_or, min, if◌then◌else◌, inl, inr, FitsSigned}
+use Rattle.std.specs.Int.{w64}
+use Rattle.std.specs.Str.{bytes_eq}
+use Rattle.std.proofs.Math.Seq.{get_or-append_seam, take-length}
+use Rattle.std.proofs.lemmas.List.Elements.{All-append, All-push}
+use Rattle.im_digest.specs.Digests.{Hash}
+use Rattle.im_model.specs.History.{no_transaction, IsEntry, IsHistory, IsTransaction}
+use Rattle.im_model.specs.declared.entries.Entry.{Entry}
+use Rattle.im_model.specs.declared.transactions.Transaction.{Transaction}
+use Rattle.im_draft.specs.Drafts.{entry_of, AreEntries, AreFree, IsReserved, Refuses}
+use Rattle.im_draft.specs.declared.drafts.Draft.{Draft}
+use Rattle.im_draft.specs.declared.refusals.PrepareError.{PrepareError}
+use Rattle.im_tx.specs.Asked.{Asked, IsAsked}
+use Rattle.im_report.specs.Replies.{advance_reply, full_reply, header_reply, item_reply, linked_reply, prove_reply, refused_reply, reserved_reply, state_reply, tx_reply}
+use Rattle.im_report.specs.Report.{Answered, IsAnswer, floor_by, written}
+use Rattle.im_script.specs.declared.commands.Line.{Line}
+use Rattle.im_script.specs.declared.commands.Command.{Command}
+use Rattle.im_script.specs.declared.commands.Command.TheVariants.{Set, Header, State, Prove, Advance, Item, Link}
+use Rattle.im_report.proofs.PlacedLemmas.{advance-not-placed, full-not-placed, header-not-placed, item-not-placed, linked-not-placed, prove-not-placed, refused-not-placed, reserved-not-placed, state-not-placed, tx-placed}
+use Rattle.im_report.proofs.ReportLemmas.{Standing, Standing-next}
+use Rattle.im_session.specs.Ledgers.{Held, IsLedger}
+use Rattle.im_session.specs.Turns.{Answers, HasTime, Placed, Turn}
+
+-- a transaction of prepared entries lies within the limits behind others, over a tree of some of them
+pub asked-transaction : (before : ℕ) (asked : Asked) (tx : Transaction) → IsAsked asked → tx.entries ≡ asked.entries → tx.bl ≤ before → FitsSigned w64 tx.ts → IsTransaction before tx
+asked-transaction before asked tx is writes linked time =
+    let E : List Entry → Type 0 = λ es. All IsEntry es in
+    let D : List Entry → Type 0 = λ es. AllPairs (λ a b. a.key ≡ b.key → ⊥) es in
+    let size : length tx.entries ≡ length asked.entries = ap length writes in
+    let some : 1 ≤ length asked.entries = is.some in
+    let few : length asked.entries ≤ 1024 = is.few in
+    record {
+      some = omega arith;
+      few = omega arith;
+      entries = subst E (sym writes) is.each;
+      distinct = subst D (sym writes) is.distinct;
+      linked = linked;
+      timed = time;
+    }
+
+-- a reply that places nothing answers over the history as it stands
+pub kept-answers : (hash : Hash) (constant : Option ℤ) (command : Command) (before after : Held) (reply : List ℕ)
+    → after.transactions ≡ before.transactions → IsLedger hash after → IsAnswer hash before.transactions command (length before.transactions) reply
+    → bytes_eq reply (tx_reply (length before.transactions)) ≡ false → length after.tree ≡ floor_by command (length before.transactions) (length before.tree)
+    → Answers hash constant command before after reply
+kept-answers hash constant command before after reply same l answer kept floor =
+    let A : List Transaction → Type 0 = λ txs. IsAnswer hash txs command (length txs) reply in
+    record {
+      more = [];
+      grown = same ∙ sym (append-nil before.transactions);
+      ledger = l;
+      answer = subst A (sym same) answer;
+      count = sym (ap (λ b. if b then 1 else 0) (ap (λ (txs : List Transaction). bytes_eq reply (tx_reply (length txs))) same ∙ kept));
+      timed = λ i d w. absurd (omega arith);
+      over = λ i d w. absurd (omega arith);
+      floor = floor ∙ ap (λ (txs : List Transaction). floor_by command (length txs) (length before.tree)) (sym same);
+    }
+
+-- a reply that is read off the whole history, and says nothing of a transaction that was placed
+read-answers : (hash : Hash) (constant : Option ℤ) (command : Command) (read : List Transaction → List ℕ) (held : Held) (reply : List ℕ)
+    → ((txs : List Transaction) (n : ℕ) → reply ≡ read (take n txs) → IsAnswer hash txs command n reply)
+    → ((txs : List Transaction) (n : ℕ) → bytes_eq (read txs) (tx_reply n) ≡ false)
+    → ((n : ℕ) → floor_by command n (length held.tree) ≡ length held.tree)
+    → IsLedger hash held → reply ≡ read held.transactions → Answers hash constant command held held reply
+read-answers hash constant command read held reply said kept floor l e =
+    let h : List Transaction = held.transactions in
+    kept-answers hash constant command held held reply refl l
+    (said h (length h) (e ∙ ap read (sym (take-length h))))
+    (ap (λ (r : List ℕ). bytes_eq r (tx_reply (length h))) e ∙ kept h (length h))
+    (sym (floor (length h)))
+
+pub header-answers : (hash : Hash) (constant : Option ℤ) (k : ℕ) (held : Held) (reply : List ℕ)
+    → IsLedger hash held → reply ≡ header_reply hash held.transactions k → Answers hash constant (Header k) held held reply
+header-answers hash constant k held reply =
+    read-answers hash constant (Header k) (λ txs. header_reply hash txs k) held reply (λ txs n e. e) (λ txs n. header-not-placed hash txs k n) (λ n. refl)
+
+pub state-answers : (hash : Hash) (constant : Option ℤ) (held : Held) (reply : List ℕ)
+    → IsLedger hash held → reply ≡ state_reply hash held.transactions → Answers hash constant State held held reply
+state-answers hash constant held reply =
+    read-answers hash constant State (state_reply hash) held reply (λ txs n e. e) (λ txs n. state-not-placed hash txs n) (λ n. refl)
+
+pub prove-answers : (hash : Hash) (constant : Option ℤ) (s t : ℕ) (held : Held) (reply : List ℕ)
+    → IsLedger hash held → reply ≡ prove_reply hash held.transactions s t → Answers hash constant (Prove s t) held held reply
+prove-answers hash constant s t held reply =
+    read-answers hash constant (Prove s t) (λ txs. prove_reply hash txs s t) held reply (λ txs n e. e) (λ txs n. prove-not-placed hash txs s t n) (λ n. refl)
+
+pub advance-answers : (hash : Hash) (constant : Option ℤ) (s t : ℕ) (held : Held) (reply : List ℕ)
+    → IsLedger hash held → reply ≡ advance_reply hash held.transactions s t → Answers hash constant (Advance s t) held held reply
+advance-answers hash constant s t held reply =
+    read-answers hash constant (Advance s t) (λ txs. advance_reply hash txs s t) held reply (λ txs n e. e) (λ txs n. advance-not-placed hash txs s t n) (λ n. refl)
+
+-- under a state that is named
+item-answers-named : (hash : Hash) (constant : Option ℤ) (t i s : ℕ) (held : Held) (reply : List ℕ)
+    → IsLedger hash held → reply ≡ item_reply hash held.transactions t i s → Answers hash constant (Item t i (Some s)) held held reply
+item-answers-named hash constant t i s held reply =
+    read-answers hash constant (Item t i (Some s)) (λ txs. item_reply hash txs t i s) held reply (λ txs n e. e) (λ txs n. item-not-placed hash txs t i s n) (λ n. refl)
+
+-- under the last state
+item-answers-last : (hash : Hash) (constant : Option ℤ) (t i : ℕ) (held : Held) (reply : List ℕ)
+    → IsLedger hash held → reply ≡ item_reply hash held.transactions t i (length held.transactions) → Answers hash constant (Item t i None) held held reply
+item-answers-last hash constant t i held reply l e =
+    let h : List Transaction = held.transactions in
+    kept-answers hash constant (Item t i None) held held reply refl l
+    (e ∙ ap (λ (txs : List Transaction). item_reply hash txs t i (length h)) (sym (take-length h)))
+    (ap (λ (r : List ℕ). bytes_eq r (tx_reply (length h))) e ∙ item-not-placed hash h t i (length h) (length h))
+    refl
+
+pub item-answers : (hash : Hash) (constant : Option ℤ) (t i : ℕ) (under : Option ℕ) (held : Held) (reply : List ℕ)
+    → IsLedger hash held → reply ≡ item_reply hash held.transactions t i (unwrap_or under (length held.transactions)) → Answers hash constant (Item t i under) held held reply
+item-answers hash constant t i None held reply l e = item-answers-last hash constant t i held reply l e
+item-answers hash constant t i (Some s) held reply l e = item-answers-named hash constant t i s held reply l e
+
+-- the tree was raised
+pub link-answers : (hash : Hash) (constant : Option ℤ) (count : ℕ) (before after : Held) (reply : List ℕ)
+    → after.transactions ≡ before.transactions → length after.tree ≡ min (length before.tree + count) (length before.transactions) → IsLedger hash after → reply ≡ linked_reply
+    → Answers hash constant (Link count) before after reply
+link-answers hash constant count before after reply same size l e =
+    let n : ℕ = length before.transactions in
+    kept-answers hash constant (Link count) before after reply same l e
+    (ap (λ (r : List ℕ). bytes_eq r (tx_reply n)) e ∙ linked-not-placed n) size
+
+-- a placed transaction answers a set
+pub placed-answers : (hash : Hash) (constant : Option ℤ) (drafts : List Draft) (before after : Held) (reply : List ℕ)
+    → AreFree drafts → AreEntries drafts → Placed hash constant (map entry_of drafts) before after reply → Answers hash constant (Set drafts) before after reply
+placed-answers hash constant drafts before after reply free are p =
+    let h : List Transaction = before.transactions in
+    let one : List Transaction = p.tx ∷ [] in
+    let size : length after.transactions ≡ length h + 1 = ap length p.grown ∙ length-append h one in
+    let place : length after.transactions - 1 ≡ length h = omega arith in
+    let last : get_or after.transactions (length after.transactions - 1) no_transaction ≡ p.tx =
+    ap (λ i. get_or after.transactions i no_transaction) place
+    ∙ ap (λ (hs : List Transaction). get_or hs (length h) no_transaction) p.grown ∙ get_or-append_seam h p.tx [] no_transaction in
+    record {
+      more = one;
+      grown = p.grown;
+      ledger = p.ledger;
+      answer = inr (free, inr (are, inr (omega arith, ap (λ (t : Transaction). t.entries) last ∙ p.writes, p.told)));
+      count = sym (ap (λ b. if b then 1 else 0) (ap (λ (r : List ℕ). bytes_eq r (tx_reply (length after.transactions))) p.told ∙ tx-placed (length after.transactions)));
+      timed = All-push (HasTime constant) [] p.tx (λ i d w. absurd (omega arith)) p.timed;
+      over = All-push (λ (tx : Transaction). tx.bl ≡ length before.tree) [] p.tx (λ i d w. absurd (omega arith)) p.over;
+      floor = ap length p.tree;
+    }
+
+-- a key that begins with octet 00 is refused
+pub reserved-answers : (hash : Hash) (constant : Option ℤ) (drafts : List Draft) (i : ℕ) (held : Held) (reply : List ℕ)
+    → IsLedger hash held → IsReserved drafts i → reply ≡ reserved_reply i → Answers hash constant (Set drafts) held held reply
+reserved-answers hash constant drafts i held reply l is e =
+    let n : ℕ = length held.transactions in
+    kept-answers hash constant (Set drafts) held held reply refl l (inl (i, is, e))
+    (ap (λ (r : List ℕ). bytes_eq r (tx_reply n)) e ∙ reserved-not-placed i n) refl
+
+-- drafts that are no transaction are refused
+pub refused-answers : (hash : Hash) (constant : Option ℤ) (drafts : List Draft) (why : PrepareError) (held : Held) (reply : List ℕ)
+    → IsLedger hash held → AreFree drafts → Refuses drafts why → reply ≡ refused_reply why → Answers hash constant (Set drafts) held held reply
+refused-answers hash constant drafts why held reply l free refuses e =
+    let n : ℕ = length held.transactions in
+    let P : PrepareError → Type 0 = λ w. Refuses drafts w in
+    kept-answers hash constant (Set drafts) held held reply refl l (inr (free, inl (why, refuses, e)))
+    (ap (λ (r : List ℕ). bytes_eq r (tx_reply n)) e ∙ refused-not-placed why n (λ m. subst P m refuses)) refl
+
+-- a full history refuses all else
+pub full-answers : (hash : Hash) (constant : Option ℤ) (drafts : List Draft) (held : Held) (reply : List ℕ)
+    → IsLedger hash held → 1048576 ≤ length held.transactions → AreFree drafts → AreEntries drafts → reply ≡ full_reply → Answers hash constant (Set drafts) held held reply
+full-answers hash constant drafts held reply l full free are e =
+    let n : ℕ = length held.transactions in
+    let few : n ≤ 1048576 = l.history.few in
+    let count : n ≡ 1048576 = omega arith in
+    kept-answers hash constant (Set drafts) held held reply refl l (inr (free, inr (are, inl (count, e))))
+    (ap (λ (r : List ℕ). bytes_eq r (tx_reply n)) e ∙ full-not-placed n) refl
+
+-- the report grows by the line
+pub turn-report : (hash : Hash) (constant : Option ℤ) (lines : List Line) (line : Line) (before after : Held) (old new : List ℕ)
+    → Standing hash [] before.transactions lines old (length before.tree) → Turn hash constant line before after old new
+    → Standing hash [] after.transactions (lines ++ line ∷ []) new (length after.tree)
+turn-report hash constant lines line before after old new r t =
+    let a : Answers hash constant line.command before after t.reply = t.answers in
+    let h : List Transaction = before.transactions ++ a.more in
+    let said : Answered = record { line = line; number = length after.transactions; reply = t.reply } in
+    let P : List Transaction → Type 0 = λ txs. Standing hash [] txs (lines ++ line ∷ []) new (length after.tree) in
+    let Q : List ℕ → Type 0 = λ o. Standing hash [] h (lines ++ line ∷ []) o (length after.tree) in
+    let R : ℕ → Type 0 = λ n. Standing hash [] h (lines ++ line ∷ []) (old ++ written said) n in
+    let A : List Transaction → Type 0 = λ txs. IsAnswer hash txs line.command (length after.transactions) t.reply in
+    let H : List Transaction → Type 0 = λ txs. IsHistory txs in
+    subst P (sym a.grown) (subst Q (sym t.written) (subst R (sym a.floor)
+    (Standing-next hash [] before.transactions a.more lines old (length before.tree) said r (subst A a.grown a.answer) (ap length a.grown) a.count a.over (subst H a.grown a.ledger.history))))
+
+-- each new transaction has the clock's time
+pub turn-timed : (hash : Hash) (constant : Option ℤ) (line : Line) (before after : Held) (old new : List ℕ)
+    → Turn hash constant line before after old new → All (HasTime constant) before.transactions → All (HasTime constant) after.transactions
+turn-timed hash constant line before after old new t timed =
+    let P : List Transaction → Type 0 = λ txs. All (HasTime constant) txs in
+    subst P (sym t.answers.grown) (All-append (HasTime constant) before.transactions t.answers.more timed t.answers.timed)

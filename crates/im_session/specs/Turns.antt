@@ -1,0 +1,44 @@
+-- What answering one line does to the ledger.
+use Rattle.std.specs.Prelude.{◌≡◌, ℤ, ℕ, List, [], ◌∷◌, ◌++◌, length, All, Option, IfSome, if◌then◌else◌}
+use Rattle.std.specs.Str.{bytes_eq}
+use Rattle.im_digest.specs.Digests.{Hash}
+use Rattle.im_model.specs.declared.entries.Entry.{Entry}
+use Rattle.im_model.specs.declared.transactions.Transaction.{Transaction}
+use Rattle.im_report.specs.Replies.{tx_reply}
+use Rattle.im_report.specs.Report.{IsAnswer, floor_by, reply_line}
+use Rattle.im_script.specs.declared.commands.Line.{Line}
+use Rattle.im_script.specs.declared.commands.Command.{Command}
+use Rattle.im_session.specs.Ledgers.{Held, IsLedger}
+
+-- a transaction has the clock's time, where the clock tells it
+abbrev pub HasTime : Option ℤ → Transaction → Type 0
+HasTime constant tx = IfSome constant (λ time. tx.ts ≡ time)
+
+-- a transaction of these entries was placed behind the history, over the tree as it was
+pub record Placed (hash : Hash) (constant : Option ℤ) (entries : List Entry) (before after : Held) (reply : List ℕ) : Type 0 where
+  pub tx : Transaction
+  pub writes : tx.entries ≡ entries
+  pub timed : HasTime constant tx
+  pub over : tx.bl ≡ length before.tree
+  pub grown : after.transactions ≡ before.transactions ++ tx ∷ []
+  pub tree : after.tree ≡ before.tree
+  pub ledger : IsLedger hash after
+  pub told : reply ≡ tx_reply (length after.transactions)
+
+-- a command was answered by this reply: what it placed stands behind the history, over the tree as it was,
+-- and the tree is as large as the command makes it
+pub record Answers (hash : Hash) (constant : Option ℤ) (command : Command) (before after : Held) (reply : List ℕ) : Type 0 where
+  pub more : List Transaction
+  pub grown : after.transactions ≡ before.transactions ++ more
+  pub ledger : IsLedger hash after
+  pub answer : IsAnswer hash after.transactions command (length after.transactions) reply
+  pub count : length more ≡ (if bytes_eq reply (tx_reply (length after.transactions)) then 1 else 0)
+  pub timed : All (HasTime constant) more
+  pub over : All (λ tx. tx.bl ≡ length before.tree) more
+  pub floor : length after.tree ≡ floor_by command (length after.transactions) (length before.tree)
+
+-- a line was answered, and its reply written behind the others
+pub record Turn (hash : Hash) (constant : Option ℤ) (line : Line) (before after : Held) (old new : List ℕ) : Type 0 where
+  pub reply : List ℕ
+  pub answers : Answers hash constant line.command before after reply
+  pub written : new ≡ old ++ reply_line line.session (length after.transactions) reply

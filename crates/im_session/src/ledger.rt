@@ -1,0 +1,148 @@
+ghost use Rattle.std.specs.Prelude.{◌≡◌, ◌≤◌, length, take, OnOk};
+
+use im_atree::trees::Tree;
+use im_digest::{D32, Hash32};
+use im_header::alh;
+use im_model::headers::Header;
+use im_model::transactions::Transaction;
+use im_plain::history::header_after;
+use std::alloc::{AllocError, Global};
+use std::marker::Model;
+
+/// What a session has of its history: the transactions, the header and the Alh of each, and the tree of
+/// the first of these Alh. A clause sees the lists.
+#[derive(Drop)]
+pub struct Ledger {
+    transactions: Vec<Transaction>,
+    headers: Vec<Header>,
+    alhs: Vec<D32>,
+    tree: Tree,
+}
+
+impl Model for Ledger {
+    ghost use Rattle.im_session.specs.Ledgers.{Held};
+
+    ghost Value = { Held };
+
+    ghost view = { λ s. record { transactions = s.transactions.items; headers = s.headers.items; alhs = s.alhs.items; tree = s.tree } };
+}
+
+impl Ledger {
+    ghost use Rattle.std.specs.Prelude.{◌≡◌, ◌+◌, ◌<◌, ◌≤◌, [], ◌∷◌, ◌++◌, length, min, OnOk};
+    ghost use Rattle.im_digest.specs.Digests.{Hash};
+    ghost use Rattle.im_model.specs.History.{header_of, transaction_of, IsTransaction};
+    ghost use Rattle.im_session.specs.Ledgers.{IsLedger};
+
+    /// The ledger of the empty history. It takes no memory.
+    pub fn new(alloc: Global) -> Self
+        ensures ledger { (hash : Hash) → IsLedger hash result }
+        ensures transactions { result.transactions ≡ [] }
+        ensures tree { result.tree ≡ [] }
+    {
+        Ledger {
+            transactions: Vec::new(alloc),
+            headers: Vec::new(alloc),
+            alhs: Vec::new(alloc),
+            tree: Tree::new(alloc),
+        }
+    }
+
+    /// The number of transactions.
+    pub fn count(&self) -> u64
+        ensures { result ≡ length self.now.transactions }
+    {
+        self.transactions.len() as u64
+    }
+
+    /// Lends transaction k, from 1.
+    pub fn transaction(&self, k: u64) -> &Transaction
+        requires first { 1 ≤ k }
+        requires last { k ≤ length self.now.transactions }
+        ensures { result.now ≡ transaction_of self.now.transactions k }
+    {
+        &self.transactions[k as usize - 1]
+    }
+
+    /// Lends the header of transaction k, from 1.
+    pub fn header(&self, k: u64) -> &Header
+        requires ledger { (hash : Hash) × IsLedger hash self.now }
+        requires first { 1 ≤ k }
+        requires last { k ≤ length self.now.transactions }
+        ensures { (hash : Hash) → IsLedger hash self.now → result.now ≡ header_of hash self.now.transactions k }
+    {
+        &self.headers[k as usize - 1]
+    }
+
+    /// Lends the headers, that of transaction k at place k - 1.
+    pub fn headers(&self) -> &[Header]
+        ensures { result.now ≡ self.now.headers }
+    {
+        self.headers.as_slice()
+    }
+
+    /// Lends the tree.
+    pub fn tree(&self) -> &Tree
+        ensures { result.now ≡ self.now.tree }
+    {
+        &self.tree
+    }
+
+    /// Places a transaction behind the others. It hashes its entries, its header and the tree, and nothing
+    /// else. Its only error is want of memory.
+    pub fn place<H: Hash32>(
+        &mut self,
+        alloc: Global,
+        hash: &H,
+        tx: Transaction,
+    ) -> Result<(), AllocError>
+        requires ledger { IsLedger (H.digest hash.now) self.old }
+        requires room { length self.old.transactions < 1048576 }
+        requires limits { IsTransaction (length self.old.transactions) tx }
+        requires over { tx.bl ≡ length self.old.tree }
+        ensures grown { OnOk result (self.new.transactions ≡ self.old.transactions ++ tx ∷ []) }
+        ensures tree { OnOk result (self.new.tree ≡ self.old.tree) }
+        ensures ledger { OnOk result (IsLedger (H.digest hash.now) self.new) }
+    {
+        let header = header_after(alloc, hash, self.alhs.as_slice(), &tx)?;
+        self.alhs.push(alh(hash, &header))?;
+        self.headers.push(header)?;
+        self.transactions.push(tx)?;
+        Ok(())
+    }
+
+    /// Raises the tree by so many transactions, at most to the last one. Its only error is want of memory.
+    pub fn link(&mut self, count: u64) -> Result<(), AllocError>
+        requires { (hash : Hash) × IsLedger hash self.old }
+        ensures same { OnOk result (self.new.transactions ≡ self.old.transactions) }
+        ensures size { OnOk result (length self.new.tree ≡ min (length self.old.tree + count) (length self.old.transactions)) }
+        ensures ledger { (hash : Hash) → IsLedger hash self.old → OnOk result (IsLedger hash self.new) }
+    {
+        let end = self
+            .tree
+            .size()
+            .saturating_add(count)
+            .min(self.transactions.len() as u64);
+        raise(&mut self.tree, self.alhs.as_slice(), end as usize)
+    }
+
+    /// Gives the transactions back. It takes no memory.
+    pub fn into_transactions(self) -> Vec<Transaction>
+        ensures { result.items ≡ self.transactions }
+    {
+        let Ledger { transactions, .. } = self;
+        transactions
+    }
+}
+
+// Raises a tree of the first of these Alh to a size.
+fn raise(tree: &mut Tree, alhs: &[D32], end: usize) -> Result<(), AllocError>
+    requires tree { tree.old ≡ take (length tree.old) alhs.now }
+    requires up { length tree.old ≤ end }
+    requires within { end ≤ length alhs.now }
+    ensures { OnOk result (tree.new ≡ take end alhs.now) }
+{
+    for alh in &alhs[tree.size() as usize..end] {
+        tree.append(alh)?;
+    }
+    Ok(())
+}

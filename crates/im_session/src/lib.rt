@@ -1,0 +1,9 @@
+//! The session: it answers the lines of a script in order, over a ledger of its history.
+#![tactic(auto)]
+
+mod answers;
+mod ledger;
+mod proofs;
+pub mod serve;
+#[cfg(test)]
+mod tests;

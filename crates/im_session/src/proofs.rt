@@ -1,0 +1,210 @@
+ghost use Rattle.std.specs.Prelude.{◌≡◌, ◌<◌, ◌≤◌, ◌-◌, ℕ, List, length, map, IfNone, IfOk, IfSome, Ok, unwrap_or};
+ghost use Rattle.im_model.specs.Entries.{entry_digest};
+ghost use Rattle.im_mtree.specs.Checks.{first_fail};
+ghost use Rattle.im_proof.specs.Duals.{dual_checks};
+ghost use Rattle.im_report.specs.Replies.{advance_reply, anchor_between, between_reply, dual_between, item_reply, item_shown, prove_reply, state_reply};
+ghost use Rattle.im_wire.specs.Texts.{text};
+ghost use Rattle.im_session.specs.Ledgers.{IsLedger};
+
+use crate::ledger::Ledger;
+use im_digest::{D32, Hash32};
+use im_dual::build::build;
+use im_entry::digests::digest;
+use im_model::entries::Entry;
+use im_mtree::paths::path;
+use im_proof::proofs::DualProof;
+use im_report::replies::{beyond_text, no_entry_text, order_text};
+use im_wire::messages::Message;
+use im_wire::writing::write;
+use std::alloc::{AllocError, Global};
+
+// The text of a message.
+fn message_text(alloc: Global, message: Message) -> Result<Vec<u8>, AllocError>
+    ensures { IfOk result (λ octets. octets.items ≡ text message) }
+{
+    write(alloc, &message)
+}
+
+/// The reply to `state`: the header of the last transaction.
+#[tactic(auto, unfolding(im_report::specs::Replies::state_reply))]
+pub(crate) fn state_text<H: Hash32>(
+    alloc: Global,
+    hash: &H,
+    ledger: &Ledger,
+) -> Result<Vec<u8>, AllocError>
+    requires { IsLedger (H.digest hash.now) ledger.now }
+    ensures { IfOk result (λ reply. reply.items ≡ state_reply (H.digest hash.now) ledger.now.transactions) }
+{
+    let _ = hash;
+    let count = ledger.count();
+    if count == 0 {
+        return Vec::from_slice(alloc, b"refused empty");
+    }
+    let header = ledger.header(count).try_clone(alloc)?;
+    message_text(alloc, Message::State { header })
+}
+
+// The refusal of two numbers of transactions, or `None` where they are in order and not beyond the last.
+fn refused_between(
+    alloc: Global,
+    ledger: &Ledger,
+    s: u64,
+    t: u64,
+) -> Result<Option<Vec<u8>>, AllocError>
+    ensures refused { IfOk result (λ refused. IfSome refused (λ reply. (shown : List ℕ) → reply.items ≡ between_reply ledger.now.transactions s t shown)) }
+    ensures taken { IfOk result (λ refused. IfNone refused ((1 ≤ s) × (s ≤ t) × (t ≤ length ledger.now.transactions))) }
+{
+    let count = ledger.count();
+    if s == 0 || t < s {
+        return Ok(Some(order_text(alloc, s, t)?));
+    }
+    if count < t {
+        return Ok(Some(beyond_text(alloc, count)?));
+    }
+    Ok(None)
+}
+
+// The dual proof between transactions s and t, which passes its check.
+fn dual_between<H: Hash32>(
+    alloc: Global,
+    hash: &H,
+    ledger: &Ledger,
+    s: u64,
+    t: u64,
+) -> Result<DualProof, AllocError>
+    requires ledger { IsLedger (H.digest hash.now) ledger.now }
+    requires some { 1 ≤ s }
+    requires order { s ≤ t }
+    requires within { t ≤ length ledger.now.transactions }
+    ensures value { IfOk result (λ dual. dual ≡ dual_between (H.digest hash.now) ledger.now.transactions s t) }
+    ensures passes { IfOk result (λ dual. first_fail (dual_checks (H.digest hash.now) dual) ≡ Ok tt) }
+{
+    build(alloc, hash, ledger.headers(), ledger.tree(), s, t)
+}
+
+/// The reply to `prove`: the dual proof between two transactions.
+#[tactic(auto, unfolding(im_report::specs::Replies::prove_reply))]
+pub(crate) fn prove_text<H: Hash32>(
+    alloc: Global,
+    hash: &H,
+    ledger: &Ledger,
+    s: u64,
+    t: u64,
+) -> Result<Vec<u8>, AllocError>
+    requires { IsLedger (H.digest hash.now) ledger.now }
+    ensures { IfOk result (λ reply. reply.items ≡ prove_reply (H.digest hash.now) ledger.now.transactions s t) }
+{
+    if let Some(refusal) = refused_between(alloc, ledger, s, t)? {
+        return Ok(refusal);
+    }
+    let dual = dual_between(alloc, hash, ledger, s, t)?;
+    message_text(alloc, Message::Dual { dual })
+}
+
+// The dual proof from the end of the tree of transaction t to transaction s, where that end lies behind the
+// tree of s and before s.
+#[tactic(auto, unfolding(im_report::specs::Replies::anchor_between))]
+fn anchor<H: Hash32>(
+    alloc: Global,
+    hash: &H,
+    ledger: &Ledger,
+    s: u64,
+    t: u64,
+) -> Result<Option<DualProof>, AllocError>
+    requires ledger { IsLedger (H.digest hash.now) ledger.now }
+    requires some { 1 ≤ s }
+    requires order { s ≤ t }
+    requires within { t ≤ length ledger.now.transactions }
+    ensures { IfOk result (λ anchor. anchor ≡ anchor_between (H.digest hash.now) ledger.now.transactions s t) }
+{
+    let old = ledger.transaction(s).bl;
+    let size = ledger.transaction(t).bl;
+    if old < size && size < s {
+        Ok(Some(dual_between(alloc, hash, ledger, size, s)?))
+    } else {
+        Ok(None)
+    }
+}
+
+/// The reply to `advance`: the dual proof between two transactions, and its anchor where one is due.
+#[tactic(auto, unfolding(im_report::specs::Replies::advance_reply))]
+pub(crate) fn advance_text<H: Hash32>(
+    alloc: Global,
+    hash: &H,
+    ledger: &Ledger,
+    s: u64,
+    t: u64,
+) -> Result<Vec<u8>, AllocError>
+    requires { IsLedger (H.digest hash.now) ledger.now }
+    ensures { IfOk result (λ reply. reply.items ≡ advance_reply (H.digest hash.now) ledger.now.transactions s t) }
+{
+    if let Some(refusal) = refused_between(alloc, ledger, s, t)? {
+        return Ok(refusal);
+    }
+    let dual = dual_between(alloc, hash, ledger, s, t)?;
+    let anchor = anchor(alloc, hash, ledger, s, t)?;
+    message_text(alloc, Message::Advance { dual, anchor })
+}
+
+// The digests of some entries, in order.
+fn digests_of<H: Hash32>(alloc: Global, hash: &H, entries: &[Entry]) -> Result<Vec<D32>, AllocError>
+    ensures { IfOk result (λ digests. digests.items ≡ map (entry_digest (H.digest hash.now)) entries.now) }
+{
+    let mut digests = Vec::with_capacity(alloc, entries.len())?;
+    for entry in entries {
+        digests.push(digest(hash, entry))?;
+    }
+    Ok(digests)
+}
+
+// An entry of these and its path among them, with the dual proof from their transaction.
+#[tactic(auto, unfolding(im_report::specs::Replies::item_shown))]
+fn item<H: Hash32>(
+    alloc: Global,
+    hash: &H,
+    dual: DualProof,
+    entries: &[Entry],
+    index: u32,
+) -> Result<Vec<u8>, AllocError>
+    requires { index < length entries.now }
+    ensures { IfOk result (λ reply. reply.items ≡ item_shown (H.digest hash.now) dual entries.now index) }
+{
+    let entry = entries[index as usize].try_clone(alloc)?;
+    let digests = digests_of(alloc, hash, entries)?;
+    let path = path(alloc, hash, digests.as_slice(), index as usize)?;
+    message_text(
+        alloc,
+        Message::Item {
+            dual,
+            entry,
+            index,
+            path,
+        },
+    )
+}
+
+/// The reply to `item`: an entry of a transaction by its index, proved under the named state, or under the
+/// last where none is named.
+#[tactic(auto, unfolding(im_report::specs::Replies::item_reply))]
+pub(crate) fn item_text<H: Hash32>(
+    alloc: Global,
+    hash: &H,
+    ledger: &Ledger,
+    number: u64,
+    index: u32,
+    under: Option<u64>,
+) -> Result<Vec<u8>, AllocError>
+    requires { IsLedger (H.digest hash.now) ledger.now }
+    ensures { IfOk result (λ reply. reply.items ≡ item_reply (H.digest hash.now) ledger.now.transactions number index (unwrap_or under (length ledger.now.transactions))) }
+{
+    let state = under.unwrap_or(ledger.count());
+    if let Some(refusal) = refused_between(alloc, ledger, number, state)? {
+        return Ok(refusal);
+    }
+    let entries = ledger.transaction(number).entries.as_slice();
+    if index as usize >= entries.len() {
+        return no_entry_text(alloc, entries.len() as u64);
+    }
+    let dual = dual_between(alloc, hash, ledger, number, state)?;
+    item(alloc, hash, dual, entries, index)
+}

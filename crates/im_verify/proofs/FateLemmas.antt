@@ -1,0 +1,204 @@
+-- What the source and the keeper hold decides how a run ends.
+use Rattle.std.proofs.Common.{◌≡◌, ◌⊎◌, ◌+◌, ◌<◌, ◌≤◌, ℕ, zero, suc, List, [], ◌∷◌, length, take, get_or, Option, Some, None, IfSome, refl, sym, ap, subst, ◌∙◌, arith, inl, inr}
+use Rattle.std.proofs.lemmas.List.{get_or-take, length-take-le}
+use Rattle.std.proofs.lemmas.Bool.{cases_lt}
+use Rattle.im_digest.specs.Digests.{Hash}
+use Rattle.im_model.specs.declared.headers.Header.{Header}
+use Rattle.im_cuts.proofs.LineLemmas.{texts-unique}
+use Rattle.im_client.specs.Folds.{IsFold, IsOutcome, IsRefused, state_after, state_by}
+use Rattle.im_client.specs.declared.faults.LineFault.{LineFault}
+use Rattle.im_client.specs.declared.outcomes.Outcome.{Outcome}
+use Rattle.im_client.specs.declared.outcomes.Outcome.TheVariants as line
+use Rattle.im_verify.specs.Ends.{HasFate}
+use Rattle.im_verify.specs.Judged.{AreTaken, IsVerified, NoneRefused, SomeRefused, StopsKept}
+use Rattle.im_verify.specs.Runs.{Verifies}
+use Rattle.im_verify.specs.declared.ended.Ended.{Ended}
+use Rattle.im_verify.specs.declared.ended.Ended.TheVariants as the
+use Rattle.im_verify.proofs.FoldLemmas.{fold-length}
+use Rattle.im_verify.proofs.RunLemmas.{told}
+use Rattle.im_verify.proofs.Unique.{fold-unique, outcome-unique}
+
+fold-take : (hash : Hash) (state : Option Header) (lines : List (List ℕ)) (os : List Outcome) (n : ℕ) → IsFold hash state lines os → IsFold hash state (take n lines) (take n os)
+fold-take hash state lines os zero f = tt
+fold-take hash state [] [] (suc n) f = tt
+fold-take hash state [] (o ∷ os) (suc n) f = absurd f
+fold-take hash state (l ∷ lines) [] (suc n) f = absurd f
+fold-take hash state (l ∷ lines) (o ∷ os) (suc n) f = (f.0, fold-take hash (state_by state o) lines os n f.1)
+
+fold-at : (hash : Hash) (state : Option Header) (lines : List (List ℕ)) (os : List Outcome) (n : ℕ) → n < length lines → IsFold hash state lines os
+    → IsOutcome hash (state_after state (take n os)) (get_or lines n []) (get_or os n line.Passed)
+fold-at hash state [] os n within f = absurd (omega arith)
+fold-at hash state (l ∷ lines) [] n within f = absurd f
+fold-at hash state (l ∷ lines) (o ∷ os) zero within f = f.0
+fold-at hash state (l ∷ lines) (o ∷ os) (suc n) within f = fold-at hash (state_by state o) lines os n (omega arith) f.1
+
+-- lines that are taken have no refused one among them
+taken-refused : (hash : Hash) (lines : List (List ℕ)) (os before : List Outcome) (n : ℕ) (fault : LineFault) → n < length lines → AreTaken hash lines os
+    → IsFold hash None (take n lines) before → IsOutcome hash (state_after None before) (get_or lines n []) (line.Refused fault) → ⊥
+taken-refused hash lines os before n fault within taken f refused =
+    let same : take n os ≡ before = fold-unique hash None (take n lines) (take n os) before (fold-take hash None lines os n taken.fold) f in
+    let at : IsOutcome hash (state_after None before) (get_or lines n []) (get_or os n line.Passed) =
+    subst (λ (b : List Outcome). IsOutcome hash (state_after None b) (get_or lines n []) (get_or os n line.Passed)) same (fold-at hash None lines os n within taken.fold) in
+    let is : get_or os n line.Passed ≡ line.Refused fault = outcome-unique hash (state_after None before) (get_or lines n []) (get_or os n line.Passed) (line.Refused fault) at refused in
+    let size : length os ≡ length lines = fold-length hash None lines os taken.fold in
+    taken.accepted n line.Passed (omega arith) (subst IsRefused (sym is) tt)
+
+-- kept lines are taken, or stop at one
+stop-not-taken : (hash : Hash) (kept : List (List ℕ)) (os : List Outcome) (n : ℕ) → StopsKept hash kept n → AreTaken hash kept os → ⊥
+stop-not-taken hash kept os n s taken = taken-refused hash kept os s.before n s.fault s.within taken s.taken.fold s.refused
+
+take-take : (xs : List (List ℕ)) (n m : ℕ) → n < m → take n (take m xs) ≡ take n xs
+take-take xs zero m lt = refl
+take-take xs (suc n) zero lt = absurd (omega arith)
+take-take [] (suc n) (suc m) lt = refl
+take-take (x ∷ xs) (suc n) (suc m) lt = ap (λ (l : List (List ℕ)). x ∷ l) (take-take xs n m (omega arith))
+
+earlier-stop : (hash : Hash) (kept : List (List ℕ)) (n m : ℕ) → n < m → StopsKept hash kept n → StopsKept hash kept m → ⊥
+earlier-stop hash kept n m lt a b =
+    let within : m < length kept = b.within in
+    let size : length (take m kept) ≡ m = length-take-le m kept (omega arith) in
+    let here : n < length (take m kept) = omega arith in
+    taken-refused hash (take m kept) b.before a.before n a.fault here b.taken
+    (subst (λ (ls : List (List ℕ)). IsFold hash None ls a.before) (sym (take-take kept n m lt)) a.taken.fold)
+    (subst (λ (l : List ℕ). IsOutcome hash (state_after None a.before) l (line.Refused a.fault)) (sym (get_or-take m kept n [] lt)) a.refused)
+
+-- they stop at one line at most
+pub one-stop : (hash : Hash) (kept : List (List ℕ)) (n m : ℕ) → StopsKept hash kept n → StopsKept hash kept m → n ≡ m
+one-stop hash kept n m a b = elim (cases_lt n m) [
+  | inl lt ↦ absurd (earlier-stop hash kept n m lt a b)
+  | inr ge ↦ elim (cases_lt m n) [
+    | inl gt ↦ absurd (earlier-stop hash kept m n gt b a)
+    | inr le ↦ omega arith
+  ]
+]
+
+-- a stream has one list of outcomes
+pub one-verdict : (hash : Hash) (kept : List (List ℕ)) (stream : List ℕ) (a b : List Outcome) → IsVerified hash kept stream a → IsVerified hash kept stream b → a ≡ b
+one-verdict hash kept stream a b x y =
+    let texts : x.texts ≡ y.texts = texts-unique stream x.texts y.texts x.are y.are in
+    let before : x.judged.before ≡ y.judged.before = fold-unique hash None kept x.judged.before y.judged.before x.judged.taken.fold y.judged.taken.fold in
+    let f : IsFold hash (state_after None y.judged.before) x.texts a = subst (λ (os : List Outcome). IsFold hash (state_after None os) x.texts a) before x.judged.fold in
+    fold-unique hash (state_after None y.judged.before) y.texts a b (subst (λ (ts : List (List ℕ)). IsFold hash (state_after None y.judged.before) ts a) texts f) y.judged.fold
+
+none-and-some : (os : List Outcome) → NoneRefused os → SomeRefused os → ⊥
+none-and-some os none (k, x, within, at, is) = none k x within (subst IsRefused (sym at) is)
+
+-- what is said of each way to end
+pub record Ends (hash : Hash) (ended : Ended) (stream : List ℕ) (kept : List (List ℕ)) : Type 0 where
+  pub outcomes : (ended ≡ the.Ok) ⊎ (ended ≡ the.Refused) → (os : List Outcome) × IsVerified hash kept stream os × (ended ≡ the.Ok → NoneRefused os) × (ended ≡ the.Refused → SomeRefused os)
+  pub no_read : ended ≡ the.ReadFault → ⊥
+  pub no_write : ended ≡ the.WriteFault → ⊥
+  pub no_keep : ended ≡ the.KeeperFault → ⊥
+  pub stop : (k : ℕ) → ended ≡ the.Kept k → (n : ℕ) × (k ≡ n + 1) × StopsKept hash kept n
+  pub long : ended ≡ the.Long → 67108864 < length stream
+  pub short : (ended ≡ the.Long → ⊥) → (ended ≡ the.Memory → ⊥) → length stream ≤ 67108864
+
+-- a stream that is short enough isn't too long
+short-long : (stream : List ℕ) → length stream ≤ 67108864 → 67108864 < length stream → ⊥
+short-long stream a b = omega arith
+
+kept-before : (hash : Hash) (ended : Ended) (stream : List ℕ) (kept : List (List ℕ)) → Ends hash ended stream kept → (ended ≡ the.Ok) ⊎ (ended ≡ the.Refused)
+    → (os : List Outcome) × AreTaken hash kept os
+kept-before hash ended stream kept e done = let v = (e.outcomes done).1 in (v.judged.before, v.judged.taken)
+
+long-end : (hash : Hash) (ended : Ended) (stream : List ℕ) (kept : List (List ℕ)) → Ends hash ended stream kept → 67108864 < length stream → (ended ≡ the.Long) ⊎ (ended ≡ the.Memory)
+long-end hash the.Ok stream kept e long = absurd (short-long stream (e.short (λ q. cc) (λ q. cc)) long)
+long-end hash the.Refused stream kept e long = absurd (short-long stream (e.short (λ q. cc) (λ q. cc)) long)
+long-end hash the.ReadFault stream kept e long = absurd (e.no_read refl)
+long-end hash the.WriteFault stream kept e long = absurd (e.no_write refl)
+long-end hash the.KeeperFault stream kept e long = absurd (e.no_keep refl)
+long-end hash the.Memory stream kept e long = inr refl
+long-end hash the.Long stream kept e long = inl refl
+long-end hash (the.Kept k) stream kept e long = absurd (short-long stream (e.short (λ q. cc) (λ q. cc)) long)
+
+stops-end : (hash : Hash) (ended : Ended) (stream : List ℕ) (kept : List (List ℕ)) → Ends hash ended stream kept → (n : ℕ) → length stream ≤ 67108864 → StopsKept hash kept n
+    → (ended ≡ the.Kept (n + 1)) ⊎ (ended ≡ the.Memory)
+stops-end hash the.Ok stream kept e n short s = absurd (let t = kept-before hash the.Ok stream kept e (inl refl) in stop-not-taken hash kept t.0 n s t.1)
+stops-end hash the.Refused stream kept e n short s = absurd (let t = kept-before hash the.Refused stream kept e (inr refl) in stop-not-taken hash kept t.0 n s t.1)
+stops-end hash the.ReadFault stream kept e n short s = absurd (e.no_read refl)
+stops-end hash the.WriteFault stream kept e n short s = absurd (e.no_write refl)
+stops-end hash the.KeeperFault stream kept e n short s = absurd (e.no_keep refl)
+stops-end hash the.Memory stream kept e n short s = inr refl
+stops-end hash the.Long stream kept e n short s = absurd (short-long stream short (e.long refl))
+stops-end hash (the.Kept k) stream kept e n short s =
+    let found = e.stop k refl in
+    inl (ap the.Kept (found.1 ∙ ap (λ m. m + 1) (one-stop hash kept found.0 n found.2 s)))
+
+runs-end : (hash : Hash) (ended : Ended) (stream : List ℕ) (kept : List (List ℕ)) → Ends hash ended stream kept → (before : List Outcome) → length stream ≤ 67108864 → AreTaken hash kept before
+    → (ended ≡ the.Ok) ⊎ (ended ≡ the.Refused) ⊎ (ended ≡ the.Memory)
+runs-end hash the.Ok stream kept e before short t = inl refl
+runs-end hash the.Refused stream kept e before short t = inr (inl refl)
+runs-end hash the.ReadFault stream kept e before short t = absurd (e.no_read refl)
+runs-end hash the.WriteFault stream kept e before short t = absurd (e.no_write refl)
+runs-end hash the.KeeperFault stream kept e before short t = absurd (e.no_keep refl)
+runs-end hash the.Memory stream kept e before short t = inr (inr refl)
+runs-end hash the.Long stream kept e before short t = absurd (short-long stream short (e.long refl))
+runs-end hash (the.Kept k) stream kept e before short t = absurd (let found = e.stop k refl in stop-not-taken hash kept before found.0 found.2 t)
+
+-- the outcomes that a run told are those of the stream
+told-none : (hash : Hash) (ended : Ended) (stream : List ℕ) (kept : List (List ℕ)) → Ends hash ended stream kept → ended ≡ the.Ok → (os : List Outcome) → IsVerified hash kept stream os → NoneRefused os
+told-none hash ended stream kept e ok os v =
+    let told = e.outcomes (inl ok) in
+    subst NoneRefused (one-verdict hash kept stream told.0 os told.1 v) (told.2 ok)
+
+told-some : (hash : Hash) (ended : Ended) (stream : List ℕ) (kept : List (List ℕ)) → Ends hash ended stream kept → ended ≡ the.Refused → (os : List Outcome) → IsVerified hash kept stream os → SomeRefused os
+told-some hash ended stream kept e refused os v =
+    let told = e.outcomes (inr refused) in
+    subst SomeRefused (one-verdict hash kept stream told.0 os told.1 v) (told.3 refused)
+
+passes-end : (hash : Hash) (ended : Ended) (stream : List ℕ) (kept : List (List ℕ)) → Ends hash ended stream kept → (os : List Outcome) → length stream ≤ 67108864 → IsVerified hash kept stream os → NoneRefused os
+    → (ended ≡ the.Ok) ⊎ (ended ≡ the.Memory)
+passes-end hash ended stream kept e os short v none =
+    elim (runs-end hash ended stream kept e v.judged.before short v.judged.taken) [
+      | inl ok ↦ inl ok
+      | inr (inl refused) ↦ absurd (none-and-some os none (told-some hash ended stream kept e refused os v))
+      | inr (inr memory) ↦ inr memory
+    ]
+
+refuses-end : (hash : Hash) (ended : Ended) (stream : List ℕ) (kept : List (List ℕ)) → Ends hash ended stream kept → (os : List Outcome) → length stream ≤ 67108864 → IsVerified hash kept stream os → SomeRefused os
+    → (ended ≡ the.Refused) ⊎ (ended ≡ the.Memory)
+refuses-end hash ended stream kept e os short v some =
+    elim (runs-end hash ended stream kept e v.judged.before short v.judged.taken) [
+      | inl ok ↦ absurd (none-and-some os (told-none hash ended stream kept e ok os v) some)
+      | inr (inl refused) ↦ inl refused
+      | inr (inr memory) ↦ inr memory
+    ]
+
+-- so what they hold decides
+pub fate : (hash : Hash) (ended : Ended) (stream : List ℕ) (kept : List (List ℕ)) → Ends hash ended stream kept → HasFate hash ended stream kept
+fate hash ended stream kept e = record {
+  too_long = long-end hash ended stream kept e;
+  stops = stops-end hash ended stream kept e;
+  runs = runs-end hash ended stream kept e;
+  passes = passes-end hash ended stream kept e;
+  refuses = refuses-end hash ended stream kept e;
+}
+
+-- the same where the keeper tells what it holds
+fate-kept : (hash : Hash) (ended : Ended) (stream : List ℕ) (before after : Option (List ℕ)) (kept now : Option (List (List ℕ)))
+    → length stream ≤ 67108864
+    → ((ended ≡ the.ReadFault) ⊎ (ended ≡ the.Long) → ⊥) → (ended ≡ the.WriteFault → ⊥) → (ended ≡ the.KeeperFault → ⊥)
+    → ((ended ≡ the.Ok) ⊎ (ended ≡ the.Refused) → IfSome kept (λ lines. Verifies hash stream lines ended before after now))
+    → ((k : ℕ) → ended ≡ the.Kept k → IfSome kept (λ lines. (n : ℕ) × (k ≡ n + 1) × StopsKept hash lines n))
+    → IfSome kept (HasFate hash ended stream)
+fate-kept hash ended stream before after None now short never write keep done stop = tt
+fate-kept hash ended stream before after (Some lines) now short never write keep done stop = fate hash ended stream lines (record {
+  outcomes = λ e. let v = done e in (v.outcomes, v.verified, v.accepted, v.refused);
+  no_read = λ e. never (inl e);
+  no_write = write;
+  no_keep = keep;
+  stop = stop;
+  long = λ e. absurd (never (inr e));
+  short = λ _ _. short;
+})
+
+-- the same where the source and the keeper tell what they hold, of the clauses of a run over what was read
+pub fate-told : (hash : Hash) (ended : Ended) (left : Option (List ℕ)) (stream slice : List ℕ) (before after : Option (List ℕ)) (kept now : Option (List (List ℕ)))
+    → IfSome left (λ xs. stream ≡ xs) → slice ≡ stream → length stream ≤ 67108864
+    → ((ended ≡ the.ReadFault) ⊎ (ended ≡ the.Long) → ⊥) → (ended ≡ the.WriteFault → ⊥) → (ended ≡ the.KeeperFault → ⊥)
+    → ((ended ≡ the.Ok) ⊎ (ended ≡ the.Refused) → IfSome kept (λ lines. Verifies hash slice lines ended before after now))
+    → ((k : ℕ) → ended ≡ the.Kept k → IfSome kept (λ lines. (n : ℕ) × (k ≡ n + 1) × StopsKept hash lines n))
+    → IfSome left (λ s. IfSome kept (HasFate hash ended s))
+fate-told hash ended left stream slice before after kept now read same short never write keep done stop =
+    told left stream slice (λ s. IfSome kept (HasFate hash ended s)) read same
+    (fate-kept hash ended slice before after kept now (subst (λ (s : List ℕ). length s ≤ 67108864) (sym same) short) never write keep done stop)

@@ -1,0 +1,60 @@
+-- How far kept lines were taken, one line more, and the first that is refused.
+use Rattle.std.proofs.Common.{◌≡◌, ◌+◌, ◌<◌, ℕ, List, [], ◌∷◌, ◌++◌, length, take, get_or, Option, None, sym, ap, subst, ◌∙◌, arith}
+use Rattle.std.proofs.lemmas.List.{take_all, take_more, get_or_default}
+use Rattle.std.proofs.lemmas.List.Elements.{All-nil, All-push}
+use Rattle.im_digest.specs.Digests.{Hash}
+use Rattle.im_model.specs.declared.headers.Header.{Header}
+use Rattle.im_client.specs.Folds.{IsFold, IsOutcome, IsRefused, state_after, state_by}
+use Rattle.im_client.specs.declared.faults.LineFault.{LineFault}
+use Rattle.im_client.specs.declared.outcomes.Outcome.{Outcome}
+use Rattle.im_client.specs.declared.outcomes.Outcome.TheVariants.{Passed, Accepted, Refused}
+use Rattle.im_verify.specs.Judged.{StopsKept}
+use Rattle.im_verify.specs.Turns.{TakesKept}
+use Rattle.im_verify.proofs.FoldLemmas.{fold-push, state-push}
+
+-- before the first line
+pub kept-first : (hash : Hash) (kept : List (List ℕ)) (state : Option Header) → state ≡ None → TakesKept hash (take 0 kept) state
+kept-first hash kept state none = record {
+  outcomes = [];
+  taken = record { fold = tt; accepted = All-nil (λ (o : Outcome). IsRefused o → ⊥) };
+  follows = none;
+}
+
+-- one line more that isn't refused
+pub kept-next : (hash : Hash) (kept : List (List ℕ)) (i : ℕ) (line : List ℕ) (state next : Option Header) (o : Outcome)
+    → i < length kept → line ≡ get_or kept i line → TakesKept hash (take i kept) state → IsOutcome hash state line o → (IsRefused o → ⊥) → next ≡ state_by state o
+    → TakesKept hash (take (i + 1) kept) next
+kept-next hash kept i line state next o within at t is fine follows =
+    let more : take i kept ++ line ∷ [] ≡ take (i + 1) kept = ap (λ (l : List ℕ). take i kept ++ l ∷ []) at ∙ sym (take_more kept i line within) in
+    let here : IsOutcome hash (state_after None t.outcomes) line o = subst (λ (s : Option Header). IsOutcome hash s line o) t.follows is in
+    record {
+      outcomes = t.outcomes ++ o ∷ [];
+      taken = record {
+        fold = subst (λ (ls : List (List ℕ)). IsFold hash None ls (t.outcomes ++ o ∷ [])) more (fold-push hash None (take i kept) t.outcomes line o t.taken.fold here);
+        accepted = All-push (λ (x : Outcome). IsRefused x → ⊥) t.outcomes o t.taken.accepted fine;
+      };
+      follows = follows ∙ ap (λ (s : Option Header). state_by s o) t.follows ∙ sym (state-push None t.outcomes o);
+    }
+
+-- no line is left
+pub kept-all : (hash : Hash) (kept : List (List ℕ)) (i : ℕ) (state : Option Header) → i ≡ length kept → TakesKept hash (take i kept) state → TakesKept hash kept state
+kept-all hash kept i state end t = subst (λ (ls : List (List ℕ)). TakesKept hash ls state) (take_all i kept (omega arith)) t
+
+refused-fault : (hash : Hash) (state : Option Header) (line : List ℕ) (o : Outcome) → IsOutcome hash state line o → IsRefused o → (fault : LineFault) × IsOutcome hash state line (Refused fault)
+refused-fault hash state line Passed is r = absurd r
+refused-fault hash state line (Accepted message) is r = absurd r
+refused-fault hash state line (Refused fault) is r = (fault, is)
+
+-- the next line is refused
+pub kept-stops : (hash : Hash) (kept : List (List ℕ)) (i : ℕ) (line : List ℕ) (state : Option Header) (o : Outcome)
+    → i < length kept → line ≡ get_or kept i line → TakesKept hash (take i kept) state → IsOutcome hash state line o → IsRefused o → StopsKept hash kept i
+kept-stops hash kept i line state o within at t is r =
+    let found = refused-fault hash state line o is r in
+    let here : IsOutcome hash (state_after None t.outcomes) line (Refused found.0) = subst (λ (s : Option Header). IsOutcome hash s line (Refused found.0)) t.follows found.1 in
+    record {
+      within = within;
+      before = t.outcomes;
+      taken = t.taken;
+      fault = found.0;
+      refused = subst (λ (l : List ℕ). IsOutcome hash (state_after None t.outcomes) l (Refused found.0)) (at ∙ get_or_default kept i line [] within) here;
+    }

@@ -1,0 +1,8 @@
+use Rattle.im_verify.proofs.RunLemmas.{into-keeps, off-keeps}
+use Rattle.im_verify.proofs.laws.a_told_message_is_kept.Goals as goal
+
+pub returns-clause-into : goal.returns-clause-into
+returns-clause-into c = into-keeps
+
+pub returns-clause-off : goal.returns-clause-off
+returns-clause-off c = off-keeps

@@ -1,0 +1,87 @@
+ghost use Rattle.std.specs.Prelude.{◌≡◌, ◌+◌, ◌≤◌, ℕ, Err, IfOk, IfSome, IsTrue, ◌↔◌};
+ghost use Rattle.im_client.specs.Folds.{IsRefused};
+ghost use Rattle.im_edge.specs.Counts.{Rose};
+ghost use Rattle.im_verify.specs.Judged.{StopsKept};
+ghost use Rattle.im_verify.specs.Turns.{TakesKept};
+
+use im_client::clients::Client;
+use im_client::outcomes::Outcome;
+use im_digest::Hash32;
+use im_edge::keeper::{Keeper, KeeperError};
+use im_octet::octets::Octets;
+use std::alloc::{AllocError, Global};
+
+/// Why the kept lines weren't taken.
+#[derive(Clone, Copy, Debug, PartialEq, Eq)]
+pub(crate) enum KeptError {
+    /// The keeper failed.
+    KeeperFault,
+    /// Memory ran out.
+    Memory,
+    /// The number, from 1, of the first kept line that is refused.
+    Line(u64),
+}
+
+impl From<AllocError> for KeptError {
+    ghost use Rattle.im_verify.specs.declared.kept.KeptError.TheVariants.{Memory};
+
+    ghost from_gives = { λ _ error. error ≡ Memory };
+
+    fn from(_: AllocError) -> Self {
+        KeptError::Memory
+    }
+}
+
+impl From<KeeperError> for KeptError {
+    ghost use Rattle.im_verify.specs.Stops.{kept_error_of};
+
+    ghost from_gives = { λ given error. error ≡ kept_error_of given };
+
+    fn from(error: KeeperError) -> Self {
+        match error {
+            KeeperError::Failed => KeptError::KeeperFault,
+            KeeperError::Memory => KeptError::Memory,
+        }
+    }
+}
+
+// Whether a line was refused.
+pub(crate) fn is_refused(outcome: &Outcome) -> bool
+    ensures { IsTrue result ↔ IsRefused outcome.now }
+{
+    matches!(outcome, Outcome::Refused { .. })
+}
+
+// The client behind kept lines, or the first of them that is refused.
+fn follow_lines<H: Hash32>(alloc: Global, hash: &H, lines: &[Octets]) -> Result<Client, KeptError>
+    ensures ok { IfOk result (TakesKept (H.digest hash.now) lines.now) }
+    ensures line { (k : ℕ) → result ≡ Err (KeptError.Line k) → (n : ℕ) × (k ≡ n + 1) × StopsKept (H.digest hash.now) lines.now n }
+    ensures keeper { result ≡ Err KeptError.KeeperFault → ⊥ }
+{
+    let mut client = Client::new();
+    for (i, line) in lines.iter().enumerate() {
+        let outcome = client.judge(alloc, hash, line.as_slice())?;
+        if is_refused(&outcome) {
+            return Err(KeptError::Line(i as u64 + 1));
+        }
+        client.follow(outcome);
+    }
+    Ok(client)
+}
+
+/// The client behind the lines that a keeper holds, from no state on. The keeper's lines stay.
+pub(crate) fn take_kept<H: Hash32, P: Keeper>(
+    alloc: Global,
+    hash: &H,
+    keeper: &mut P,
+) -> Result<Client, KeptError>
+    ensures ok { IfOk result (λ client. IfSome (P.kept keeper.old) (λ kept. TakesKept (H.digest hash.now) kept client)) }
+    ensures line { (k : ℕ) → result ≡ Err (KeptError.Line k) → IfSome (P.kept keeper.old) (λ kept.
+        (n : ℕ) × (k ≡ n + 1) × StopsKept (H.digest hash.now) kept n) }
+    ensures kept { P.kept keeper.new ≡ P.kept keeper.old }
+    ensures fault { result ≡ Err KeptError.KeeperFault → Rose (P.faults keeper.old) (P.faults keeper.new) }
+    ensures count { (result ≡ Err KeptError.KeeperFault → ⊥) → P.faults keeper.new ≡ P.faults keeper.old }
+{
+    let lines = keeper.lines(alloc)?;
+    follow_lines(alloc, hash, lines.as_slice())
+}

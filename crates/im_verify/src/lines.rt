@@ -1,0 +1,120 @@
+ghost use Rattle.std.specs.Prelude.{◌≡◌, ◌⊎◌, ◌++◌, ℕ, Err, IfOk, OnOk, OnErr};
+ghost use Rattle.std.specs.Option.{option_map};
+ghost use Rattle.im_client.specs.Folds.{kept_text};
+ghost use Rattle.im_edge.specs.Counts.{Rose};
+ghost use Rattle.im_verify.specs.Turns.{done, HalfTurn, TakesAll, TakesInto, TakesSome, Tells, TellsPart, Turn};
+
+use crate::kept::is_refused;
+use crate::stops::Stop;
+use im_client::clients::Client;
+use im_client::outcomes::Outcome;
+use im_client::texts::outcome_text;
+use im_cuts::first_line;
+use im_digest::Hash32;
+use im_edge::keeper::Keeper;
+use im_edge::sink::{Sink, write_all};
+use im_wire::writing::write;
+use std::alloc::Global;
+
+// Keeps the text of an accepted message; what else became of a line keeps nothing.
+fn keep<P: Keeper>(alloc: Global, keeper: &mut P, outcome: &Outcome) -> Result<(), Stop>
+    ensures ok { OnOk result (P.kept keeper.new ≡ option_map (λ xs. xs ++ kept_text outcome.now) (P.kept keeper.old)) }
+    ensures err { OnErr result (P.kept keeper.new ≡ P.kept keeper.old) }
+    ensures sink { result ≡ Err Stop.WriteFault → ⊥ }
+    ensures fault { result ≡ Err Stop.KeeperFault → Rose (P.faults keeper.old) (P.faults keeper.new) }
+    ensures count { (result ≡ Err Stop.KeeperFault → ⊥) → P.faults keeper.new ≡ P.faults keeper.old }
+{
+    let Outcome::Accepted { message } = outcome else {
+        return Ok(());
+    };
+    let text = write(alloc, message)?;
+    keeper.append(text.as_slice())?;
+    Ok(())
+}
+
+// Keeps the text of an accepted message, and then tells what became of a line. An error of the keeper or of
+// memory comes before anything is done.
+fn keep_and_tell<K: Sink, P: Keeper>(
+    alloc: Global,
+    sink: &mut K,
+    keeper: &mut P,
+    number: u64,
+    outcome: &Outcome,
+) -> Result<(), Stop>
+    ensures ok { OnOk result (Tells number outcome.now
+        (done (K.written sink.old) (P.kept keeper.old)) (done (K.written sink.new) (P.kept keeper.new))) }
+    ensures part { result ≡ Err Stop.WriteFault → TellsPart number outcome.now
+        (done (K.written sink.old) (P.kept keeper.old)) (done (K.written sink.new) (P.kept keeper.new)) }
+    ensures nothing { (result ≡ Err Stop.KeeperFault) ⊎ (result ≡ Err Stop.Memory) →
+        (K.written sink.new ≡ K.written sink.old) × (P.kept keeper.new ≡ P.kept keeper.old) }
+    ensures write { result ≡ Err Stop.WriteFault → Rose (K.faults sink.old) (K.faults sink.new) }
+    ensures keep { result ≡ Err Stop.KeeperFault → Rose (P.faults keeper.old) (P.faults keeper.new) }
+    ensures sink_count { (result ≡ Err Stop.WriteFault → ⊥) → K.faults sink.new ≡ K.faults sink.old }
+    ensures keeper_count { (result ≡ Err Stop.KeeperFault → ⊥) → P.faults keeper.new ≡ P.faults keeper.old }
+{
+    let told = outcome_text(alloc, number, outcome)?;
+    keep(alloc, keeper, outcome)?;
+    write_all(sink, told.as_slice())?;
+    Ok(())
+}
+
+// Judges a line, keeps and tells what became of it, and follows. It says whether the line was refused.
+fn take_line<H: Hash32, K: Sink, P: Keeper>(
+    alloc: Global,
+    hash: &H,
+    client: &mut Client,
+    sink: &mut K,
+    keeper: &mut P,
+    number: u64,
+    line: &[u8],
+) -> Result<bool, Stop>
+    ensures ok { IfOk result (λ refused. Turn (H.digest hash.now) number line.now refused client.old client.new
+        (done (K.written sink.old) (P.kept keeper.old)) (done (K.written sink.new) (P.kept keeper.new))) }
+    ensures part { result ≡ Err Stop.WriteFault → HalfTurn (H.digest hash.now) number line.now client.old
+        (done (K.written sink.old) (P.kept keeper.old)) (done (K.written sink.new) (P.kept keeper.new)) }
+    ensures nothing { (result ≡ Err Stop.KeeperFault) ⊎ (result ≡ Err Stop.Memory) →
+        (K.written sink.new ≡ K.written sink.old) × (P.kept keeper.new ≡ P.kept keeper.old) }
+    ensures write { result ≡ Err Stop.WriteFault → Rose (K.faults sink.old) (K.faults sink.new) }
+    ensures keep { result ≡ Err Stop.KeeperFault → Rose (P.faults keeper.old) (P.faults keeper.new) }
+    ensures sink_count { (result ≡ Err Stop.WriteFault → ⊥) → K.faults sink.new ≡ K.faults sink.old }
+    ensures keeper_count { (result ≡ Err Stop.KeeperFault → ⊥) → P.faults keeper.new ≡ P.faults keeper.old }
+{
+    let outcome = client.judge(alloc, hash, line)?;
+    keep_and_tell(alloc, sink, keeper, number, &outcome)?;
+    let refused = is_refused(&outcome);
+    client.follow(outcome);
+    Ok(refused)
+}
+
+/// Judges the lines of a stream in order, keeps and tells what became of each, and says whether some line
+/// was refused. Lines are numbered from 1, and empty ones count.
+pub(crate) fn take_lines<H: Hash32, K: Sink, P: Keeper>(
+    alloc: Global,
+    hash: &H,
+    client: &mut Client,
+    sink: &mut K,
+    keeper: &mut P,
+    stream: &[u8],
+) -> Result<bool, Stop>
+    ensures ok { IfOk result (λ refused. TakesAll (H.digest hash.now) client.old stream.now refused
+        (done (K.written sink.old) (P.kept keeper.old)) (done (K.written sink.new) (P.kept keeper.new))) }
+    ensures into { result ≡ Err Stop.WriteFault → TakesInto (H.digest hash.now) client.old stream.now
+        (done (K.written sink.old) (P.kept keeper.old)) (done (K.written sink.new) (P.kept keeper.new)) }
+    ensures some { (result ≡ Err Stop.KeeperFault) ⊎ (result ≡ Err Stop.Memory) → TakesSome (H.digest hash.now) client.old stream.now
+        (done (K.written sink.old) (P.kept keeper.old)) (done (K.written sink.new) (P.kept keeper.new)) }
+    ensures write { result ≡ Err Stop.WriteFault → Rose (K.faults sink.old) (K.faults sink.new) }
+    ensures keep { result ≡ Err Stop.KeeperFault → Rose (P.faults keeper.old) (P.faults keeper.new) }
+    ensures sink_count { (result ≡ Err Stop.WriteFault → ⊥) → K.faults sink.new ≡ K.faults sink.old }
+    ensures keeper_count { (result ≡ Err Stop.KeeperFault → ⊥) → P.faults keeper.new ≡ P.faults keeper.old }
+{
+    let mut rest = stream;
+    let mut number = 0;
+    let mut refused = false;
+    while !rest.is_empty() {
+        let (line, behind) = first_line(rest);
+        number += 1;
+        refused |= take_line(alloc, hash, client, sink, keeper, number, line)?;
+        rest = behind;
+    }
+    Ok(refused)
+}

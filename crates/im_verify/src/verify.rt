@@ -1,0 +1,123 @@
+ghost use Rattle.std.specs.Prelude.{◌≡◌, ◌⊎◌, ℕ, ◌+◌, ◌<◌, ◌≤◌, [], length, IfSome, Some};
+ghost use Rattle.im_edge.specs.Counts.{Rose};
+ghost use Rattle.im_verify.specs.Ends.{HasFate};
+ghost use Rattle.im_verify.specs.Judged.{StopsKept};
+ghost use Rattle.im_verify.specs.Runs.{BreaksInto, BreaksOff, Verifies};
+
+use crate::ended::Ended;
+use crate::kept::{KeptError, take_kept};
+use crate::lines::take_lines;
+use crate::stops::Stop;
+use im_digest::Hash32;
+use im_edge::keeper::Keeper;
+use im_edge::sink::Sink;
+use im_edge::source::{ReadError, Source, read_all};
+use std::alloc::Global;
+
+/// The most octets of a stream.
+const MOST_OCTETS: usize = 67_108_864;
+
+// Takes the lines that the keeper holds, and then those of a stream.
+fn verify_octets<H: Hash32, K: Sink, P: Keeper>(
+    alloc: Global,
+    hash: &H,
+    sink: &mut K,
+    keeper: &mut P,
+    stream: &[u8],
+) -> Ended
+    ensures ok { (result ≡ Ended.Ok) ⊎ (result ≡ Ended.Refused) → IfSome (P.kept keeper.old) (λ kept.
+        Verifies (H.digest hash.now) stream.now kept result (K.written sink.old) (K.written sink.new) (P.kept keeper.new)) }
+    ensures into { result ≡ Ended.WriteFault → IfSome (P.kept keeper.old) (λ kept.
+        BreaksInto (H.digest hash.now) stream.now kept (K.written sink.old) (K.written sink.new) (P.kept keeper.new)) }
+    ensures off { (result ≡ Ended.KeeperFault) ⊎ (result ≡ Ended.Memory) →
+        ((K.written sink.new ≡ K.written sink.old) × (P.kept keeper.new ≡ P.kept keeper.old))
+        ⊎ IfSome (P.kept keeper.old) (λ kept.
+        BreaksOff (H.digest hash.now) stream.now kept (K.written sink.old) (K.written sink.new) (P.kept keeper.new)) }
+    ensures kept { (k : ℕ) → result ≡ Ended.Kept k → IfSome (P.kept keeper.old) (λ kept.
+        (n : ℕ) × (k ≡ n + 1) × StopsKept (H.digest hash.now) kept n) }
+    ensures nothing { (k : ℕ) → result ≡ Ended.Kept k → (sink.new ≡ sink.old) × (P.kept keeper.new ≡ P.kept keeper.old) }
+    ensures never { (result ≡ Ended.ReadFault) ⊎ (result ≡ Ended.Long) → ⊥ }
+    ensures write { result ≡ Ended.WriteFault → Rose (K.faults sink.old) (K.faults sink.new) }
+    ensures keep { result ≡ Ended.KeeperFault → Rose (P.faults keeper.old) (P.faults keeper.new) }
+    ensures sink_count { (result ≡ Ended.WriteFault → ⊥) → K.faults sink.new ≡ K.faults sink.old }
+    ensures keeper_count { (result ≡ Ended.KeeperFault → ⊥) → P.faults keeper.new ≡ P.faults keeper.old }
+{
+    let mut client = match take_kept(alloc, hash, keeper) {
+        Ok(client) => client,
+        Err(KeptError::KeeperFault) => return Ended::KeeperFault,
+        Err(KeptError::Memory) => return Ended::Memory,
+        Err(KeptError::Line(line)) => return Ended::Kept { line },
+    };
+    match take_lines(alloc, hash, &mut client, sink, keeper, stream) {
+        Ok(false) => Ended::Ok,
+        Ok(true) => Ended::Refused,
+        Err(Stop::WriteFault) => Ended::WriteFault,
+        Err(Stop::KeeperFault) => Ended::KeeperFault,
+        Err(Stop::Memory) => Ended::Memory,
+    }
+}
+
+/// Reads a stream to its end, takes the lines that the keeper holds, and then judges each line of the
+/// stream, under the state behind the lines before it.
+///
+/// What became of a line is written to the sink at once, behind its number, from 1; a line that is passed over
+/// writes nothing. The text of an accepted message is kept before its line is written. A refused line
+/// changes no state, and the run goes on. Nothing is written and nothing kept before the stream was
+/// read and the kept lines were taken.
+pub fn verify<H: Hash32, S: Source, K: Sink, P: Keeper>(
+    alloc: Global,
+    hash: &H,
+    source: &mut S,
+    sink: &mut K,
+    keeper: &mut P,
+) -> Ended
+    // Done: each line of the stream was told, and each accepted message kept.
+    ensures ok { (result ≡ Ended.Ok) ⊎ (result ≡ Ended.Refused) → IfSome (S.left source.old) (λ stream. IfSome (P.kept keeper.old) (λ kept.
+        Verifies (H.digest hash.now) stream kept result (K.written sink.old) (K.written sink.new) (P.kept keeper.new))) }
+
+    // The sink failed: the first lines were told, and the next one in part; the messages of them all are kept.
+    ensures into { result ≡ Ended.WriteFault → IfSome (S.left source.old) (λ stream. IfSome (P.kept keeper.old) (λ kept.
+        BreaksInto (H.digest hash.now) stream kept (K.written sink.old) (K.written sink.new) (P.kept keeper.new))) }
+
+    // The keeper failed, or memory ran out: nothing was done, or the first lines were told and kept.
+    ensures off { (result ≡ Ended.KeeperFault) ⊎ (result ≡ Ended.Memory) →
+        ((K.written sink.new ≡ K.written sink.old) × (P.kept keeper.new ≡ P.kept keeper.old))
+        ⊎ IfSome (S.left source.old) (λ stream. IfSome (P.kept keeper.old) (λ kept.
+        BreaksOff (H.digest hash.now) stream kept (K.written sink.old) (K.written sink.new) (P.kept keeper.new))) }
+
+    // Else nothing was done.
+    ensures nothing { (result ≡ Ended.ReadFault) ⊎ (result ≡ Ended.Long) ⊎ ((k : ℕ) × (result ≡ Ended.Kept k)) →
+        (sink.new ≡ sink.old) × (P.kept keeper.new ≡ P.kept keeper.old) }
+    ensures idle { (result ≡ Ended.ReadFault) ⊎ (result ≡ Ended.Long) → keeper.new ≡ keeper.old }
+
+    // The first kept line that is refused.
+    ensures kept { (k : ℕ) → result ≡ Ended.Kept k → IfSome (P.kept keeper.old) (λ kept.
+        (n : ℕ) × (k ≡ n + 1) × StopsKept (H.digest hash.now) kept n) }
+
+    // The stream is read to its end, within its limit, before anything else is done.
+    ensures long { result ≡ Ended.Long → IfSome (S.left source.old) (λ stream. 67108864 < length stream) }
+    ensures short { (result ≡ Ended.ReadFault → ⊥) → (result ≡ Ended.Long → ⊥) → (result ≡ Ended.Memory → ⊥) →
+        IfSome (S.left source.old) (λ stream. length stream ≤ 67108864) }
+    ensures emptied { (result ≡ Ended.ReadFault → ⊥) → (result ≡ Ended.Long → ⊥) → (result ≡ Ended.Memory → ⊥) →
+        IfSome (S.left source.old) (λ _. S.left source.new ≡ Some []) }
+
+    // A fault comes only where its count rose, and no count rises otherwise.
+    ensures read { result ≡ Ended.ReadFault → Rose (S.faults source.old) (S.faults source.new) }
+    ensures write { result ≡ Ended.WriteFault → Rose (K.faults sink.old) (K.faults sink.new) }
+    ensures keep { result ≡ Ended.KeeperFault → Rose (P.faults keeper.old) (P.faults keeper.new) }
+    ensures source_count { (result ≡ Ended.ReadFault → ⊥) → S.faults source.new ≡ S.faults source.old }
+    ensures sink_count { (result ≡ Ended.WriteFault → ⊥) → K.faults sink.new ≡ K.faults sink.old }
+    ensures keeper_count { (result ≡ Ended.KeeperFault → ⊥) → P.faults keeper.new ≡ P.faults keeper.old }
+
+    // No fault: what the source and the keeper hold decides, or memory is wanted.
+    ensures complete { (Rose (S.faults source.old) (S.faults source.new) → ⊥)
+        → (Rose (K.faults sink.old) (K.faults sink.new) → ⊥) → (Rose (P.faults keeper.old) (P.faults keeper.new) → ⊥)
+        → IfSome (S.left source.old) (λ stream. IfSome (P.kept keeper.old) (HasFate (H.digest hash.now) result stream)) }
+{
+    match read_all(alloc, source, MOST_OCTETS) {
+        Ok(stream) => verify_octets(alloc, hash, sink, keeper, stream.as_slice()),
+        Err(ReadError::Memory) => Ended::Memory,
+        Err(ReadError::Failed) => Ended::ReadFault,
+        Err(ReadError::Long) => Ended::Long,
+    }
+}
