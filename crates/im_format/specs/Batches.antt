@@ -13,7 +13,8 @@ use Rattle.im_format.specs.declared.spans.Span.{Span}
 abbrev pub gate_of : ℕ → ℕ
 gate_of b = 25 * b
 
--- the gate at this place is open, and all octets up to the next gate's are there
+-- a batch counts where the one before it does, its gate is open, and all octets up to the next gate, that one
+-- too, are there: what is said of its own gate
 pub record Counts (log : List ℕ) (gate : ℕ) : Type 0 where
   pub opened : slice_index_or log gate 0 ≡ 1
   pub whole : gate + 25 < length log

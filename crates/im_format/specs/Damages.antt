@@ -11,7 +11,8 @@ use Rattle.im_format.specs.Spans.{octets_at}
 use Rattle.im_format.specs.declared.damages.Damage.{Damage}
 use Rattle.im_format.specs.declared.damages.Difference.TheVariants.{Numbers, Digests}
 
--- two numbers that differ where they should not, and two digests
+-- what was wanted and what was found at a place of a file: two numbers (of a bound the bound and the field),
+-- or two digests
 abbrev pub numbers : ℕ → ℕ → ℕ → ℕ → Damage
 numbers number place want got = record { file = number; at = place; found = Numbers want got }
 
@@ -101,7 +102,7 @@ slots_checks hash image id keys at (suc count) =
     ++ (value_check hash image slot ∷ slots_checks hash image id (keys ++ slot.key ∷ []) slot.end count)
 
 -- ID, Ts, BlTxID and entry count of transaction id, where the tree of the one before had this size: its own
--- is no smaller, and below its ID
+-- is no smaller, and below its ID. There are 1 to 1024 entries.
 abbrev pub head_checks : List ℕ → ℕ → ℕ → ℕ → List (Check Damage)
 head_checks log id bl at =
     reaches log at 8
@@ -125,7 +126,7 @@ pub record Reached : Type 0 where
   pub bl : ℕ
   pub place : ℕ
 
--- at first
+-- before anything was read
 abbrev pub at_first : Reached
 at_first = record { alhs = []; bl = 0; place = 0 }
 
@@ -145,7 +146,7 @@ behind_one hash image r = record {
   place = record_end image r.place;
 }
 
--- behind so many
+-- behind so many transactions
 abbrev pub behind : Hash → Files → ℕ → Reached → Reached
 behind hash image zero r = r
 behind hash image (suc count) r = behind hash image count (behind_one hash image r)
@@ -157,7 +158,7 @@ record_checks hash image r =
     ++ (slots_checks hash image (next_id r) [] (r.place + 28) (count_at (image 0) r.place)
     ++ alh_checks (image 0) (alh_place image r.place) (next_alh hash image r))
 
--- the records of so many
+-- the records of so many transactions, from the next one on
 abbrev pub records_checks : Hash → Files → ℕ → Reached → List (Check Damage)
 records_checks hash image zero r = []
 records_checks hash image (suc count) r =
@@ -181,6 +182,6 @@ batches_checks hash image (suc most) gate r =
     ++ batches_checks hash image most (gate + 25) (behind hash image (number_at (image 1) gate) r)
     else []
 
--- all of an image
+-- all that is checked of an image: the first that fails is its damage
 abbrev pub image_checks : Hash → Files → List (Check Damage)
 image_checks hash image = batches_checks hash image (length (image 1)) 0 at_first

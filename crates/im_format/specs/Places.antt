@@ -14,8 +14,8 @@ abbrev pub refs_of : List Record → List ValueRef
 refs_of [] = []
 refs_of (r ∷ rs) = r.refs ++ refs_of rs
 
--- the values from entry i of transaction id on go to log (id + i) mod w, each at that log's end behind
--- all references before it, where w is the number of value logs
+-- the value of each entry j of transaction id, from entry i on, goes to log (id + j) mod w, at that log's end
+-- behind all references before it, where w is the number of value logs
 abbrev pub AreAppended : ℕ → ℕ → ℕ → List ValueRef → List ValueRef → Type 0
 AreAppended w id i before [] = Unit {0}
 AreAppended w id i before (ref ∷ refs) =

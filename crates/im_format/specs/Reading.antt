@@ -102,7 +102,7 @@ abbrev pub records_end : Files → ℕ → ℕ → ℕ
 records_end image at zero = at
 records_end image at (suc count) = records_end image (record_end image at) count
 
--- the gate at this place is open, and all octets up to the next gate's are there
+-- the gate at this place is open, and all octets up to the next gate, that one too, are there
 abbrev pub counts : List ℕ → ℕ → Bool
 counts log gate = nat_eq (slice_index_or log gate 0) 1 && nat_lt (gate + 25) (length log)
 

@@ -36,7 +36,8 @@ abbrev pub records_octets : ℕ → List Record → List ℕ
 records_octets id [] = []
 records_octets id (r ∷ rs) = record_octets id r ++ records_octets (id + 1) rs
 
--- the reference says of a value of transaction id its digest, its length and a place for it within a value log
+-- the reference says of a value of transaction id its digest, its length, a value log, 0 to 3, and a place in
+-- it from which it ends at most at id * 2^22
 pub record IsReference (hash : Hash) (id : ℕ) (value : List ℕ) (ref : ValueRef) : Type 0 where
   pub hval : ref.hval ≡ hash value
   pub len : ref.len ≡ length value
@@ -51,12 +52,12 @@ AreReferences hash id (entry ∷ entries) [] = ⊥
 AreReferences hash id (entry ∷ entries) (ref ∷ refs) =
     IsReference hash id entry.value ref × AreReferences hash id entries refs
 
--- transaction id of the history, with references of its values and its Alh
+-- references that fit the values of transaction id, and the Alh of this number of the history
 pub record IsRecord (hash : Hash) (history : List Transaction) (id : ℕ) (r : Record) : Type 0 where
   pub refs : AreReferences hash id r.tx.entries r.refs
   pub alh : r.alh ≡ alh_of hash history id
 
--- records of the history that follow each other, from this ID on
+-- the same of records with rising IDs, from this one on
 abbrev pub AreRecords : Hash → List Transaction → ℕ → List Record → Type 0
 AreRecords hash history id [] = Unit {0}
 AreRecords hash history id (r ∷ rs) = IsRecord hash history id r × AreRecords hash history (id + 1) rs
