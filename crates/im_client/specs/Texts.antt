@@ -86,13 +86,15 @@ shown_text (says.Dual dual) = codes "dual " ++ decimal dual.source.id ++ codes "
 shown_text (says.Advance dual anchor) = codes "advance " ++ decimal dual.source.id ++ codes " " ++ decimal dual.target.id
 shown_text (says.Item dual entry index path) = codes "item " ++ decimal dual.source.id ++ codes " " ++ decimal index
 
--- what is written of line n: nothing where it is passed over
+-- what is written of line n where its message is accepted
 unfoldable pub ok_line : ℕ → Message → List ℕ
 ok_line n message = codes "ok " ++ decimal n ++ codes " " ++ shown_text message ++ codes "\n"
 
+-- and where a check of it fails
 unfoldable pub refused_line : ℕ → LineFault → List ℕ
 refused_line n fault = codes "refused " ++ decimal n ++ codes " " ++ fault_text fault ++ codes "\n"
 
+-- what is written of line n: nothing where it is passed over
 abbrev pub outcome_line : ℕ → Outcome → List ℕ
 outcome_line n Passed = []
 outcome_line n (Accepted message) = ok_line n message

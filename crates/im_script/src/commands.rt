@@ -24,8 +24,8 @@ pub enum Command {
         source: u64,
         target: u64,
     },
-    /// Asks for an entry of a transaction by its index, from 0, proved under a later state: that of the
-    /// last transaction unless another is named.
+    /// Asks for an entry of a transaction by its index, from 0, proved under its own or a later state:
+    /// that of the last transaction unless another is named.
     Item {
         number: u64,
         index: u32,
