@@ -1,0 +1,4 @@
+pub mod FieldLemmas
+pub mod HoldLemmas
+pub mod PassLemmas
+pub mod EntryLemmas
