@@ -1,8 +1,10 @@
 pub mod EntryLemmas
 pub mod FieldLemmas
+pub mod HeldEntries
+pub mod HeldRecords
 pub mod HoldLemmas
-pub mod PassLemmas
 pub mod KeyLemmas
 pub mod MetadataLemmas
-pub mod HeldEntries
+pub mod PassLemmas
+pub mod RecordReads
 pub mod SlotReads

@@ -16,6 +16,7 @@ use Rattle.im_format.specs.declared.references.ValueRef.{ValueRef}
 use Rattle.im_standing.proofs.EntryLemmas.{HasEntry, HasReference, hval_place}
 use Rattle.im_standing.proofs.FieldLemmas.{number2-held, number4-held, number8-held, octet-held, length-field2, length-field4, length-field8}
 use Rattle.im_standing.proofs.HeldEntries.{HoldsEntry, HoldsEntries, entry_end, entries_end}
+use Rattle.im_standing.proofs.HeldRecords.{Has32}
 use Rattle.im_standing.proofs.HoldLemmas.{Holds}
 use Rattle.im_standing.proofs.KeyLemmas.{IsFresh, AreApart, fresh-index, bytes-same}
 use Rattle.im_standing.proofs.MetadataLemmas.{attributes-short, attributes-pass}
@@ -134,3 +135,44 @@ slot-passes hash image id at keys entry ref long fresh h =
 pub value-passes : (hash : Hash) (image : Files) (id at : ℕ) (entry : Entry) (ref : ValueRef) → HoldsEntry hash image id at entry ref → (value_check hash image (slot_like at entry ref)).0 ≡ true
 value-passes hash image id at entry ref h =
     bytes-same (hash (value_at image ref)) ref.hval (ap (λ v. hash v) (value-read image entry.value ref h.refers.len h.reads) ∙ sym h.refers.hval)
+
+-- an entry with another value
+abbrev entry_of : Entry → List ℕ → Entry
+entry_of entry value = record { md = entry.md; key = entry.key; value = value }
+
+-- entries that stand are read, and pass their checks
+pub record EntriesRead (hash : Hash) (image : Files) (id : ℕ) (keys : List (List ℕ)) (at : ℕ) (entries : List Entry) (refs : List ValueRef) : Type 0 where
+  pub are : map (entry_in image) (slots_at (image 0) at (length entries)) ≡ entries
+  pub ends : slots_end (image 0) at (length entries) ≡ entries_end at entries
+  pub pass : AllPass (slots_checks hash image id keys at (length entries))
+
+-- an entry that stands is the slot that is read
+pub held-slot : (hash : Hash) (image : Files) (id at : ℕ) (entry : Entry) (ref : ValueRef) → length ref.hval ≡ 32 → id ≤ 1048576 → HoldsEntry hash image id at entry ref → slot_at (image 0) at ≡ slot_like at entry ref
+held-slot hash image id at entry ref long few h =
+    let short : length entry.md ≤ 2 = attributes-short entry.md h.is.deleted h.is.non_indexable h.is.md in
+    let key : length entry.key ≤ 1024 = h.is.key_short in
+    let len : ref.len ≡ length entry.value = h.refers.len in
+    let value : length entry.value ≤ 4096 = h.is.value_short in
+    let room : ref.at + ref.len ≤ id * 2 ^ 22 = h.refers.room in
+    slot-is (image 0) at entry ref (omega arith) (omega arith) long (omega arith) (omega arith) h.has
+
+pub entries-read : (hash : Hash) (image : Files) (id : ℕ) (keys : List (List ℕ)) (at : ℕ) (entries : List Entry) (refs : List ValueRef) → Has32 hash → id ≤ 1048576 → AreApart keys entries → HoldsEntries hash image id at entries refs → EntriesRead hash image id keys at entries refs
+entries-read hash image id keys at [] [] long few apart h = record { are = refl; ends = refl; pass = tt }
+entries-read hash image id keys at [] (ref ∷ refs) long few apart h = absurd h
+entries-read hash image id keys at (entry ∷ entries) [] long few apart h = absurd h
+entries-read hash image id keys at (entry ∷ entries) (ref ∷ refs) long few apart h =
+    let hval : length ref.hval ≡ 32 = ap length h.0.refers.hval ∙ long.long entry.value in
+    let is : slot_at (image 0) at ≡ slot_like at entry ref = held-slot hash image id at entry ref hval few h.0 in
+    let more = entries-read hash image id (keys ++ entry.key ∷ []) (entry_end at entry) entries refs long few apart.1 h.1 in
+    let n : ℕ = length entries in
+    let slot : Slot = slot_like at entry ref in
+    record {
+      are = ap (λ (s : Slot). entry_in image s ∷ map (entry_in image) (slots_at (image 0) s.end n)) is
+      ∙ ap (λ v. entry_of entry v ∷ map (entry_in image) (slots_at (image 0) (entry_end at entry) n)) (value-read image entry.value ref h.0.refers.len h.0.reads)
+      ∙ ap (λ es. entry ∷ es) more.are;
+      ends = ap (λ (s : Slot). slots_end (image 0) s.end n) is ∙ more.ends;
+      pass = subst (λ (s : Slot). AllPass (slot_checks image id keys s ++ (value_check hash image s ∷ slots_checks hash image id (keys ++ s.key ∷ []) s.end n))) (sym is)
+      (pass-both (slot_checks image id keys slot) (value_check hash image slot ∷ slots_checks hash image id (keys ++ entry.key ∷ []) (entry_end at entry) n)
+      (slot-passes hash image id at keys entry ref hval apart.0 h.0)
+      (value-passes hash image id at entry ref h.0, more.pass));
+    }
