@@ -1,5 +1,9 @@
+pub mod AllLemmas
+pub mod BatchReads
+pub mod EmptyLemmas
 pub mod EntryLemmas
 pub mod FieldLemmas
+pub mod HeldBatches
 pub mod HeldEntries
 pub mod HeldRecords
 pub mod HoldLemmas
@@ -8,3 +12,5 @@ pub mod MetadataLemmas
 pub mod PassLemmas
 pub mod RecordReads
 pub mod SlotReads
+pub mod StandReads
+pub mod StandSplits

@@ -1,8 +1,31 @@
 //! What holds of the definitions. Each function does nothing, and its contract is the law.
 
-ghost use Rattle.std.specs.Prelude.{◌≡◌, ℕ, List, length};
+ghost use Rattle.std.specs.Prelude.{◌≡◌, ℕ, List, [], length, Ok};
+ghost use Rattle.im_digest.specs.Digests.{Hash};
+ghost use Rattle.im_disk.specs.Disk.{Files};
+ghost use Rattle.im_format.specs.Batches.{Counts};
+ghost use Rattle.im_format.specs.Damages.{image_checks};
+ghost use Rattle.im_format.specs.Reading.{history_in};
+ghost use Rattle.im_format.specs.Standing.{Stands};
+ghost use Rattle.im_model.specs.declared.transactions.Transaction.{Transaction};
+ghost use Rattle.im_mtree.specs.Checks.{first_fail};
 
-/// A law
-pub fn a_law()
-    ensures { (xs : List ℕ) → length xs ≡ length xs }
+/// An image that stands for a history has no damage, and that history is read of it. Digests have 32
+/// octets.
+pub fn a_history_that_stands_is_read()
+    ensures undamaged { (hash : Hash) (image : Files) (history : List Transaction) → ((octets : List ℕ) → length (hash octets) ≡ 32) → Stands hash image history → first_fail (image_checks hash image) ≡ Ok tt }
+    ensures read { (hash : Hash) (image : Files) (history : List Transaction) → ((octets : List ℕ) → length (hash octets) ≡ 32) → Stands hash image history → history_in image ≡ history }
+{}
+
+/// An image stands for one history at most.
+pub fn an_image_stands_for_one_history()
+    ensures { (hash : Hash) (image : Files) (a b : List Transaction) → ((octets : List ℕ) → length (hash octets) ≡ 32) → Stands hash image a → Stands hash image b → a ≡ b }
+{}
+
+/// An image in whose commit log no batch counts stands for the empty history, and for no other. So the
+/// empty image does.
+pub fn no_batch_stands_for_the_empty_history()
+    ensures stands { (hash : Hash) (image : Files) → (Counts (image 1) 0 → ⊥) → Stands hash image [] }
+    ensures alone { (hash : Hash) (image : Files) (history : List Transaction) → (Counts (image 1) 0 → ⊥) → Stands hash image history → history ≡ [] }
+    ensures empty { (hash : Hash) → Stands hash (λ file. []) [] }
 {}
