@@ -1,5 +1,5 @@
 -- What an image holds of a transaction's entries: the fields of each, and its value.
-use Rattle.std.proofs.Common.{ℕ, ◌+◌, ◌≤◌, List, [], ◌∷◌, length}
+use Rattle.std.proofs.Common.{◌≡◌, ℕ, ◌+◌, List, [], ◌∷◌, length}
 use Rattle.im_digest.specs.Digests.{Hash}
 use Rattle.im_disk.specs.Disk.{Files}
 use Rattle.im_model.specs.History.{IsEntry}
@@ -15,6 +15,7 @@ use Rattle.im_standing.proofs.EntryLemmas.{HasEntry, hval_place}
 pub record HoldsEntry (hash : Hash) (image : Files) (id at : ℕ) (entry : Entry) (ref : ValueRef) : Type 0 where
   pub is : IsEntry entry
   pub refers : IsReference hash id entry.value ref
+  pub size : length ref.hval ≡ 32
   pub has : HasEntry (image 0) at entry ref
   pub lies : LiesIn image ref
   pub reads : Reads image (value_span entry.value ref)

@@ -31,6 +31,7 @@ pub record HoldsRecord (hash : Hash) (image : Files) (r : Reached) (rec : Record
   pub entries : HoldsEntries hash image (next_id r) (r.place + 28) rec.tx.entries rec.refs
   pub digest : Holds (image 0) (entries_end (r.place + 28) rec.tx.entries) rec.alh
   pub digest_is : rec.alh ≡ alh hash (next_header hash r.alhs rec.tx)
+  pub size : length rec.alh ≡ 32
 
 -- what is reached behind it
 abbrev pub grown : Reached → Record → Reached
@@ -67,14 +68,13 @@ place-grown_by r (rec ∷ recs) =
     omega arith
 
 -- entries end where their octets do
-pub entries-end : (hash : Hash) (image : Files) (id at : ℕ) (entries : List Entry) (refs : List ValueRef) → Has32 hash → HoldsEntries hash image id at entries refs → entries_end at entries ≡ at + length (entries_octets entries refs)
-entries-end hash image id at [] [] long h = omega arith
-entries-end hash image id at [] (ref ∷ refs) long h = absurd h
-entries-end hash image id at (entry ∷ entries) [] long h = absurd h
-entries-end hash image id at (entry ∷ entries) (ref ∷ refs) long h =
-    let more = entries-end hash image id (entry_end at entry) entries refs long h.1 in
-    let hval : length ref.hval ≡ 32 = ap length h.0.refers.hval ∙ long.long entry.value in
-    let one = length-entry entry ref hval in
+pub entries-end : (hash : Hash) (image : Files) (id at : ℕ) (entries : List Entry) (refs : List ValueRef) → HoldsEntries hash image id at entries refs → entries_end at entries ≡ at + length (entries_octets entries refs)
+entries-end hash image id at [] [] h = omega arith
+entries-end hash image id at [] (ref ∷ refs) h = absurd h
+entries-end hash image id at (entry ∷ entries) [] h = absurd h
+entries-end hash image id at (entry ∷ entries) (ref ∷ refs) h =
+    let more = entries-end hash image id (entry_end at entry) entries refs h.1 in
+    let one = length-entry entry ref h.0.size in
     let both = length-append (entry_octets entry ref) (entries_octets entries refs) in
     omega arith
 

@@ -5,7 +5,7 @@ use Rattle.std.proofs.lemmas.Bool.{le-leb, eq-eqb}
 use Rattle.im_octet.specs.Fields.{field4, field8, signed_field8}
 use Rattle.im_digest.specs.Digests.{Hash}
 use Rattle.im_disk.specs.Disk.{Files}
-use Rattle.im_model.specs.Headers.{alh, alh_string}
+use Rattle.im_model.specs.Headers.{alh}
 use Rattle.im_model.specs.History.{IsTransaction, next_header}
 use Rattle.im_model.specs.declared.entries.Entry.{Entry}
 use Rattle.im_model.specs.declared.transactions.Transaction.{Transaction}
@@ -15,7 +15,7 @@ use Rattle.im_format.specs.Spans.{octets_at}
 use Rattle.im_format.specs.declared.records.Record.{Record}
 use Rattle.im_standing.proofs.FieldLemmas.{number4-held, number8-held, signed-held, length-field4, length-field8, length-signed}
 use Rattle.im_standing.proofs.HeldEntries.{HoldsEntries, entries_end}
-use Rattle.im_standing.proofs.HeldRecords.{Has32, HoldsRecord, HoldsRecords, grown, grown_by, entries-end, length-record}
+use Rattle.im_standing.proofs.HeldRecords.{HoldsRecord, HoldsRecords, grown, grown_by, entries-end, length-record}
 use Rattle.im_standing.proofs.HoldLemmas.{Holds}
 use Rattle.im_standing.proofs.KeyLemmas.{distinct-apart, bytes-same}
 use Rattle.im_standing.proofs.PassLemmas.{AllPass, pass-both}
@@ -86,13 +86,13 @@ alh-passes log at digest long h =
 abbrev reached_of : List (List ℕ) → ℕ → ℕ → Reached
 reached_of alhs bl place = record { alhs = alhs; bl = bl; place = place }
 
-pub record-read : (hash : Hash) (image : Files) (r : Reached) (rec : Record) → Has32 hash → HoldsRecord hash image r rec → RecordRead hash image r rec
-record-read hash image r rec long h =
+pub record-read : (hash : Hash) (image : Files) (r : Reached) (rec : Record) → HoldsRecord hash image r rec → RecordRead hash image r rec
+record-read hash image r rec h =
     let head : HeadRead image r rec = head-read hash image r rec h in
     let log : List ℕ = image 0 in
     let first : ℕ = r.place + 28 in
     let read : EntriesRead hash image (next_id r) [] first rec.tx.entries rec.refs =
-    entries-read hash image (next_id r) [] first rec.tx.entries rec.refs long h.few (distinct-apart rec.tx.entries h.is.distinct) h.entries in
+    entries-read hash image (next_id r) [] first rec.tx.entries rec.refs h.few (distinct-apart rec.tx.entries h.is.distinct) h.entries in
     let tx : transaction_in image r.place ≡ rec.tx =
     ap (λ t. tx_of t (map (entry_in image) (slots_at log first (count_at log r.place))) (bl_at log r.place)) head.ts
     ∙ ap (λ n. tx_of rec.tx.ts (map (entry_in image) (slots_at log first n)) (bl_at log r.place)) head.count
@@ -100,8 +100,8 @@ record-read hash image r rec long h =
     ∙ ap (λ b. tx_of rec.tx.ts rec.tx.entries b) head.bl in
     let spot : alh_place image r.place ≡ entries_end first rec.tx.entries = ap (λ n. slots_end log first n) head.count ∙ read.ends in
     let next : next_alh hash image r ≡ rec.alh = ap (λ t. alh hash (next_header hash r.alhs t)) tx ∙ sym h.digest_is in
-    let size : length rec.alh ≡ 32 = ap length h.digest_is ∙ long.long (alh_string hash (next_header hash r.alhs rec.tx)) in
-    let ends = entries-end hash image (next_id r) first rec.tx.entries rec.refs long h.entries in
+    let size : length rec.alh ≡ 32 = h.size in
+    let ends = entries-end hash image (next_id r) first rec.tx.entries rec.refs h.entries in
     let whole = length-record (next_id r) rec in
     let place : record_end image r.place ≡ (grown r rec).place = omega arith in
     record {
@@ -127,11 +127,11 @@ pub record RecordsRead (hash : Hash) (image : Files) (r : Reached) (recs : List 
   pub behind_is : behind hash image (length recs) r ≡ grown_by r recs
   pub pass : AllPass (records_checks hash image (length recs) r)
 
-pub records-read : (hash : Hash) (image : Files) (r : Reached) (recs : List Record) → Has32 hash → HoldsRecords hash image r recs → RecordsRead hash image r recs
-records-read hash image r [] long h = record { txs = refl; place = refl; behind_is = refl; pass = tt }
-records-read hash image r (rec ∷ recs) long h =
-    let one : RecordRead hash image r rec = record-read hash image r rec long h.0 in
-    let more : RecordsRead hash image (grown r rec) recs = records-read hash image (grown r rec) recs long h.1 in
+pub records-read : (hash : Hash) (image : Files) (r : Reached) (recs : List Record) → HoldsRecords hash image r recs → RecordsRead hash image r recs
+records-read hash image r [] h = record { txs = refl; place = refl; behind_is = refl; pass = tt }
+records-read hash image r (rec ∷ recs) h =
+    let one : RecordRead hash image r rec = record-read hash image r rec h.0 in
+    let more : RecordsRead hash image (grown r rec) recs = records-read hash image (grown r rec) recs h.1 in
     let n : ℕ = length recs in
     record {
       txs = ap (λ t. t ∷ transactions_in image (record_end image r.place) n) one.tx

@@ -16,7 +16,6 @@ use Rattle.im_format.specs.declared.references.ValueRef.{ValueRef}
 use Rattle.im_standing.proofs.EntryLemmas.{HasEntry, HasReference, hval_place}
 use Rattle.im_standing.proofs.FieldLemmas.{number2-held, number4-held, number8-held, octet-held, length-field2, length-field4, length-field8}
 use Rattle.im_standing.proofs.HeldEntries.{HoldsEntry, HoldsEntries, entry_end, entries_end}
-use Rattle.im_standing.proofs.HeldRecords.{Has32}
 use Rattle.im_standing.proofs.HoldLemmas.{Holds}
 use Rattle.im_standing.proofs.KeyLemmas.{IsFresh, AreApart, fresh-index, bytes-same}
 use Rattle.im_standing.proofs.MetadataLemmas.{attributes-short, attributes-pass}
@@ -99,8 +98,9 @@ key-passes log keys at entry ref is fresh h =
     (le-leb (at + 2 + length entry.md + 2 + length entry.key) (length log) (omega arith),
     (eq-eqb (index_of entry.key keys) (length keys) (fresh-index entry.key keys fresh), tt)))))
 
-ref-passes : (hash : Hash) (image : Files) (id at : ℕ) (entry : Entry) (ref : ValueRef) → length ref.hval ≡ 32 → HoldsEntry hash image id at entry ref → AllPass (slot_ref_checks image id (slot_like at entry ref))
-ref-passes hash image id at entry ref long h =
+ref-passes : (hash : Hash) (image : Files) (id at : ℕ) (entry : Entry) (ref : ValueRef) → HoldsEntry hash image id at entry ref → AllPass (slot_ref_checks image id (slot_like at entry ref))
+ref-passes hash image id at entry ref h =
+    let long : length ref.hval ≡ 32 = h.size in
     let p : ℕ = hval_place at (length entry.md) (length entry.key) in
     let log : List ℕ = image 0 in
     let hval : p + length ref.hval ≤ length log = h.has.of.hval.within in
@@ -122,14 +122,14 @@ ref-passes hash image id at entry ref long h =
     (le-leb (ref.at + ref.len) (length (image (2 + ref.log))) h.lies.within, tt))))))))
 
 -- an entry that stands passes its checks
-pub slot-passes : (hash : Hash) (image : Files) (id at : ℕ) (keys : List (List ℕ)) (entry : Entry) (ref : ValueRef) → length ref.hval ≡ 32 → IsFresh entry.key keys → HoldsEntry hash image id at entry ref → AllPass (slot_checks image id keys (slot_like at entry ref))
-slot-passes hash image id at keys entry ref long fresh h =
+pub slot-passes : (hash : Hash) (image : Files) (id at : ℕ) (keys : List (List ℕ)) (entry : Entry) (ref : ValueRef) → IsFresh entry.key keys → HoldsEntry hash image id at entry ref → AllPass (slot_checks image id keys (slot_like at entry ref))
+slot-passes hash image id at keys entry ref fresh h =
     let slot : Slot = slot_like at entry ref in
     pass-both (slot_md_checks (image 0) slot) (slot_key_checks (image 0) keys slot ++ slot_ref_checks image id slot)
     (md-passes (image 0) at entry ref h.is h.has)
     (pass-both (slot_key_checks (image 0) keys slot) (slot_ref_checks image id slot)
     (key-passes (image 0) keys at entry ref h.is fresh h.has)
-    (ref-passes hash image id at entry ref long h))
+    (ref-passes hash image id at entry ref h))
 
 -- and its value does
 pub value-passes : (hash : Hash) (image : Files) (id at : ℕ) (entry : Entry) (ref : ValueRef) → HoldsEntry hash image id at entry ref → (value_check hash image (slot_like at entry ref)).0 ≡ true
@@ -147,23 +147,22 @@ pub record EntriesRead (hash : Hash) (image : Files) (id : ℕ) (keys : List (Li
   pub pass : AllPass (slots_checks hash image id keys at (length entries))
 
 -- an entry that stands is the slot that is read
-pub held-slot : (hash : Hash) (image : Files) (id at : ℕ) (entry : Entry) (ref : ValueRef) → length ref.hval ≡ 32 → id ≤ 1048576 → HoldsEntry hash image id at entry ref → slot_at (image 0) at ≡ slot_like at entry ref
-held-slot hash image id at entry ref long few h =
+pub held-slot : (hash : Hash) (image : Files) (id at : ℕ) (entry : Entry) (ref : ValueRef) → id ≤ 1048576 → HoldsEntry hash image id at entry ref → slot_at (image 0) at ≡ slot_like at entry ref
+held-slot hash image id at entry ref few h =
     let short : length entry.md ≤ 2 = attributes-short entry.md h.is.deleted h.is.non_indexable h.is.md in
     let key : length entry.key ≤ 1024 = h.is.key_short in
     let len : ref.len ≡ length entry.value = h.refers.len in
     let value : length entry.value ≤ 4096 = h.is.value_short in
     let room : ref.at + ref.len ≤ id * 2 ^ 22 = h.refers.room in
-    slot-is (image 0) at entry ref (omega arith) (omega arith) long (omega arith) (omega arith) h.has
+    slot-is (image 0) at entry ref (omega arith) (omega arith) h.size (omega arith) (omega arith) h.has
 
-pub entries-read : (hash : Hash) (image : Files) (id : ℕ) (keys : List (List ℕ)) (at : ℕ) (entries : List Entry) (refs : List ValueRef) → Has32 hash → id ≤ 1048576 → AreApart keys entries → HoldsEntries hash image id at entries refs → EntriesRead hash image id keys at entries refs
-entries-read hash image id keys at [] [] long few apart h = record { are = refl; ends = refl; pass = tt }
-entries-read hash image id keys at [] (ref ∷ refs) long few apart h = absurd h
-entries-read hash image id keys at (entry ∷ entries) [] long few apart h = absurd h
-entries-read hash image id keys at (entry ∷ entries) (ref ∷ refs) long few apart h =
-    let hval : length ref.hval ≡ 32 = ap length h.0.refers.hval ∙ long.long entry.value in
-    let is : slot_at (image 0) at ≡ slot_like at entry ref = held-slot hash image id at entry ref hval few h.0 in
-    let more = entries-read hash image id (keys ++ entry.key ∷ []) (entry_end at entry) entries refs long few apart.1 h.1 in
+pub entries-read : (hash : Hash) (image : Files) (id : ℕ) (keys : List (List ℕ)) (at : ℕ) (entries : List Entry) (refs : List ValueRef) → id ≤ 1048576 → AreApart keys entries → HoldsEntries hash image id at entries refs → EntriesRead hash image id keys at entries refs
+entries-read hash image id keys at [] [] few apart h = record { are = refl; ends = refl; pass = tt }
+entries-read hash image id keys at [] (ref ∷ refs) few apart h = absurd h
+entries-read hash image id keys at (entry ∷ entries) [] few apart h = absurd h
+entries-read hash image id keys at (entry ∷ entries) (ref ∷ refs) few apart h =
+    let is : slot_at (image 0) at ≡ slot_like at entry ref = held-slot hash image id at entry ref few h.0 in
+    let more = entries-read hash image id (keys ++ entry.key ∷ []) (entry_end at entry) entries refs few apart.1 h.1 in
     let n : ℕ = length entries in
     let slot : Slot = slot_like at entry ref in
     record {
@@ -173,6 +172,6 @@ entries-read hash image id keys at (entry ∷ entries) (ref ∷ refs) long few a
       ends = ap (λ (s : Slot). slots_end (image 0) s.end n) is ∙ more.ends;
       pass = subst (λ (s : Slot). AllPass (slot_checks image id keys s ++ (value_check hash image s ∷ slots_checks hash image id (keys ++ s.key ∷ []) s.end n))) (sym is)
       (pass-both (slot_checks image id keys slot) (value_check hash image slot ∷ slots_checks hash image id (keys ++ entry.key ∷ []) (entry_end at entry) n)
-      (slot-passes hash image id at keys entry ref hval apart.0 h.0)
+      (slot-passes hash image id at keys entry ref apart.0 h.0)
       (value-passes hash image id at entry ref h.0, more.pass));
     }

@@ -111,7 +111,7 @@ stands-holds hash image history long s =
 pub stands-read : (hash : Hash) (image : Files) (history : List Transaction) → Has32 hash → Stands hash image history → (first_fail (image_checks hash image) ≡ Ok tt) × (history_in image ≡ history)
 stands-read hash image history long s =
     let read : BatchesRead hash image (length (image 1)) 0 at_first s.batches =
-    batches-read hash image (length (image 1)) 0 at_first s.batches long (omega arith) (omega arith) (stands-holds hash image history long s) in
+    batches-read hash image (length (image 1)) 0 at_first s.batches (omega arith) (omega arith) (stands-holds hash image history long s) in
     (none-fails (image_checks hash image) read.pass, read.history ∙ s.transactions_are)
 
 -- so it stands for no other

@@ -6,7 +6,7 @@ use Rattle.std.proofs.lemmas.List.{length-take, length-drop, get_or_append_left}
 use Rattle.im_octet.specs.Fields.{field4, field8, signed_field8}
 use Rattle.im_digest.specs.Digests.{Hash}
 use Rattle.im_disk.specs.Disk.{Files}
-use Rattle.im_model.specs.Headers.{alh}
+use Rattle.im_model.specs.Headers.{alh, alh_string}
 use Rattle.im_model.specs.History.{Follow, IsEntry, IsTransaction, alh_of, alhs_from, alhs_of, first_alh, next_header}
 use Rattle.im_model.specs.declared.entries.Entry.{Entry}
 use Rattle.im_model.specs.declared.transactions.Transaction.{Transaction}
@@ -48,6 +48,7 @@ entries-split hash image id at (entry ∷ entries) (ref ∷ refs) long is refer 
     (record {
       is = is 0 entry (omega arith);
       refers = refer.0;
+      size = hval;
       has = entry-split (image 0) at entry ref hval front;
       lies = lie 0 ref (omega arith);
       reads = read 0 (record { file = 2 + ref.log; at = ref.at; octets = entry.value }) (omega arith);
@@ -88,7 +89,7 @@ record-split hash image r rec long next h lie read =
     let held : HoldsEntries hash image (next_id r) (r.place + 28) rec.tx.entries rec.refs =
     entries-split hash image (next_id r) (r.place + 28) rec.tx.entries rec.refs long next.is.entries next.refer
     (holds-at (r.place + 28) (omega arith) (holds-right head entries hd)) lie read in
-    let ends = entries-end hash image (next_id r) (r.place + 28) rec.tx.entries rec.refs long held in
+    let ends = entries-end hash image (next_id r) (r.place + 28) rec.tx.entries rec.refs held in
     record {
       is = next.is;
       rises = next.rises;
@@ -100,6 +101,7 @@ record-split hash image r rec long next h lie read =
       entries = held;
       digest = holds-at (entries_end (r.place + 28) rec.tx.entries) (omega arith) (holds-right (head ++ entries) rec.alh h);
       digest_is = next.digest_is;
+      size = ap length next.digest_is ∙ long.long (alh_string hash (next_header hash r.alhs rec.tx));
     }
 
 -- what is known of the records that follow, by their history
