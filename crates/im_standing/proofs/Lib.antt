@@ -3,6 +3,7 @@ pub mod BatchReads
 pub mod EmptyLemmas
 pub mod EntryLemmas
 pub mod FieldLemmas
+pub mod FieldsBack
 pub mod HeldBatches
 pub mod HeldEntries
 pub mod HeldRecords
@@ -11,6 +12,8 @@ pub mod KeyLemmas
 pub mod MetadataLemmas
 pub mod PassLemmas
 pub mod RecordReads
+pub mod RecordsBack
 pub mod SlotReads
+pub mod SlotsBack
 pub mod StandReads
 pub mod StandSplits
