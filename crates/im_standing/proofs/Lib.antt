@@ -1,5 +1,6 @@
 pub mod AllLemmas
 pub mod BatchReads
+pub mod BatchesBack
 pub mod EmptyLemmas
 pub mod EntryLemmas
 pub mod FieldLemmas
@@ -15,5 +16,7 @@ pub mod RecordReads
 pub mod RecordsBack
 pub mod SlotReads
 pub mod SlotsBack
+pub mod StandJoins
 pub mod StandReads
 pub mod StandSplits
+pub mod StandsBack

@@ -132,20 +132,12 @@ pub record RecordsBack (hash : Hash) (image : Files) (r : Reached) (count : ℕ)
   pub behind_is : behind hash image count r ≡ grown_by r all
   pub ends : records_end image r.place count ≡ (grown_by r all).place
 
-pub records-back : (hash : Hash) (image : Files) (r : Reached) (count : ℕ) → IsSmall (image 0) → length r.alhs + count ≤ 1048576 → AllPass (records_checks hash image count r) → RecordsBack hash image r count
-records-back hash image r zero small fits pass = record { all = []; many = refl; txs_are = refl; held = tt; behind_is = refl; ends = refl }
-records-back hash image r (suc count) small fits pass =
-    let checks = records_checks hash image count (behind_one hash image r) in
-    let back : RecordBack hash image r = record-back hash image r small (omega arith) (pass-left (record_checks hash image r) checks pass) in
-    let rec : Record = back.one in
-    let next : Reached = grown r rec in
-    let longer : length next.alhs ≡ length r.alhs + 1 = length-grown r rec in
-    let rest : AllPass (records_checks hash image count next) =
-    subst (λ s. AllPass (records_checks hash image count s)) back.behind_is (pass-right (record_checks hash image r) checks pass) in
-    let more : RecordsBack hash image next count = records-back hash image next count small (omega arith) rest in
-    let place : next.place ≡ record_end image r.place = sym (ap (λ (s : Reached). s.place) back.behind_is) in
+-- one that passes, and then more
+records-more : (hash : Hash) (image : Files) (r : Reached) (count : ℕ) (back : RecordBack hash image r) → RecordsBack hash image (grown r back.one) count → RecordsBack hash image r (suc count)
+records-more hash image r count back more =
+    let place : (grown r back.one).place ≡ record_end image r.place = sym (ap (λ (s : Reached). s.place) back.behind_is) in
     record {
-      all = rec ∷ more.all;
+      all = back.one ∷ more.all;
       many = ap suc more.many;
       txs_are = ap (λ t. t ∷ map (λ rec. rec.tx) more.all) back.tx_is
       ∙ ap (λ ts. transaction_in image r.place ∷ ts) more.txs_are
@@ -154,3 +146,13 @@ records-back hash image r (suc count) small fits pass =
       behind_is = ap (λ s. behind hash image count s) back.behind_is ∙ more.behind_is;
       ends = ap (λ p. records_end image p count) (sym place) ∙ more.ends;
     }
+
+pub records-back : (hash : Hash) (image : Files) (r : Reached) (count : ℕ) → IsSmall (image 0) → length r.alhs + count ≤ 1048576 → AllPass (records_checks hash image count r) → RecordsBack hash image r count
+records-back hash image r zero small fits pass = record { all = []; many = refl; txs_are = refl; held = tt; behind_is = refl; ends = refl }
+records-back hash image r (suc count) small fits pass =
+    let checks = records_checks hash image count (behind_one hash image r) in
+    let back : RecordBack hash image r = record-back hash image r small (omega arith) (pass-left (record_checks hash image r) checks pass) in
+    let longer = length-grown r back.one in
+    let rest : AllPass (records_checks hash image count (grown r back.one)) =
+    subst (λ s. AllPass (records_checks hash image count s)) back.behind_is (pass-right (record_checks hash image r) checks pass) in
+    records-more hash image r count back (records-back hash image (grown r back.one) count small (omega arith) rest)
