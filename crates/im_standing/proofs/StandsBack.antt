@@ -115,3 +115,6 @@ undamaged-stands hash image small0 small1 e =
     let back : BatchesBack hash image (length (image 1)) 0 at_first =
     batches-back hash image (length (image 1)) 0 at_first small0 small1 (omega arith) (all-pass (image_checks hash image) e) in
     subst (λ txs. Stands hash image txs) back.txs_are (holds-stands hash image back.all back.held)
+
+pub read-stands : (hash : Hash) (image : Files) (history : List Transaction) → IsSmall (image 0) → IsSmall (image 1) → first_fail (image_checks hash image) ≡ Ok tt → history_in image ≡ history → Stands hash image history
+read-stands hash image history small0 small1 e is = subst (λ txs. Stands hash image txs) is (undamaged-stands hash image small0 small1 e)
