@@ -1,5 +1,5 @@
 -- What holds of each element of two lists, one behind the other.
-use Rattle.std.proofs.Common.{ℕ, suc, zero, ◌<◌, List, [], ◌∷◌, ◌++◌, length, get_or, arith, All}
+use Rattle.std.proofs.Common.{suc, zero, List, [], ◌∷◌, ◌++◌, arith, All}
 
 pub all-left : {X : Type 0} (P : X → Type 0) → (xs ys : List X) → All P (xs ++ ys) → All P xs
 all-left P [] ys h i d l = absurd (omega arith)

@@ -1,11 +1,11 @@
 -- Batches that stand are read back, and pass their checks.
-use Rattle.std.proofs.Common.{◌≡◌, ◌<◌, ◌≤◌, ◌+◌, ◌-◌, ◌*◌, ◌^◌, suc, zero, ℕ, List, [], ◌∷◌, ◌++◌, length, length-append, map, refl, ap, subst, sym, ◌∙◌, arith, Bool, true, false, if◌then◌else◌}
+use Rattle.std.proofs.Common.{◌≡◌, ◌<◌, ◌≤◌, ◌+◌, ◌-◌, ◌*◌, ◌^◌, suc, zero, ℕ, List, [], ◌∷◌, ◌++◌, length, length-append, map, refl, ap, subst, sym, ◌∙◌, arith, true, false, if◌then◌else◌}
 use Rattle.std.proofs.lemmas.Bool.{le-leb, eq-eqb}
 use Rattle.std.proofs.lemmas.List.{map-append}
 use Rattle.im_digest.specs.Digests.{Hash}
 use Rattle.im_disk.specs.Disk.{Files}
 use Rattle.im_model.specs.declared.entries.Entry.{Entry}
-use Rattle.im_format.specs.Batches.{Counts, joined}
+use Rattle.im_format.specs.Batches.{joined}
 use Rattle.im_format.specs.Damages.{Reached, next_id, behind, is_number, from_one, records_checks, batch_checks, batches_checks}
 use Rattle.im_format.specs.Reading.{number8, counts, first_at, number_at, end_at, transactions_in, records_end, history_from}
 use Rattle.im_format.specs.Records.{entry_octets, entries_octets, record_octets}
@@ -79,10 +79,13 @@ batch-passes hash image gate r batch h fields read =
     subst (λ (k : ℕ). AllPass ((is_number 1 log (gate + 1) (next_id r) ∷ from_one 1 (gate + 9) (1048576 - length r.alhs) k)
     ++ (records_checks hash image k r ++ (is_number 1 log (gate + 17) (behind hash image k r).place ∷ [])))) (sym fields.count)
     (pass-both (is_number 1 log (gate + 1) (next_id r) ∷ from_one 1 (gate + 9) (1048576 - length r.alhs) n)
-    (records_checks hash image n r ++ (is_number 1 log (gate + 17) (behind hash image n r).place ∷ []))
-    (eq-eqb (number8 log (gate + 1)) (next_id r) fields.first,
-    (le-leb 1 n filled,
-    (le-leb n (1048576 - length r.alhs) (omega arith), tt)))
+    (records_checks hash image n r ++ (is_number 1 log (gate + 17) (behind hash image n r).place ∷ [])) (
+      eq-eqb (number8 log (gate + 1)) (next_id r) fields.first,
+      (
+        le-leb 1 n filled,
+        (le-leb n (1048576 - length r.alhs) (omega arith), tt),
+      ),
+    )
     (pass-both (records_checks hash image n r) (is_number 1 log (gate + 17) (behind hash image n r).place ∷ []) read.pass
     (eq-eqb (number8 log (gate + 17)) (behind hash image n r).place ends, tt)))
 
@@ -110,14 +113,14 @@ batches-read hash image (suc most) gate r (batch ∷ batches) enough small h =
     let more : BatchesRead hash image most (gate + 25) next batches = batches-read hash image most (gate + 25) next batches (omega arith) after h.1 in
     record {
       history = ap (λ b. if b then transactions_in image r.place (number_at (image 1) gate) ++ history_from image most (gate + 25) (records_end image r.place (number_at (image 1) gate)) else []) opened
-      ∙ ap (λ n. transactions_in image r.place n ++ history_from image most (gate + 25) (records_end image r.place n)) fields.count
-      ∙ ap (λ ts. ts ++ history_from image most (gate + 25) (records_end image r.place (length batch))) read.txs
-      ∙ ap (λ p. map (λ rec. rec.tx) batch ++ history_from image most (gate + 25) p) read.place
-      ∙ ap (λ ts. map (λ rec. rec.tx) batch ++ ts) more.history
-      ∙ sym (map-append (λ rec. rec.tx) batch (joined batches));
+          ∙ ap (λ n. transactions_in image r.place n ++ history_from image most (gate + 25) (records_end image r.place n)) fields.count
+          ∙ ap (λ ts. ts ++ history_from image most (gate + 25) (records_end image r.place (length batch))) read.txs
+          ∙ ap (λ p. map (λ rec. rec.tx) batch ++ history_from image most (gate + 25) p) read.place
+          ∙ ap (λ ts. map (λ rec. rec.tx) batch ++ ts) more.history
+          ∙ sym (map-append (λ rec. rec.tx) batch (joined batches));
       pass = subst (λ b. AllPass (if b then batch_checks hash image gate r ++ batches_checks hash image most (gate + 25) (behind hash image (number_at (image 1) gate) r) else [])) (sym opened)
-      (pass-both (batch_checks hash image gate r) (batches_checks hash image most (gate + 25) (behind hash image (number_at (image 1) gate) r))
-      (batch-passes hash image gate r batch h.0 fields read)
-      (subst (λ n. AllPass (batches_checks hash image most (gate + 25) (behind hash image n r))) (sym fields.count)
-      (subst (λ s. AllPass (batches_checks hash image most (gate + 25) s)) (sym read.behind_is) more.pass)));
+          (pass-both (batch_checks hash image gate r) (batches_checks hash image most (gate + 25) (behind hash image (number_at (image 1) gate) r))
+          (batch-passes hash image gate r batch h.0 fields read)
+          (subst (λ n. AllPass (batches_checks hash image most (gate + 25) (behind hash image n r))) (sym fields.count)
+          (subst (λ s. AllPass (batches_checks hash image most (gate + 25) s)) (sym read.behind_is) more.pass)));
     }

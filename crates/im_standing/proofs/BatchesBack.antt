@@ -1,19 +1,19 @@
 -- Batches that are read and pass their checks stand.
-use Rattle.std.proofs.Common.{◌≡◌, ◌<◌, ◌≤◌, ◌+◌, ◌-◌, suc, zero, ℕ, List, [], ◌∷◌, ◌++◌, length, map, refl, ap, subst, sym, ◌∙◌, arith, Bool, true, false, if◌then◌else◌, inl, inr}
+use Rattle.std.proofs.Common.{◌≡◌, ◌<◌, ◌≤◌, ◌+◌, ◌-◌, suc, zero, ℕ, List, [], ◌∷◌, ◌++◌, length, map, refl, ap, subst, sym, ◌∙◌, arith, Bool, true, if◌then◌else◌, inl, inr}
 use Rattle.std.proofs.lemmas.Bool.{cases_Bool, eqb-true, leb-true}
 use Rattle.std.proofs.lemmas.List.{map-append}
 use Rattle.im_octet.specs.Fields.{field8}
 use Rattle.im_digest.specs.Digests.{Hash}
 use Rattle.im_disk.specs.Disk.{Files}
 use Rattle.im_model.specs.declared.transactions.Transaction.{Transaction}
-use Rattle.im_format.specs.Batches.{Counts, batch_fields, joined}
+use Rattle.im_format.specs.Batches.{Counts, joined}
 use Rattle.im_format.specs.Damages.{Reached, batch_checks, batches_checks, behind, from_one, is_number, next_id, records_checks}
 use Rattle.im_format.specs.Reading.{counts, history_from, number8, number_at, records_end, transactions_in}
 use Rattle.im_format.specs.declared.records.Record.{Record}
 use Rattle.im_standing.proofs.FieldsBack.{IsSmall, field8-back}
-use Rattle.im_standing.proofs.HeldBatches.{HasFields, HoldsBatch, HoldsBatches, counts-true, fields-joined, true-counts}
-use Rattle.im_standing.proofs.HeldRecords.{HoldsRecords, grown_by, length-grown_by}
-use Rattle.im_standing.proofs.HoldLemmas.{Holds, holds-same}
+use Rattle.im_standing.proofs.HeldBatches.{HoldsBatch, HoldsBatches, counts-true, fields-joined, true-counts}
+use Rattle.im_standing.proofs.HeldRecords.{grown_by}
+use Rattle.im_standing.proofs.HoldLemmas.{holds-same}
 use Rattle.im_standing.proofs.PassLemmas.{AllPass, pass-left, pass-right}
 use Rattle.im_standing.proofs.RecordsBack.{RecordsBack, records-back}
 
@@ -47,11 +47,11 @@ batch-back hash image gate r small0 small1 counted pass =
         filled = omega arith;
         room = omega arith;
         fields = fields-joined log gate (next_id r) (length back.all) (grown_by r back.all).place
-        record {
-          of_first = holds-same (field8 (next_id r)) (ap field8 id) (field8-back log (gate + 1) small1 (omega arith));
-          of_count = holds-same (field8 (length back.all)) (ap field8 (sym many)) (field8-back log (gate + 9) small1 (omega arith));
-          of_end = holds-same (field8 (grown_by r back.all).place) (ap field8 end_is) (field8-back log (gate + 17) small1 (omega arith));
-        };
+            record {
+              of_first = holds-same (field8 (next_id r)) (ap field8 id) (field8-back log (gate + 1) small1 (omega arith));
+              of_count = holds-same (field8 (length back.all)) (ap field8 (sym many)) (field8-back log (gate + 9) small1 (omega arith));
+              of_end = holds-same (field8 (grown_by r back.all).place) (ap field8 end_is) (field8-back log (gate + 17) small1 (omega arith));
+            };
         records = back.held;
       };
     }
@@ -75,10 +75,10 @@ batches-more hash image most gate r opened one more =
     record {
       all = batch ∷ more.all;
       txs_are = map-append (λ rec. rec.tx) batch (joined more.all)
-      ∙ ap (λ ts. ts ++ map (λ rec. rec.tx) (joined more.all)) one.of.txs_are
-      ∙ ap (λ ts. transactions_in image r.place (number_at (image 1) gate) ++ ts) more.txs_are
-      ∙ ap (λ p. transactions_in image r.place (number_at (image 1) gate) ++ history_from image most (gate + 25) p) (sym one.of.ends)
-      ∙ sym (ap (λ b. history_by b image most gate r.place) opened);
+          ∙ ap (λ ts. ts ++ map (λ rec. rec.tx) (joined more.all)) one.of.txs_are
+          ∙ ap (λ ts. transactions_in image r.place (number_at (image 1) gate) ++ ts) more.txs_are
+          ∙ ap (λ p. transactions_in image r.place (number_at (image 1) gate) ++ history_from image most (gate + 25) p) (sym one.of.ends)
+          ∙ sym (ap (λ b. history_by b image most gate r.place) opened);
       held = (one.held, more.held);
     }
 
@@ -99,8 +99,8 @@ batches-back hash image (suc most) gate r small0 small1 enough pass = elim (case
       subst (λ s. AllPass (batches_checks hash image most (gate + 25) s)) one.of.behind_is (pass-right here rest both) in
       batches-more hash image most gate r opened one (batches-back hash image most (gate + 25) (grown_by r one.of.all) small0 small1 (omega arith) on))
   | inr closed ↦ record {
-      all = [];
-      txs_are = sym (ap (λ b. history_by b image most gate r.place) closed);
-      held = λ c. (let opened : counts (image 1) gate ≡ true = counts-true (image 1) gate c in absurd (cc));
-    }
+    all = [];
+    txs_are = sym (ap (λ b. history_by b image most gate r.place) closed);
+    held = λ c. (let opened : counts (image 1) gate ≡ true = counts-true (image 1) gate c in absurd (cc));
+  }
 ]

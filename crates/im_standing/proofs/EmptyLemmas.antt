@@ -1,5 +1,5 @@
 -- An image in whose commit log no batch counts stands for the empty history alone.
-use Rattle.std.proofs.Common.{◌≡◌, ◌<◌, ◌≤◌, ◌+◌, ℕ, zero, List, [], ◌∷◌, length, map, refl, sym, ◌∙◌, arith}
+use Rattle.std.proofs.Common.{◌≡◌, ◌<◌, ◌+◌, ℕ, List, [], ◌∷◌, map, refl, sym, ◌∙◌, arith}
 use Rattle.im_digest.specs.Digests.{Hash}
 use Rattle.im_disk.specs.Disk.{Files}
 use Rattle.im_model.specs.declared.transactions.Transaction.{Transaction}

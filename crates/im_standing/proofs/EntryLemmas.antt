@@ -1,5 +1,5 @@
 -- Where the fields of an entry of a record stand.
-use Rattle.std.proofs.Common.{◌≡◌, ◌<◌, ◌≤◌, ◌+◌, ℕ, List, [], ◌∷◌, ◌++◌, length, refl, ap, sym, ◌∙◌, arith, length-append}
+use Rattle.std.proofs.Common.{◌≡◌, ◌+◌, ℕ, List, [], ◌∷◌, ◌++◌, length, arith, length-append}
 use Rattle.im_octet.specs.Fields.{field2, field4, field8}
 use Rattle.im_model.specs.declared.entries.Entry.{Entry}
 use Rattle.im_format.specs.Records.{entry_octets, reference_octets}

@@ -1,6 +1,6 @@
 -- What an image holds of batches that follow each other, from a gate on.
-use Rattle.std.proofs.Common.{◌≡◌, ℕ, ◌+◌, ◌<◌, ◌≤◌, List, [], ◌∷◌, ◌++◌, length, length-append, get_or, arith, refl, ap, sym, ◌∙◌, Bool, true, false}
-use Rattle.std.specs.Prelude.{nat_eq, nat_lt, ◌&&◌}
+use Rattle.std.proofs.Common.{◌≡◌, ℕ, ◌+◌, ◌≤◌, List, [], ◌∷◌, ◌++◌, length, length-append, get_or, arith, true, false}
+use Rattle.std.specs.Prelude.{nat_eq, nat_lt}
 use Rattle.std.proofs.lemmas.Bool.{and_parts, and_from, eqb-true, eq-eqb, ltb-true, lt-ltb, false_from_ne_true}
 use Rattle.im_digest.specs.Digests.{Hash}
 use Rattle.im_disk.specs.Disk.{Files}

@@ -1,6 +1,6 @@
 -- Octets that stand at a place of a file: split, and put together.
-use Rattle.std.proofs.Common.{◌≡◌, ◌<◌, ◌≤◌, ◌+◌, ◌-◌, ℕ, min, List, [], ◌∷◌, ◌++◌, length, take, drop, get_or, refl, ap, subst, sym, ◌∙◌, arith, length-append, append_assoc}
-use Rattle.std.proofs.lemmas.List.{length-take, length-drop, length-take-le, take_at, drop_at, drop-drop, take-append-drop, take-take, drop-take, get_or-take, get_or-drop}
+use Rattle.std.proofs.Common.{◌≡◌, ◌≤◌, ◌+◌, ℕ, List, ◌++◌, length, take, drop, refl, ap, subst, sym, ◌∙◌, arith, length-append}
+use Rattle.std.proofs.lemmas.List.{length-drop, length-take-le, take_at, drop_at, drop-drop, take-append-drop, take-take, drop-take}
 use Rattle.im_format.specs.Spans.{octets_at}
 
 -- a file has these octets at a place, within its length
@@ -34,8 +34,8 @@ holds-left {log} {at} x y h =
     record {
       within = omega arith;
       is = sym (take-take (length x) (length (x ++ y)) (drop at log) (omega arith))
-      ∙ ap (λ xs. take (length x) xs) h.is
-      ∙ take_at x y (length x) refl;
+          ∙ ap (λ xs. take (length x) xs) h.is
+          ∙ take_at x y (length x) refl;
     }
 
 -- and the part behind it
@@ -46,10 +46,10 @@ holds-right {log} {at} x y h =
     record {
       within = omega arith;
       is = sym (ap (λ xs. take (length y) xs) (drop-drop (length x) at log))
-      ∙ sym (drop-take (length x) (length y) (drop at log))
-      ∙ ap (λ n. drop (length x) (take n (drop at log))) (sym both)
-      ∙ ap (λ xs. drop (length x) xs) h.is
-      ∙ drop_at x y (length x) refl;
+          ∙ sym (drop-take (length x) (length y) (drop at log))
+          ∙ ap (λ n. drop (length x) (take n (drop at log))) (sym both)
+          ∙ ap (λ xs. drop (length x) xs) h.is
+          ∙ drop_at x y (length x) refl;
     }
 
 -- two parts, one behind the other
@@ -60,9 +60,9 @@ holds-both {log} {at} x y h k =
     record {
       within = omega arith;
       is = ap (λ n. octets_at log at n) both
-      ∙ octets-both log at (length x) (length y)
-      ∙ ap (λ xs. xs ++ octets_at log (at + length x) (length y)) h.is
-      ∙ ap (λ xs. x ++ xs) k.is;
+          ∙ octets-both log at (length x) (length y)
+          ∙ ap (λ xs. xs ++ octets_at log (at + length x) (length y)) h.is
+          ∙ ap (λ xs. x ++ xs) k.is;
     }
 
 -- at the same place, by another name

@@ -1,5 +1,5 @@
 -- Keys that differ: one by one as they are read, and pair by pair.
-use Rattle.std.proofs.Common.{◌≡◌, ◌≢◌, ◌<◌, ◌≤◌, ◌+◌, suc, zero, ℕ, List, [], ◌∷◌, ◌++◌, length, get_or, refl, ap, sym, ◌∙◌, arith, Bool, true, false, if◌then◌else◌, All, AllPairs, inl, inr}
+use Rattle.std.proofs.Common.{◌≡◌, ◌≢◌, ◌+◌, suc, zero, ℕ, List, [], ◌∷◌, ◌++◌, length, refl, ap, ◌∙◌, arith, true, false, if◌then◌else◌, All, AllPairs, inl, inr}
 use Rattle.std.specs.Prelude.{bytes_eq}
 use Rattle.std.proofs.lemmas.Bool.{cases_Bool, false_from_ne_true}
 use Rattle.std.proofs.lemmas.Slice.Eq.{bytes_eq-Decides}
@@ -84,10 +84,12 @@ all-fresh-less keys key (entry ∷ entries) h =
 
 pairs-apart : (keys : List (List ℕ)) (entries : List Entry) → AllFresh keys entries → AllPairs (λ a b. a.key ≢ b.key) entries → AreApart keys entries
 pairs-apart keys [] h pairs = tt
-pairs-apart keys (entry ∷ entries) h pairs =
-    (h.0, pairs-apart (keys ++ entry.key ∷ []) entries
-    (all-fresh-more keys entry.key entries h.1 (λ i d l. pairs 0 (suc i) d (omega arith) (omega arith)))
-    (λ i j d l m. pairs (suc i) (suc j) d (omega arith) (omega arith)))
+pairs-apart keys (entry ∷ entries) h pairs = (
+  h.0,
+  pairs-apart (keys ++ entry.key ∷ []) entries
+      (all-fresh-more keys entry.key entries h.1 (λ i d l. pairs 0 (suc i) d (omega arith) (omega arith)))
+      (λ i j d l m. pairs (suc i) (suc j) d (omega arith) (omega arith)),
+)
 
 none-before : (entries : List Entry) → AllFresh [] entries
 none-before [] = tt

@@ -1,5 +1,5 @@
 -- Checks that all hold.
-use Rattle.std.proofs.Common.{◌≡◌, List, [], ◌∷◌, ◌++◌, refl, ap, subst, sym, ◌∙◌, Bool, true, false, Result, Ok, Err, if◌then◌else◌}
+use Rattle.std.proofs.Common.{◌≡◌, List, [], ◌∷◌, ◌++◌, refl, ap, ◌∙◌, Bool, true, false, Result, Ok, Err, if◌then◌else◌}
 use Rattle.im_mtree.specs.Checks.{Check, first_fail}
 
 -- each of the checks holds

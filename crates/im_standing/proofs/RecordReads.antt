@@ -1,12 +1,11 @@
 -- A record that stands is read back, and passes its checks.
-use Rattle.std.proofs.Common.{◌≡◌, ◌<◌, ◌≤◌, ◌+◌, ◌-◌, ◌^◌, suc, zero, ℕ, ℤ, List, [], ◌∷◌, ◌++◌, length, map, refl, ap, subst, sym, ◌∙◌, arith, Bool, true}
-use Rattle.std.specs.Prelude.{bytes_eq}
+use Rattle.std.proofs.Common.{◌≡◌, ◌≤◌, ◌+◌, ◌-◌, ℕ, ℤ, List, [], ◌∷◌, ◌++◌, length, map, refl, ap, subst, sym, ◌∙◌, arith}
 use Rattle.std.proofs.lemmas.Bool.{le-leb, eq-eqb}
 use Rattle.im_octet.specs.Fields.{field4, field8, signed_field8}
 use Rattle.im_digest.specs.Digests.{Hash}
 use Rattle.im_disk.specs.Disk.{Files}
 use Rattle.im_model.specs.Headers.{alh}
-use Rattle.im_model.specs.History.{IsTransaction, next_header}
+use Rattle.im_model.specs.History.{next_header}
 use Rattle.im_model.specs.declared.entries.Entry.{Entry}
 use Rattle.im_model.specs.declared.transactions.Transaction.{Transaction}
 use Rattle.im_format.specs.Damages.{Reached, next_id, next_alh, behind_one, behind, head_checks, slots_checks, alh_checks, record_checks, records_checks}
@@ -14,7 +13,7 @@ use Rattle.im_format.specs.Reading.{number8, slots_at, slots_end, entry_in, ts_a
 use Rattle.im_format.specs.Spans.{octets_at}
 use Rattle.im_format.specs.declared.records.Record.{Record}
 use Rattle.im_standing.proofs.FieldLemmas.{number4-held, number8-held, signed-held, length-field4, length-field8, length-signed}
-use Rattle.im_standing.proofs.HeldEntries.{HoldsEntries, entries_end}
+use Rattle.im_standing.proofs.HeldEntries.{entries_end}
 use Rattle.im_standing.proofs.HeldRecords.{HoldsRecord, HoldsRecords, grown, grown_by, entries-end, length-record}
 use Rattle.im_standing.proofs.HoldLemmas.{Holds}
 use Rattle.im_standing.proofs.KeyLemmas.{distinct-apart, bytes-same}
@@ -56,16 +55,31 @@ head-passes hash image r rec h e =
     let rises : r.bl ≤ rec.tx.bl = h.rises in
     let linked : rec.tx.bl ≤ length r.alhs = h.is.linked in
     let some : 1 ≤ length rec.tx.entries = h.is.some in
-    let few : length rec.tx.entries ≤ 1024 = h.is.few in
-    (le-leb (r.place + 8) (length log) (omega arith),
-    (eq-eqb (number8 log r.place) (next_id r) e.id,
-    (le-leb (r.place + 8 + 8) (length log) (omega arith),
-    (le-leb (r.place + 16 + 8) (length log) (omega arith),
-    (le-leb r.bl (bl_at log r.place) (omega arith),
-    (le-leb (bl_at log r.place) (next_id r - 1) (omega arith),
-    (le-leb (r.place + 24 + 4) (length log) (omega arith),
-    (le-leb 1 (count_at log r.place) (omega arith),
-    (le-leb (count_at log r.place) 1024 (omega arith), tt)))))))))
+    let few : length rec.tx.entries ≤ 1024 = h.is.few in (
+      le-leb (r.place + 8) (length log) (omega arith),
+      (
+        eq-eqb (number8 log r.place) (next_id r) e.id,
+        (
+          le-leb (r.place + 8 + 8) (length log) (omega arith),
+          (
+            le-leb (r.place + 16 + 8) (length log) (omega arith),
+            (
+              le-leb r.bl (bl_at log r.place) (omega arith),
+              (
+                le-leb (bl_at log r.place) (next_id r - 1) (omega arith),
+                (
+                  le-leb (r.place + 24 + 4) (length log) (omega arith),
+                  (
+                    le-leb 1 (count_at log r.place) (omega arith),
+                    (le-leb (count_at log r.place) 1024 (omega arith), tt),
+                  ),
+                ),
+              ),
+            ),
+          ),
+        ),
+      ),
+    )
 
 abbrev tx_of : ℤ → List Entry → ℕ → Transaction
 tx_of ts entries bl = record { ts = ts; entries = entries; bl = bl }
@@ -79,9 +93,10 @@ pub record RecordRead (hash : Hash) (image : Files) (r : Reached) (rec : Record)
 
 alh-passes : (log : List ℕ) (at : ℕ) (digest : List ℕ) → length digest ≡ 32 → Holds log at digest → AllPass (alh_checks log at digest)
 alh-passes log at digest long h =
-    let within : at + length digest ≤ length log = h.within in
-    (le-leb (at + 32) (length log) (omega arith),
-    (bytes-same (octets_at log at 32) digest (ap (λ n. octets_at log at n) (sym long) ∙ h.is), tt))
+    let within : at + length digest ≤ length log = h.within in (
+      le-leb (at + 32) (length log) (omega arith),
+      (bytes-same (octets_at log at 32) digest (ap (λ n. octets_at log at n) (sym long) ∙ h.is), tt),
+    )
 
 abbrev reached_of : List (List ℕ) → ℕ → ℕ → Reached
 reached_of alhs bl place = record { alhs = alhs; bl = bl; place = place }
@@ -108,16 +123,16 @@ record-read hash image r rec h =
       tx = tx;
       place = place;
       behind = ap (λ a. reached_of (r.alhs ++ a ∷ []) (bl_at log r.place) (record_end image r.place)) next
-      ∙ ap (λ b. reached_of (r.alhs ++ rec.alh ∷ []) b (record_end image r.place)) head.bl
-      ∙ ap (λ p. reached_of (r.alhs ++ rec.alh ∷ []) rec.tx.bl p) place;
+          ∙ ap (λ b. reached_of (r.alhs ++ rec.alh ∷ []) b (record_end image r.place)) head.bl
+          ∙ ap (λ p. reached_of (r.alhs ++ rec.alh ∷ []) rec.tx.bl p) place;
       pass = pass-both (head_checks log (next_id r) r.bl r.place)
-      (slots_checks hash image (next_id r) [] first (count_at log r.place) ++ alh_checks log (alh_place image r.place) (next_alh hash image r))
-      (head-passes hash image r rec h head)
-      (pass-both (slots_checks hash image (next_id r) [] first (count_at log r.place)) (alh_checks log (alh_place image r.place) (next_alh hash image r))
-      (subst (λ n. AllPass (slots_checks hash image (next_id r) [] first n)) (sym head.count) read.pass)
-      (subst (λ p. AllPass (alh_checks log p (next_alh hash image r))) (sym spot)
-      (subst (λ a. AllPass (alh_checks log (entries_end first rec.tx.entries) a)) (sym next)
-      (alh-passes log (entries_end first rec.tx.entries) rec.alh size h.digest))));
+          (slots_checks hash image (next_id r) [] first (count_at log r.place) ++ alh_checks log (alh_place image r.place) (next_alh hash image r))
+          (head-passes hash image r rec h head)
+          (pass-both (slots_checks hash image (next_id r) [] first (count_at log r.place)) (alh_checks log (alh_place image r.place) (next_alh hash image r))
+          (subst (λ n. AllPass (slots_checks hash image (next_id r) [] first n)) (sym head.count) read.pass)
+          (subst (λ p. AllPass (alh_checks log p (next_alh hash image r))) (sym spot)
+          (subst (λ a. AllPass (alh_checks log (entries_end first rec.tx.entries) a)) (sym next)
+          (alh-passes log (entries_end first rec.tx.entries) rec.alh size h.digest))));
     }
 
 -- what is read of records that stand
@@ -135,10 +150,10 @@ records-read hash image r (rec ∷ recs) h =
     let n : ℕ = length recs in
     record {
       txs = ap (λ t. t ∷ transactions_in image (record_end image r.place) n) one.tx
-      ∙ ap (λ p. rec.tx ∷ transactions_in image p n) one.place
-      ∙ ap (λ ts. rec.tx ∷ ts) more.txs;
+          ∙ ap (λ p. rec.tx ∷ transactions_in image p n) one.place
+          ∙ ap (λ ts. rec.tx ∷ ts) more.txs;
       place = ap (λ p. records_end image p n) one.place ∙ more.place;
       behind_is = ap (λ s. behind hash image n s) one.behind ∙ more.behind_is;
       pass = pass-both (record_checks hash image r) (records_checks hash image n (behind_one hash image r)) one.pass
-      (subst (λ s. AllPass (records_checks hash image n s)) (sym one.behind) more.pass);
+          (subst (λ s. AllPass (records_checks hash image n s)) (sym one.behind) more.pass);
     }

@@ -1,5 +1,5 @@
 -- A record that is read and passes its checks stands.
-use Rattle.std.proofs.Common.{◌≡◌, ◌<◌, ◌≤◌, ◌+◌, ◌-◌, ◌^◌, suc, zero, ℕ, ℤ, List, [], ◌∷◌, ◌++◌, length, map, refl, ap, subst, sym, ◌∙◌, arith, All, Bool, true}
+use Rattle.std.proofs.Common.{◌≡◌, ◌≤◌, ◌+◌, ◌-◌, suc, zero, ℕ, ℤ, List, [], ◌∷◌, ◌++◌, length, map, refl, ap, subst, sym, ◌∙◌, arith, All}
 use Rattle.std.specs.Int.{w64}
 use Rattle.std.proofs.lemmas.Bool.{leb-true, eqb-true}
 use borrow.Author.Gap.{read_sfits}
@@ -7,18 +7,18 @@ use Rattle.im_octet.specs.Fields.{field4, field8}
 use Rattle.im_digest.specs.Digests.{Hash}
 use Rattle.im_disk.specs.Disk.{Files}
 use Rattle.im_model.specs.Headers.{alh}
-use Rattle.im_model.specs.History.{IsEntry, IsTransaction, next_header}
+use Rattle.im_model.specs.History.{IsEntry, next_header}
 use Rattle.im_model.specs.declared.entries.Entry.{Entry}
 use Rattle.im_model.specs.declared.transactions.Transaction.{Transaction}
 use Rattle.im_format.specs.Damages.{Reached, alh_checks, behind, behind_one, head_checks, next_alh, next_id, record_checks, records_checks, slots_checks}
-use Rattle.im_format.specs.Reading.{alh_place, bl_at, count_at, entry_in, number8, record_end, records_end, slots_at, transaction_in, transactions_in, ts_at}
+use Rattle.im_format.specs.Reading.{alh_place, bl_at, count_at, number8, record_end, records_end, transaction_in, transactions_in, ts_at}
 use Rattle.im_format.specs.Spans.{octets_at}
 use Rattle.im_format.specs.declared.records.Record.{Record}
 use Rattle.im_format.specs.declared.references.ValueRef.{ValueRef}
 use Rattle.im_standing.proofs.FieldsBack.{IsSmall, field4-back, field8-back, signed-back}
 use Rattle.im_standing.proofs.HeldEntries.{HoldsEntries, entries_end, entry_end}
 use Rattle.im_standing.proofs.HeldRecords.{HoldsRecord, HoldsRecords, entries-end, grown, grown_by, length-grown, length-record}
-use Rattle.im_standing.proofs.HoldLemmas.{Holds, holds-at, holds-here, holds-same, length-octets}
+use Rattle.im_standing.proofs.HoldLemmas.{holds-at, holds-here, holds-same, length-octets}
 use Rattle.im_standing.proofs.KeyLemmas.{apart-distinct, same-bytes}
 use Rattle.im_standing.proofs.PassLemmas.{AllPass, pass-left, pass-right}
 use Rattle.im_standing.proofs.SlotsBack.{SlotsBack, slots-back}
@@ -120,7 +120,7 @@ record-back hash image r small fits pass =
         size = size;
       };
       behind_is = ap (λ a. reached_of (r.alhs ++ a ∷ []) (bl_at log r.place) (record_end image r.place)) (sym checked)
-      ∙ ap (λ p. reached_of (r.alhs ++ digest ∷ []) (bl_at log r.place) p) end_is;
+          ∙ ap (λ p. reached_of (r.alhs ++ digest ∷ []) (bl_at log r.place) p) end_is;
     }
 
 -- what is read of records that pass
@@ -140,8 +140,8 @@ records-more hash image r count back more =
       all = back.one ∷ more.all;
       many = ap suc more.many;
       txs_are = ap (λ t. t ∷ map (λ rec. rec.tx) more.all) back.tx_is
-      ∙ ap (λ ts. transaction_in image r.place ∷ ts) more.txs_are
-      ∙ ap (λ p. transaction_in image r.place ∷ transactions_in image p count) place;
+          ∙ ap (λ ts. transaction_in image r.place ∷ ts) more.txs_are
+          ∙ ap (λ p. transaction_in image r.place ∷ transactions_in image p count) place;
       held = (back.held, more.held);
       behind_is = ap (λ s. behind hash image count s) back.behind_is ∙ more.behind_is;
       ends = ap (λ p. records_end image p count) (sym place) ∙ more.ends;

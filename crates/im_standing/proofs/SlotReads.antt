@@ -1,5 +1,5 @@
 -- An entry that stands is read back, and passes its checks.
-use Rattle.std.proofs.Common.{◌≡◌, ◌<◌, ◌≤◌, ◌+◌, ◌-◌, ◌*◌, ◌^◌, suc, zero, ℕ, List, [], ◌∷◌, ◌++◌, length, map, get_or, refl, ap, subst, sym, ◌∙◌, arith, Bool, true, false}
+use Rattle.std.proofs.Common.{◌≡◌, ◌<◌, ◌≤◌, ◌+◌, ◌-◌, ◌*◌, ◌^◌, ℕ, List, [], ◌∷◌, ◌++◌, length, map, get_or, refl, ap, subst, sym, ◌∙◌, arith, true}
 use Rattle.std.proofs.lemmas.Bool.{le-leb, eq-eqb}
 use Rattle.im_digest.specs.Digests.{Hash}
 use Rattle.im_disk.specs.Disk.{Files}
@@ -9,14 +9,11 @@ use Rattle.im_octet.specs.Fields.{field2, field4, field8}
 use Rattle.im_format.specs.Batches.{value_span}
 use Rattle.im_format.specs.Damages.{slot_checks, slot_md_checks, slot_key_checks, slot_ref_checks, value_check, index_of, slots_checks}
 use Rattle.im_format.specs.Reading.{Slot, slot_at, slot_of, slots_at, slots_end, entry_in, value_at, number2, number4, number8}
-use Rattle.im_format.specs.Records.{IsReference}
 use Rattle.im_format.specs.Spans.{Reads, octets_at}
-use Rattle.im_format.specs.Standing.{LiesIn}
 use Rattle.im_format.specs.declared.references.ValueRef.{ValueRef}
 use Rattle.im_standing.proofs.EntryLemmas.{HasEntry, HasReference, hval_place}
 use Rattle.im_standing.proofs.FieldLemmas.{number2-held, number4-held, number8-held, octet-held, length-field2, length-field4, length-field8}
 use Rattle.im_standing.proofs.HeldEntries.{HoldsEntry, HoldsEntries, entry_end, entries_end}
-use Rattle.im_standing.proofs.HoldLemmas.{Holds}
 use Rattle.im_standing.proofs.KeyLemmas.{IsFresh, AreApart, fresh-index, bytes-same}
 use Rattle.im_standing.proofs.MetadataLemmas.{attributes-short, attributes-pass}
 use Rattle.im_standing.proofs.PassLemmas.{AllPass, pass-both}
@@ -81,22 +78,34 @@ md-passes : (log : List ℕ) (at : ℕ) (entry : Entry) (ref : ValueRef) → IsE
 md-passes log at entry ref is h =
     let two : at + length (field2 (length entry.md)) ≤ length log = h.md_len.within in
     let octets : at + 2 + length entry.md ≤ length log = h.md.within in
-    let short : length entry.md ≤ 2 = attributes-short entry.md is.deleted is.non_indexable is.md in
-    (le-leb (at + 2) (length log) (omega arith),
-    (le-leb (length entry.md) 2 short,
-    (le-leb (at + 2 + length entry.md) (length log) octets,
-    attributes-pass (at + 2) entry.md is.deleted is.non_indexable is.md)))
+    let short : length entry.md ≤ 2 = attributes-short entry.md is.deleted is.non_indexable is.md in (
+      le-leb (at + 2) (length log) (omega arith),
+      (
+        le-leb (length entry.md) 2 short,
+        (
+          le-leb (at + 2 + length entry.md) (length log) octets,
+          attributes-pass (at + 2) entry.md is.deleted is.non_indexable is.md,
+        ),
+      ),
+    )
 
 key-passes : (log : List ℕ) (keys : List (List ℕ)) (at : ℕ) (entry : Entry) (ref : ValueRef) → IsEntry entry → IsFresh entry.key keys → HasEntry log at entry ref → AllPass (slot_key_checks log keys (slot_like at entry ref))
 key-passes log keys at entry ref is fresh h =
     let two : at + 2 + length entry.md + length (field2 (length entry.key)) ≤ length log = h.key_len.within in
     let size = length-field2 (length entry.key) in
-    let octets : at + 4 + length entry.md + length entry.key ≤ length log = h.key.within in
-    (le-leb (at + 2 + length entry.md + 2) (length log) (omega arith),
-    (le-leb 1 (length entry.key) is.key_given,
-    (le-leb (length entry.key) 1024 is.key_short,
-    (le-leb (at + 2 + length entry.md + 2 + length entry.key) (length log) (omega arith),
-    (eq-eqb (index_of entry.key keys) (length keys) (fresh-index entry.key keys fresh), tt)))))
+    let octets : at + 4 + length entry.md + length entry.key ≤ length log = h.key.within in (
+      le-leb (at + 2 + length entry.md + 2) (length log) (omega arith),
+      (
+        le-leb 1 (length entry.key) is.key_given,
+        (
+          le-leb (length entry.key) 1024 is.key_short,
+          (
+            le-leb (at + 2 + length entry.md + 2 + length entry.key) (length log) (omega arith),
+            (eq-eqb (index_of entry.key keys) (length keys) (fresh-index entry.key keys fresh), tt),
+          ),
+        ),
+      ),
+    )
 
 ref-passes : (hash : Hash) (image : Files) (id at : ℕ) (entry : Entry) (ref : ValueRef) → HoldsEntry hash image id at entry ref → AllPass (slot_ref_checks image id (slot_like at entry ref))
 ref-passes hash image id at entry ref h =
@@ -111,15 +120,28 @@ ref-passes hash image id at entry ref h =
     let eight = length-field8 ref.at in
     let len : ref.len ≡ length entry.value = h.refers.len in
     let few : length entry.value ≤ 4096 = h.is.value_short in
-    let room : ref.at + ref.len ≤ id * 2 ^ 22 = h.refers.room in
-    (le-leb (p + 32) (length log) (omega arith),
-    (le-leb (p + 32 + 4) (length log) (omega arith),
-    (le-leb ref.len 4096 (omega arith),
-    (le-leb (p + 36 + 1) (length log) number,
-    (le-leb ref.log 3 h.refers.log,
-    (le-leb (p + 37 + 8) (length log) (omega arith),
-    (le-leb ref.at (id * 2 ^ 22 - ref.len) (omega arith),
-    (le-leb (ref.at + ref.len) (length (image (2 + ref.log))) h.lies.within, tt))))))))
+    let room : ref.at + ref.len ≤ id * 2 ^ 22 = h.refers.room in (
+      le-leb (p + 32) (length log) (omega arith),
+      (
+        le-leb (p + 32 + 4) (length log) (omega arith),
+        (
+          le-leb ref.len 4096 (omega arith),
+          (
+            le-leb (p + 36 + 1) (length log) number,
+            (
+              le-leb ref.log 3 h.refers.log,
+              (
+                le-leb (p + 37 + 8) (length log) (omega arith),
+                (
+                  le-leb ref.at (id * 2 ^ 22 - ref.len) (omega arith),
+                  (le-leb (ref.at + ref.len) (length (image (2 + ref.log))) h.lies.within, tt),
+                ),
+              ),
+            ),
+          ),
+        ),
+      ),
+    )
 
 -- an entry that stands passes its checks
 pub slot-passes : (hash : Hash) (image : Files) (id at : ℕ) (keys : List (List ℕ)) (entry : Entry) (ref : ValueRef) → IsFresh entry.key keys → HoldsEntry hash image id at entry ref → AllPass (slot_checks image id keys (slot_like at entry ref))
@@ -167,11 +189,11 @@ entries-read hash image id keys at (entry ∷ entries) (ref ∷ refs) few apart 
     let slot : Slot = slot_like at entry ref in
     record {
       are = ap (λ (s : Slot). entry_in image s ∷ map (entry_in image) (slots_at (image 0) s.end n)) is
-      ∙ ap (λ v. entry_of entry v ∷ map (entry_in image) (slots_at (image 0) (entry_end at entry) n)) (value-read image entry.value ref h.0.refers.len h.0.reads)
-      ∙ ap (λ es. entry ∷ es) more.are;
+          ∙ ap (λ v. entry_of entry v ∷ map (entry_in image) (slots_at (image 0) (entry_end at entry) n)) (value-read image entry.value ref h.0.refers.len h.0.reads)
+          ∙ ap (λ es. entry ∷ es) more.are;
       ends = ap (λ (s : Slot). slots_end (image 0) s.end n) is ∙ more.ends;
       pass = subst (λ (s : Slot). AllPass (slot_checks image id keys s ++ (value_check hash image s ∷ slots_checks hash image id (keys ++ s.key ∷ []) s.end n))) (sym is)
-      (pass-both (slot_checks image id keys slot) (value_check hash image slot ∷ slots_checks hash image id (keys ++ entry.key ∷ []) (entry_end at entry) n)
-      (slot-passes hash image id at keys entry ref apart.0 h.0)
-      (value-passes hash image id at entry ref h.0, more.pass));
+          (pass-both (slot_checks image id keys slot) (value_check hash image slot ∷ slots_checks hash image id (keys ++ entry.key ∷ []) (entry_end at entry) n)
+          (slot-passes hash image id at keys entry ref apart.0 h.0)
+          (value-passes hash image id at entry ref h.0, more.pass));
     }

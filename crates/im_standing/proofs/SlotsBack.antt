@@ -1,18 +1,18 @@
 -- An entry that is read and passes its checks stands.
-use Rattle.std.proofs.Common.{◌≡◌, ◌<◌, ◌≤◌, ◌+◌, ◌-◌, ◌*◌, ◌^◌, suc, zero, ℕ, List, [], ◌∷◌, ◌++◌, length, map, get_or, refl, ap, subst, sym, ◌∙◌, arith, Bool, true}
+use Rattle.std.proofs.Common.{◌≡◌, ◌≤◌, ◌+◌, ◌-◌, ◌*◌, ◌^◌, suc, zero, ℕ, List, [], ◌∷◌, ◌++◌, length, map, refl, ap, subst, sym, ◌∙◌, arith, true}
 use Rattle.std.proofs.lemmas.Bool.{leb-true, eqb-true}
 use Rattle.im_digest.specs.Digests.{Hash}
 use Rattle.im_disk.specs.Disk.{Files}
-use Rattle.im_octet.specs.Fields.{field2, field4, field8}
+use Rattle.im_octet.specs.Fields.{field2}
 use Rattle.im_model.specs.declared.entries.Entry.{Entry}
 use Rattle.im_format.specs.Damages.{index_of, slot_checks, slot_key_checks, slot_md_checks, slot_ref_checks, slots_checks, value_check}
-use Rattle.im_format.specs.Reading.{Slot, entry_in, number2, number4, number8, slot_at, slot_of, slots_at, slots_end, value_at}
+use Rattle.im_format.specs.Reading.{Slot, entry_in, number2, slot_at, slot_of, slots_at, slots_end, value_at}
 use Rattle.im_format.specs.Spans.{octets_at}
 use Rattle.im_format.specs.declared.references.ValueRef.{ValueRef}
-use Rattle.im_standing.proofs.EntryLemmas.{HasEntry, HasReference, hval_place}
+use Rattle.im_standing.proofs.EntryLemmas.{HasReference, hval_place}
 use Rattle.im_standing.proofs.FieldsBack.{IsSmall, field2-back, field4-back, field8-back, octet-back}
 use Rattle.im_standing.proofs.HeldEntries.{HoldsEntries, HoldsEntry, entries_end, entry_end}
-use Rattle.im_standing.proofs.HoldLemmas.{Holds, holds-at, holds-here, holds-same, length-octets}
+use Rattle.im_standing.proofs.HoldLemmas.{holds-at, holds-here, holds-same, length-octets}
 use Rattle.im_standing.proofs.KeyLemmas.{AreApart, IsFresh, index-fresh, same-bytes}
 use Rattle.im_standing.proofs.MetadataLemmas.{AreAttributes, pass-attributes}
 use Rattle.im_standing.proofs.PassLemmas.{AllPass, pass-left, pass-right}

@@ -1,17 +1,17 @@
 -- What an image holds of a record, field by field, is what stands of it, by its octets.
-use Rattle.std.proofs.Common.{◌≡◌, ◌<◌, ◌≤◌, ◌+◌, ◌*◌, suc, zero, ℕ, List, [], ◌∷◌, ◌++◌, length, length-append, map, refl, ap, subst, sym, ◌∙◌, arith, All}
+use Rattle.std.proofs.Common.{◌≡◌, ◌≤◌, ◌+◌, ℕ, List, [], ◌∷◌, ◌++◌, length, length-append, map, refl, ap, subst, sym, ◌∙◌, arith, All}
 use Rattle.std.proofs.lemmas.List.Elements.{All-append, All-cons}
 use Rattle.im_octet.specs.Fields.{field4, field8, signed_field8}
 use Rattle.im_digest.specs.Digests.{Hash}
 use Rattle.im_disk.specs.Disk.{Files}
-use Rattle.im_model.specs.History.{Follow, alh_of, alhs_from, alhs_of}
+use Rattle.im_model.specs.History.{Follow, alhs_from, alhs_of}
 use Rattle.im_model.specs.declared.entries.Entry.{Entry}
 use Rattle.im_model.specs.declared.transactions.Transaction.{Transaction}
 use Rattle.im_format.specs.Batches.{entries_spans, value_span, values_spans}
 use Rattle.im_format.specs.Damages.{Reached, next_id}
 use Rattle.im_format.specs.Places.{refs_of}
 use Rattle.im_format.specs.Records.{AreRecords, AreReferences, entries_octets, entry_octets, head_octets, record_octets, records_octets}
-use Rattle.im_format.specs.Spans.{Reads, octets_at}
+use Rattle.im_format.specs.Spans.{Reads}
 use Rattle.im_format.specs.Standing.{LiesIn}
 use Rattle.im_format.specs.declared.records.Record.{Record}
 use Rattle.im_format.specs.declared.references.ValueRef.{ValueRef}
@@ -122,11 +122,13 @@ records-are hash image history r [] e h = tt
 records-are hash image history r (rec ∷ recs) e h =
     let txs : List Transaction = map (λ rec. rec.tx) recs in
     let more : AreRecords hash history (next_id (grown r rec)) recs =
-    records-are hash image history (grown r rec) recs (e ∙ ap (λ a. alhs_from hash (r.alhs ++ a ∷ []) txs) (sym h.0.digest_is)) h.1 in
-    (record {
-      refs = (entries-of hash image r rec h.0).refer;
-      alh = h.0.digest_is ∙ sym (next-alh hash history r.alhs rec.tx txs e);
-    }, subst (λ n. AreRecords hash history (n + 1) recs) (length-grown r rec) more)
+    records-are hash image history (grown r rec) recs (e ∙ ap (λ a. alhs_from hash (r.alhs ++ a ∷ []) txs) (sym h.0.digest_is)) h.1 in (
+      record {
+        refs = (entries-of hash image r rec h.0).refer;
+        alh = h.0.digest_is ∙ sym (next-alh hash history r.alhs rec.tx txs e);
+      },
+      subst (λ n. AreRecords hash history (n + 1) recs) (length-grown r rec) more,
+    )
 
 -- records that stand, one list behind the other
 pub records-append : (hash : Hash) (image : Files) (r : Reached) (recs rest : List Record) → HoldsRecords hash image r recs → HoldsRecords hash image (grown_by r recs) rest → HoldsRecords hash image r (recs ++ rest)

@@ -1,24 +1,24 @@
 -- An image that stands for a history is read back, and has no damage.
-use Rattle.std.proofs.Common.{◌≡◌, ◌<◌, ◌≤◌, ◌+◌, ◌*◌, suc, zero, ℕ, List, [], ◌∷◌, ◌++◌, length, length-append, map, refl, ap, subst, sym, ◌∙◌, arith, All, Ok}
+use Rattle.std.proofs.Common.{◌≡◌, ◌<◌, ◌≤◌, ◌+◌, ◌*◌, suc, ℕ, List, [], ◌∷◌, ◌++◌, length, length-append, map, ap, subst, sym, ◌∙◌, arith, All, Ok}
 use Rattle.std.proofs.lemmas.List.{length-map}
 use Rattle.im_octet.specs.Fields.{field8}
 use Rattle.im_digest.specs.Digests.{Hash}
 use Rattle.im_disk.specs.Disk.{Files}
-use Rattle.im_model.specs.History.{Follow, IsHistory, alhs_from, alhs_of}
+use Rattle.im_model.specs.History.{Follow, alhs_from}
 use Rattle.im_model.specs.declared.transactions.Transaction.{Transaction}
 use Rattle.im_mtree.specs.Checks.{first_fail}
-use Rattle.im_format.specs.Batches.{Counts, batch_fields, batch_spans, gate_of, joined, spans_from, values_spans}
+use Rattle.im_format.specs.Batches.{Counts, batch_fields, batch_spans, gate_of, joined, spans_from}
 use Rattle.im_format.specs.Damages.{Reached, at_first, image_checks, next_id}
 use Rattle.im_format.specs.Reading.{history_in}
-use Rattle.im_format.specs.Records.{AreRecords, record_octets, records_octets}
+use Rattle.im_format.specs.Records.{record_octets, records_octets}
 use Rattle.im_format.specs.Spans.{Reads, octet_span}
-use Rattle.im_format.specs.Standing.{HasBatches, LiesIn, Stands}
+use Rattle.im_format.specs.Standing.{Stands}
 use Rattle.im_format.specs.declared.records.Record.{Record}
 use Rattle.im_format.specs.declared.spans.Span.{Span}
 use Rattle.im_standing.proofs.AllLemmas.{all-left, all-right}
 use Rattle.im_standing.proofs.BatchReads.{BatchesRead, batches-read}
 use Rattle.im_standing.proofs.FieldLemmas.{length-field8}
-use Rattle.im_standing.proofs.HeldBatches.{HoldsBatch, HoldsBatches}
+use Rattle.im_standing.proofs.HeldBatches.{HoldsBatches}
 use Rattle.im_standing.proofs.HeldRecords.{Has32, grown_by, length-grown_by, length-record, place-grown_by}
 use Rattle.im_standing.proofs.HoldLemmas.{Holds}
 use Rattle.im_standing.proofs.PassLemmas.{none-fails}
@@ -78,14 +78,16 @@ batches-split hash image history gate r (batch ∷ batches) long counted filled 
     let rest : All (Reads image) (spans_from (gate + 25) (next_id next) next.place batches) =
     subst (λ n. All (Reads image) (spans_from (gate + 25) n next.place batches)) id
     (subst (λ p. All (Reads image) (spans_from (gate + 25) (next_id r + length batch) p batches)) (sym place)
-    (all-right (Reads image) here behind read)) in
-    (record {
-      counted = counts-here (image 1) gate batch batches counted;
-      filled = full;
-      room = omega arith;
-      fields = subst (λ p. Holds (image 1) (gate + 1) (batch_fields (next_id r) (length batch) p)) (sym place) held_fields;
-      records = split.held;
-    }, batches-split hash image history (gate + 25) next batches long (counts-on (image 1) gate batch batches counted) (λ i d l. filled (suc i) d (omega arith)) rest split.on)
+    (all-right (Reads image) here behind read)) in (
+      record {
+        counted = counts-here (image 1) gate batch batches counted;
+        filled = full;
+        room = omega arith;
+        fields = subst (λ p. Holds (image 1) (gate + 1) (batch_fields (next_id r) (length batch) p)) (sym place) held_fields;
+        records = split.held;
+      },
+      batches-split hash image history (gate + 25) next batches long (counts-on (image 1) gate batch batches counted) (λ i d l. filled (suc i) d (omega arith)) rest split.on,
+    )
 
 -- an image that stands for a history holds its batches
 pub stands-holds : (hash : Hash) (image : Files) (history : List Transaction) → Has32 hash → (s : Stands hash image history) → HoldsBatches hash image 0 at_first s.batches

@@ -1,5 +1,5 @@
 -- What stands of a record, by its octets, is what an image holds of it, field by field.
-use Rattle.std.proofs.Common.{◌≡◌, ◌≢◌, ◌<◌, ◌≤◌, ◌+◌, ◌-◌, ◌==◌, suc, zero, ℕ, List, [], ◌∷◌, ◌++◌, length, length-append, map, get_or, refl, ap, subst, sym, ◌∙◌, arith, All, min, if◌then◌else◌, drop, take}
+use Rattle.std.proofs.Common.{◌≡◌, ◌<◌, ◌≤◌, ◌+◌, ◌-◌, suc, ℕ, List, [], ◌∷◌, ◌++◌, length, length-append, map, get_or, refl, ap, subst, sym, ◌∙◌, arith, All, if◌then◌else◌, drop, take}
 use Rattle.std.proofs.Math.Seq.{get_or-append_seam}
 use Rattle.std.proofs.lemmas.Bool.{ne_eqb}
 use Rattle.std.proofs.lemmas.List.{length-take, length-drop, get_or_append_left}
@@ -23,7 +23,7 @@ use Rattle.im_standing.proofs.AllLemmas.{all-left, all-right}
 use Rattle.im_standing.proofs.EntryLemmas.{entry-split, length-entry}
 use Rattle.im_standing.proofs.FieldLemmas.{length-field4, length-field8, length-signed}
 use Rattle.im_standing.proofs.HeldEntries.{HoldsEntries, entries_end, entry_end}
-use Rattle.im_standing.proofs.HeldRecords.{Has32, HoldsRecord, HoldsRecords, grown, grown_by, entries-end, length-grown, length-head}
+use Rattle.im_standing.proofs.HeldRecords.{Has32, HoldsRecord, HoldsRecords, grown, grown_by, entries-end, length-grown}
 use Rattle.im_standing.proofs.HoldLemmas.{Holds, holds-at, holds-left, holds-right}
 
 -- octets that are read lie within the file, where there are any
@@ -44,16 +44,18 @@ entries-split hash image id at (entry ∷ entries) (ref ∷ refs) long is refer 
     let hval : length ref.hval ≡ 32 = ap length refer.0.hval ∙ long.long entry.value in
     let size = length-entry entry ref hval in
     let front = holds-left (entry_octets entry ref) (entries_octets entries refs) h in
-    let back = holds-at (entry_end at entry) (omega arith) (holds-right (entry_octets entry ref) (entries_octets entries refs) h) in
-    (record {
-      is = is 0 entry (omega arith);
-      refers = refer.0;
-      size = hval;
-      has = entry-split (image 0) at entry ref hval front;
-      lies = lie 0 ref (omega arith);
-      reads = read 0 (record { file = 2 + ref.log; at = ref.at; octets = entry.value }) (omega arith);
-    }, entries-split hash image id (entry_end at entry) entries refs long (λ i d l. is (suc i) d (omega arith)) refer.1 back
-    (λ i d l. lie (suc i) d (omega arith)) (λ i d l. read (suc i) d (omega arith)))
+    let back = holds-at (entry_end at entry) (omega arith) (holds-right (entry_octets entry ref) (entries_octets entries refs) h) in (
+      record {
+        is = is 0 entry (omega arith);
+        refers = refer.0;
+        size = hval;
+        has = entry-split (image 0) at entry ref hval front;
+        lies = lie 0 ref (omega arith);
+        reads = read 0 (record { file = 2 + ref.log; at = ref.at; octets = entry.value }) (omega arith);
+      },
+      entries-split hash image id (entry_end at entry) entries refs long (λ i d l. is (suc i) d (omega arith)) refer.1 back
+          (λ i d l. lie (suc i) d (omega arith)) (λ i d l. read (suc i) d (omega arith)),
+    )
 
 -- what is known of a record by its history
 pub record IsNext (hash : Hash) (r : Reached) (rec : Record) : Type 0 where

@@ -1,29 +1,27 @@
 -- An image of octets that is read with no damage stands for what is read.
-use Rattle.std.proofs.Common.{◌≡◌, ◌<◌, ◌≤◌, ◌+◌, ◌*◌, suc, zero, ℕ, List, [], ◌∷◌, ◌++◌, length, length-append, map, refl, ap, subst, sym, ◌∙◌, arith, All, Ok, drop, get_or}
-use Rattle.std.proofs.lemmas.List.{length-map, get_or-drop, length-drop}
+use Rattle.std.proofs.Common.{◌≡◌, ◌<◌, ◌≤◌, ◌+◌, ◌*◌, suc, zero, ℕ, List, [], ◌∷◌, length, map, refl, ap, subst, arith, All, Ok}
+use Rattle.std.proofs.lemmas.List.{length-map}
 use Rattle.std.proofs.lemmas.List.Elements.{All-append, All-cons}
 use Rattle.im_octet.specs.Fields.{field8}
 use Rattle.im_digest.specs.Digests.{Hash}
 use Rattle.im_disk.specs.Disk.{Files}
-use Rattle.im_model.specs.History.{Follow, IsHistory, alhs_from, alhs_of}
 use Rattle.im_model.specs.declared.transactions.Transaction.{Transaction}
 use Rattle.im_mtree.specs.Checks.{first_fail}
 use Rattle.im_format.specs.Batches.{Counts, batch_fields, batch_spans, gate_of, joined, spans_from, values_spans}
 use Rattle.im_format.specs.Damages.{Reached, at_first, image_checks, next_id}
 use Rattle.im_format.specs.Reading.{history_in}
-use Rattle.im_format.specs.Records.{AreRecords, records_octets}
-use Rattle.im_format.specs.Spans.{Reads, octet_span, octets_at}
-use Rattle.im_format.specs.Standing.{HasBatches, LiesIn, Stands}
+use Rattle.im_format.specs.Records.{records_octets}
+use Rattle.im_format.specs.Spans.{Reads, octet_span}
+use Rattle.im_format.specs.Standing.{Stands}
 use Rattle.im_format.specs.declared.records.Record.{Record}
 use Rattle.im_format.specs.declared.spans.Span.{Span}
 use Rattle.im_standing.proofs.BatchesBack.{BatchesBack, batches-back}
 use Rattle.im_standing.proofs.FieldsBack.{IsSmall, octet-back}
-use Rattle.im_standing.proofs.HeldBatches.{HoldsBatch, HoldsBatches}
+use Rattle.im_standing.proofs.HeldBatches.{HoldsBatches}
 use Rattle.im_standing.proofs.HeldRecords.{HoldsRecords, grown_by, length-grown_by, place-grown_by}
 use Rattle.im_standing.proofs.HoldLemmas.{Holds, holds-same}
 use Rattle.im_standing.proofs.PassLemmas.{all-pass}
 use Rattle.im_standing.proofs.StandJoins.{records-append, records-are, records-few, records-follow, records-joined, values-joined, values-lie}
-use Rattle.im_standing.proofs.StandReads.{CountsFrom}
 
 -- an open gate is read
 gate-read : (image : Files) (gate : ℕ) → Counts (image 1) gate → Reads image (octet_span 1 gate 1)

@@ -1,4 +1,3 @@
-use Rattle.im_standing.proofs.HeldRecords.{Has32}
 use Rattle.im_standing.proofs.StandReads.{stands-read}
 use Rattle.im_standing.proofs.laws.a_history_that_stands_is_read.Goals as goal
 

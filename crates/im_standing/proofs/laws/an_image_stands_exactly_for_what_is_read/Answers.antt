@@ -1,5 +1,4 @@
 use Rattle.im_standing.proofs.FieldsBack.{small-all}
-use Rattle.im_standing.proofs.HeldRecords.{Has32}
 use Rattle.im_standing.proofs.StandReads.{stands-read}
 use Rattle.im_standing.proofs.StandsBack.{read-stands}
 use Rattle.im_standing.proofs.laws.an_image_stands_exactly_for_what_is_read.Goals as goal
