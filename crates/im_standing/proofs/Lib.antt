@@ -20,3 +20,4 @@ pub mod StandJoins
 pub mod StandReads
 pub mod StandSplits
 pub mod StandsBack
+pub mod WrittenLemmas

@@ -7,6 +7,7 @@ ghost use Rattle.im_format.specs.Batches.{Counts};
 ghost use Rattle.im_format.specs.Damages.{image_checks};
 ghost use Rattle.im_format.specs.Reading.{history_in};
 ghost use Rattle.im_format.specs.Standing.{Stands};
+ghost use Rattle.im_model.specs.History.{IsHistory};
 ghost use Rattle.im_model.specs.declared.transactions.Transaction.{Transaction};
 ghost use Rattle.im_mtree.specs.Checks.{first_fail};
 
@@ -39,4 +40,9 @@ pub fn no_batch_stands_for_the_empty_history()
     ensures stands { (hash : Hash) (image : Files) → (Counts (image 1) 0 → ⊥) → Stands hash image [] }
     ensures alone { (hash : Hash) (image : Files) (history : List Transaction) → (Counts (image 1) 0 → ⊥) → Stands hash image history → history ≡ [] }
     ensures empty { (hash : Hash) → Stands hash (λ file. []) [] }
+{}
+
+/// Each history within the limits has an image that stands for it.
+pub fn each_history_has_an_image()
+    ensures { (hash : Hash) (history : List Transaction) → IsHistory history → (image : Files) × Stands hash image history }
 {}
