@@ -1,0 +1,4 @@
+pub mod DigitLemmas
+pub mod PassLemmas
+pub mod ShownLemmas
+pub mod TakenLemmas
