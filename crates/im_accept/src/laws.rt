@@ -26,5 +26,5 @@ pub fn a_report_is_cut_into_its_lines()
     ensures texts { (hash : Hash) (h0 h : List Transaction) (lines : List Line) (octets : List ℕ) (report : Report hash h0 h lines octets)
         → HaveSessions lines → AreTexts octets (map line_text report.answers) }
     ensures one { (hash : Hash) (h0 h : List Transaction) (lines : List Line) (octets : List ℕ) (a b : Report hash h0 h lines octets)
-        → a.answers ≡ b.answers }
+        → HaveSessions lines → a.answers ≡ b.answers }
 {}
