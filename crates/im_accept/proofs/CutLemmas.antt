@@ -137,7 +137,7 @@ item-lacks hash history t i s =
       | false ↦ no-entry-lacks (length entries)
     ])
 
-answer-lacks : (hash : Hash) (h : List Transaction) (c : Command) (n : ℕ) (reply : List ℕ) → IsAnswer hash h c n reply → Lacks 10 reply
+pub answer-lacks : (hash : Hash) (h : List Transaction) (c : Command) (n : ℕ) (reply : List ℕ) → IsAnswer hash h c n reply → Lacks 10 reply
 answer-lacks hash h (Set drafts) n reply e = set-lacks h drafts n reply e
 answer-lacks hash h (Header k) n reply e = as-lacks reply _ e (header-reply-lacks hash (take n h) k)
 answer-lacks hash h State n reply e = as-lacks reply _ e (state-lacks hash (take n h))
@@ -148,7 +148,7 @@ answer-lacks hash h (Item t i (Some s)) n reply e = as-lacks reply _ e (item-lac
 answer-lacks hash h (Link count) n reply e = as-lacks reply (codes "linked") e refl
 
 -- nor has a line
-line-lacks : (a : Answered) → IsSession a.line.session → Lacks 10 a.reply → Lacks 10 (line_text a)
+pub line-lacks : (a : Answered) → IsSession a.line.session → Lacks 10 a.reply → Lacks 10 (line_text a)
 line-lacks a name h =
     let session : List ℕ = a.line.session in
     let number : List ℕ = decimal a.number in
@@ -163,7 +163,7 @@ unfolding reply_line
 written-is a more = append_assoc (line_text a) (10 ∷ []) more
 
 -- written lines are cut into their texts
-texts-of : (answers : List Answered) → All (λ a. Lacks 10 (line_text a)) answers → AreTexts (flat_map written answers) (map line_text answers)
+pub texts-of : (answers : List Answered) → All (λ a. Lacks 10 (line_text a)) answers → AreTexts (flat_map written answers) (map line_text answers)
 texts-of [] each = refl
 texts-of (a ∷ answers) each =
     (each 0 a (omega arith), inr (flat_map written answers, written-is a (flat_map written answers), texts-of answers (λ k d within. each (suc k) d (omega arith))))
