@@ -210,7 +210,7 @@ answers-same (x ∷ xs) [] lines texts few_x few_y = absurd cc
 answers-same (x ∷ xs) (y ∷ ys) lines texts few_x few_y =
     let first : x ≡ y = answer-same x y (heads x.line y.line _ _ lines) (few_x 0 x (omega arith)) (few_y 0 y (omega arith)) (heads (line_text x) (line_text y) _ _ texts) in
     let others : xs ≡ ys = answers-same xs ys (tails x.line y.line _ _ lines) (tails (line_text x) (line_text y) _ _ texts)
-        (λ k d within. few_x (suc k) d (omega arith)) (λ k d within. few_y (suc k) d (omega arith)) in
+    (λ k d within. few_x (suc k) d (omega arith)) (λ k d within. few_y (suc k) d (omega arith)) in
     ap (λ (a : Answered). a ∷ xs) first ∙ ap (λ (rest : List Answered). y ∷ rest) others
 
 pub few-answers : (hash : Hash) (h0 h : List Transaction) (lines : List Line) (octets : List ℕ) (report : Report hash h0 h lines octets) → All (λ a. a.number ≤ 1048576) report.answers

@@ -15,6 +15,7 @@ use Rattle.im_proof.specs.Built.{path_of}
 use Rattle.im_proof.specs.declared.proofs.DualProof.{DualProof}
 use Rattle.im_wire.specs.Lines.{is_open}
 use Rattle.im_wire.specs.Texts.{text}
+use Rattle.im_wire.specs.declared.messages.Message.{Message}
 use Rattle.im_wire.specs.declared.messages.Message.TheVariants as says
 use Rattle.im_report.specs.Replies.{advance_reply, anchor_between, between_reply, beyond_reply, dual_between, full_reply, header_reply, item_reply, item_shown, linked_reply, no_entry, no_entry_reply, order_reply, prove_reply, refused_reply, reserved_reply, shown_header, state_reply, tx_reply}
 use Rattle.im_report.specs.Report.{IsSetAnswer}
@@ -54,6 +55,14 @@ tx-closed n = refl
 shown-closed : (hash : Hash) (header : TheHeader) → is_open (shown_header hash header) ≡ false
 unfolding shown_header
 shown-closed hash header = refl
+
+-- each message does
+pub text-opens : (m : Message) → is_open (text m) ≡ true
+unfolding text
+text-opens (says.State header) = refl
+text-opens (says.Dual dual) = refl
+text-opens (says.Advance dual anchor) = refl
+text-opens (says.Item dual entry index path) = refl
 
 -- the reply to a set isn't open
 pub set-closed : (history : List Transaction) (drafts : List Draft) (n : ℕ) (reply : List ℕ) → IsSetAnswer history drafts n reply → is_open reply ≡ false

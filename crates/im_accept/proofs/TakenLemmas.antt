@@ -1,5 +1,5 @@
 -- Each message of a report is taken.
-use Rattle.std.proofs.Common.{◌≡◌, ◌<◌, ◌≤◌, ℕ, List, [], ◌∷◌, ◌++◌, true, false, length, take, map, refl, arith, ap, subst, ◌∙◌, sym, inl, Option, Some, None, Ok, All, get_or, append_assoc, codes}
+use Rattle.std.proofs.Common.{◌≡◌, ◌<◌, ◌≤◌, ℕ, List, [], ◌∷◌, ◌++◌, true, false, length, take, map, refl, arith, ap, subst, ◌∙◌, sym, inl, inr, Option, Some, None, Ok, All, get_or, append_assoc, codes}
 use Rattle.std.specs.Fmt.{decimal}
 use Rattle.std.proofs.lemmas.Bool.{both_ways}
 use Rattle.std.proofs.lemmas.List.{get_or-map, length-map, length-take-le}
@@ -186,9 +186,9 @@ pub report-taken : (hash : Hash) (h0 h : List Transaction) (lines : List Line) (
     → HaveSessions lines → AreReadBack hash h report.answers → AreTaken hash h report.answers
 report-taken hash h0 h lines octets report names read =
     let named : All (λ a. IsSession a.line.session) report.answers = sessions-are report.answers (subst (λ (ls : List Line). HaveSessions ls) (sym report.lines_are) names) in
-    λ k d within is_now.
+    λ k d within.
     let a : Answered = get_or report.answers k d in
     let few : length h ≤ 1048576 = report.history.few in
     let there : a.number ≤ length h = (report.within k d within).1 in
-    taken-by hash h a.line.session a.line.command a.number a.reply report.history there
-    (line-replies a (named k d within) (omega arith)) (report.each k d within) (read k d within) is_now
+    let replies : IsReply (line_text a) a.reply = line-replies a (named k d within) (omega arith) in
+    (taken-by hash h a.line.session a.line.command a.number a.reply report.history there replies (report.each k d within) (read k d within), λ closed. inr (a.reply, replies, closed))

@@ -1,12 +1,12 @@
 -- Which of a report's lines a client accepts, and in which state: each one that is a message.
-use Rattle.std.specs.Prelude.{◌≡◌, ℕ, ◌≤◌, List, ◌++◌, take, true, All, Option, Some, None, codes}
+use Rattle.std.specs.Prelude.{◌≡◌, ℕ, ◌≤◌, List, ◌++◌, take, true, false, All, Option, Some, None, codes}
 use Rattle.std.specs.Fmt.{decimal}
 use Rattle.im_digest.specs.Digests.{Hash}
 use Rattle.im_model.specs.History.{header_of}
 use Rattle.im_model.specs.declared.headers.Header.{Header as TheHeader}
 use Rattle.im_model.specs.declared.transactions.Transaction.{Transaction}
 use Rattle.im_talk.specs.Fields.{IsSession}
-use Rattle.im_wire.specs.Lines.{is_open}
+use Rattle.im_wire.specs.Lines.{is_open, IsLine}
 use Rattle.im_wire.specs.Texts.{text}
 use Rattle.im_wire.specs.declared.messages.Message.{Message}
 use Rattle.im_script.specs.declared.commands.Line.{Line}
@@ -64,9 +64,11 @@ pub record IsTaken (hash : Hash) (history : List Transaction) (a : Answered) : T
   pub behind : (state : Option TheHeader) → IsFor hash history a.line.command a.number state
       → state_with state message ≡ Some (header_of hash history (next_number a.line.command kept))
 
--- each line whose reply begins as an object does is taken. A client passes over every other one.
+-- Each line whose reply begins as an object does, as the text of each message does, is taken; and any client
+-- passes over every other one.
 abbrev pub AreTaken : Hash → List Transaction → List Answered → Type 0
-AreTaken hash history answers = All (λ a. is_open a.reply ≡ true → IsTaken hash history a) answers
+AreTaken hash history answers =
+    All (λ a. (is_open a.reply ≡ true → IsTaken hash history a) × (is_open a.reply ≡ false → IsLine (line_text a) None)) answers
 
 -- each reply is read as the message that was asked for at its number, where it is one
 abbrev pub AreReadBack : Hash → List Transaction → List Answered → Type 0
