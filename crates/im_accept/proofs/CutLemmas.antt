@@ -1,5 +1,5 @@
 -- A report is cut at each LF into its answered lines, and so these are one list.
-use Rattle.std.proofs.Common.{◌≡◌, ◌<◌, ◌≤◌, ◌==◌, ◌||◌, ℕ, zero, suc, List, [], ◌∷◌, ◌++◌, length, map, take, refl, arith, ap, ◌∙◌, sym, subst, inl, inr, Some, None, All, get_or, nat_lt, true, false, codes, append_assoc, if◌then◌else◌}
+use Rattle.std.proofs.Common.{◌≡◌, ◌≤◌, ◌==◌, ◌||◌, ℕ, zero, suc, List, [], ◌∷◌, ◌++◌, length, map, take, refl, arith, ap, ◌∙◌, sym, subst, inl, inr, Some, None, All, get_or, nat_lt, true, false, codes, append_assoc, if◌then◌else◌}
 use Rattle.std.specs.Fmt.{decimal}
 use Rattle.std.specs.List.{flat_map}
 use Rattle.std.proofs.lemmas.List.Folds.{list_all-append}

@@ -1,9 +1,8 @@
 -- No octet of an answered line is LF.
-use Rattle.std.proofs.Common.{◌≡◌, ◌<◌, ◌≤◌, ℕ, ℤ, pos, negsuc, zero, suc, ◌/◌, ◌%◌, ◌==◌, ◌||◌, not, List, [], ◌∷◌, ◌++◌, Bool, true, false, cond, refl, ap, ◌∙◌, sym, arith, get_or, nat_lt, if◌then◌else◌, length, codes, inl, inr, Some, None, All, map, take}
+use Rattle.std.proofs.Common.{◌≡◌, ◌≤◌, ℕ, ℤ, pos, negsuc, zero, suc, ◌/◌, ◌%◌, ◌==◌, not, List, [], ◌∷◌, ◌++◌, Bool, true, false, cond, refl, arith, get_or, nat_lt}
 use Rattle.std.specs.Fmt.{decimal, signed_decimal}
-use Rattle.std.specs.List.{list_all, flat_map}
-use Rattle.std.specs.Char.{digit_char, is_ascii_digit}
-use Rattle.std.proofs.lemmas.Bool.{and_parts, and_from, cond_both, ltb-false, not_from_false, not-true}
+use Rattle.std.specs.Char.{digit_char}
+use Rattle.std.proofs.lemmas.Bool.{and_parts, and_from, cond_both, ltb-false}
 use Rattle.std.proofs.lemmas.Bool.Decides.{nat_tests}
 use Rattle.std.proofs.lemmas.List.Folds.{list_all-append}
 use Rattle.hex.specs.Hex.{encode_lower, encode_with, lower_digits}

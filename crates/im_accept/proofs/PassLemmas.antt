@@ -1,5 +1,5 @@
 -- What is said of a history passes the checks of a client that it is for.
-use Rattle.std.proofs.Common.{◌≡◌, ◌<◌, ◌≤◌, ℕ, ◌-◌, ◌&&◌, not, List, [], ◌∷◌, ◌++◌, Bool, true, false, length, map, reverse, refl, arith, ap, ◌∙◌, sym, get_or, nat_lt, if◌then◌else◌, Option, Some, None, Ok}
+use Rattle.std.proofs.Common.{◌≡◌, ◌<◌, ◌≤◌, ℕ, ◌-◌, ◌&&◌, not, List, [], ◌∷◌, ◌++◌, Bool, true, false, length, map, refl, arith, ap, ◌∙◌, sym, get_or, nat_lt, if◌then◌else◌, Option, Some, None, Ok}
 use Rattle.std.specs.Prelude.{nat_eq, bytes_eq}
 use Rattle.std.proofs.lemmas.Bool.{and_parts, eq-eqb, ltb-true, ne_eqb}
 use Rattle.std.proofs.lemmas.List.{get_or-map, length-map}
@@ -22,7 +22,7 @@ use Rattle.im_proof.proofs.HoldLemmas.{bytes-same, one-holds, two-hold, two-then
 use Rattle.im_dual.proofs.RecordLemmas.{bl-of, headers-recorded, history-passes, id-of}
 use Rattle.im_wire.specs.declared.messages.Message.TheVariants as says
 use Rattle.im_report.specs.Replies.{anchor_between, dual_between, no_entry}
-use Rattle.im_client.specs.LineChecks.{advance_line_checks, anchor_checks, anchor_ends_checks, dual_line_checks, is_anchored, line_checks, same_state_checks}
+use Rattle.im_client.specs.LineChecks.{anchor_checks, anchor_ends_checks, dual_line_checks, is_anchored, line_checks, same_state_checks}
 use Rattle.im_client.specs.declared.faults.LineFault.{LineFault}
 use Rattle.im_client.specs.declared.faults.LineFault.TheVariants.{State, StateId, StateAlh, SourceId, SourceAlh, TargetId, TargetAlh, Dual, AnchorMissing, AnchorExtra, AnchorSourceId, AnchorTargetId, AnchorSourceAlh, AnchorTargetAlh, Anchor, Path}
 use Rattle.im_client.proofs.NamedLemmas.{holds_named}

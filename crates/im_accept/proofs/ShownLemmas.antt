@@ -1,5 +1,5 @@
 -- What a reply is that begins as an object does.
-use Rattle.std.proofs.Common.{◌≡◌, ◌≤◌, ◌<◌, length, ℕ, zero, suc, ◌==◌, ◌||◌, List, Bool, true, false, codes, refl, ap, ◌∙◌, arith, nat_lt, if◌then◌else◌, inl, inr, Some, None, map}
+use Rattle.std.proofs.Common.{◌≡◌, ◌≤◌, ◌<◌, length, ℕ, zero, suc, ◌==◌, ◌||◌, List, Bool, true, false, codes, refl, ap, ◌∙◌, arith, nat_lt, if◌then◌else◌, inl, inr, map}
 use Rattle.std.proofs.lemmas.Bool.{both_ways, eqb-false, ltb-false, ltb-true, or_parts}
 use Rattle.std.specs.Prelude.{slice_index_or}
 use Rattle.im_digest.specs.Digests.{Hash}
@@ -17,7 +17,7 @@ use Rattle.im_wire.specs.Lines.{is_open}
 use Rattle.im_wire.specs.Texts.{text}
 use Rattle.im_wire.specs.declared.messages.Message.{Message}
 use Rattle.im_wire.specs.declared.messages.Message.TheVariants as says
-use Rattle.im_report.specs.Replies.{advance_reply, anchor_between, between_reply, beyond_reply, dual_between, full_reply, header_reply, item_reply, item_shown, linked_reply, no_entry, no_entry_reply, order_reply, prove_reply, refused_reply, reserved_reply, shown_header, state_reply, tx_reply}
+use Rattle.im_report.specs.Replies.{advance_reply, anchor_between, between_reply, beyond_reply, dual_between, header_reply, item_reply, item_shown, no_entry, no_entry_reply, order_reply, prove_reply, refused_reply, reserved_reply, shown_header, state_reply, tx_reply}
 use Rattle.im_report.specs.Report.{IsSetAnswer}
 use Rattle.im_accept.specs.Messages.{item_between}
 

@@ -1,5 +1,5 @@
 -- Each message of a report is taken.
-use Rattle.std.proofs.Common.{◌≡◌, ◌<◌, ◌≤◌, ℕ, List, [], ◌∷◌, ◌++◌, true, false, length, take, map, refl, arith, ap, subst, ◌∙◌, sym, inl, inr, Option, Some, None, Ok, All, get_or, append_assoc, codes}
+use Rattle.std.proofs.Common.{◌≡◌, ◌≤◌, ℕ, List, true, length, take, map, refl, arith, ap, subst, ◌∙◌, sym, inl, inr, Option, Some, None, Ok, All, get_or, append_assoc}
 use Rattle.std.specs.Fmt.{decimal}
 use Rattle.std.proofs.lemmas.Bool.{both_ways}
 use Rattle.std.proofs.lemmas.List.{get_or-map, length-map, length-take-le}
