@@ -1,2 +1,3 @@
 pub mod FateLemmas
+pub mod ReportLemmas
 pub mod VerdictLemmas

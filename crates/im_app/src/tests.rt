@@ -4,6 +4,7 @@
 mod exchange;
 mod faults;
 mod proofs;
+mod taken;
 
 use crate::status::{Done, Status};
 use crate::top::top;

@@ -118,7 +118,10 @@ pub fn top<
     clock: C,
     _gate: &G,
 ) -> Done<D, C>
-    // `run`, done: the octets written are the report of the script, for a history that the script makes.
+    // `run`, done: the octets written are the report of the script, for a history that the script makes. Cut at
+    // each LF they are one line for each reply, as `verify` reads them. Each line that is a message is accepted by
+    // every client that keeps the header it is for, a state by one that keeps none too, and that client then keeps
+    // the header that the message leads to; every other line is passed over.
     ensures report { AsksRun (map string_bytes words.now) → result.status ≡ Status.Ok → IfSome (S.left source.old) (λ script.
         WritesReport (H.digest hash.now) (C.constant clock) script (K.written sink.old) (K.written sink.new)) }
 

@@ -1,2 +1,3 @@
+pub mod AgainLemmas
 pub mod LedgerLemmas
 pub mod TurnLemmas

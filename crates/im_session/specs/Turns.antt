@@ -8,6 +8,7 @@ use Rattle.im_report.specs.Replies.{tx_reply}
 use Rattle.im_report.specs.Report.{IsAnswer, floor_by, reply_line}
 use Rattle.im_script.specs.declared.commands.Line.{Line}
 use Rattle.im_script.specs.declared.commands.Command.{Command}
+use Rattle.im_accept.specs.Messages.{IsReadBack}
 use Rattle.im_session.specs.Ledgers.{Held, IsLedger}
 
 -- a transaction has the clock's time, where the clock tells it
@@ -37,8 +38,10 @@ pub record Answers (hash : Hash) (constant : Option ℤ) (command : Command) (be
   pub over : All (λ tx. tx.bl ≡ length before.tree) more
   pub floor : length after.tree ≡ floor_by command (length after.transactions) (length before.tree)
 
--- a line was answered, and its reply written behind the others
+-- a line was answered, and its reply, which is read as the message that was asked for where it is one, written
+-- behind the others
 pub record Turn (hash : Hash) (constant : Option ℤ) (line : Line) (before after : Held) (old new : List ℕ) : Type 0 where
   pub reply : List ℕ
   pub answers : Answers hash constant line.command before after reply
+  pub again : IsReadBack hash after.transactions line.command reply
   pub written : new ≡ old ++ reply_line line.session (length after.transactions) reply

@@ -1,9 +1,15 @@
-ghost use Rattle.std.specs.Prelude.{◌≡◌, ◌<◌, ◌≤◌, ◌-◌, ℕ, List, length, map, IfNone, IfOk, IfSome, Ok, unwrap_or};
+ghost use Rattle.std.specs.Prelude.{◌≡◌, ◌<◌, ◌≤◌, ◌-◌, ℕ, List, length, map, slice_index_or, false, IfNone, IfOk, IfSome, Ok, unwrap_or};
 ghost use Rattle.im_model.specs.Entries.{entry_digest};
 ghost use Rattle.im_mtree.specs.Checks.{first_fail};
+ghost use Rattle.im_proof.specs.Built.{path_of};
 ghost use Rattle.im_proof.specs.Duals.{dual_checks};
-ghost use Rattle.im_report.specs.Replies.{advance_reply, anchor_between, between_reply, dual_between, item_reply, item_shown, prove_reply, state_reply};
+ghost use Rattle.im_report.specs.Replies.{advance_reply, anchor_between, between_reply, dual_between, item_reply, item_shown, no_entry, prove_reply, state_reply};
+ghost use Rattle.im_script.specs.declared.commands.Command.TheVariants as says;
+ghost use Rattle.im_accept.specs.Messages.{IsReadBack};
+ghost use Rattle.im_wire.specs.Lines.{is_open};
+ghost use Rattle.im_wire.specs.Messages.{HasMessage};
 ghost use Rattle.im_wire.specs.Texts.{text};
+ghost use Rattle.im_wire.specs.declared.messages.Message.TheVariants.{Item};
 ghost use Rattle.im_session.specs.Ledgers.{IsLedger};
 
 use crate::ledger::Ledger;
@@ -18,9 +24,10 @@ use im_wire::messages::Message;
 use im_wire::writing::write;
 use std::alloc::{AllocError, Global};
 
-// The text of a message.
+// The text of a message, which is read as that message again.
 fn message_text(alloc: Global, message: Message) -> Result<Vec<u8>, AllocError>
-    ensures { IfOk result (λ octets. octets.items ≡ text message) }
+    ensures text { IfOk result (λ octets. octets.items ≡ text message) }
+    ensures again { IfOk result (λ octets. HasMessage octets.items message) }
 {
     write(alloc, &message)
 }
@@ -33,7 +40,8 @@ pub(crate) fn state_text<H: Hash32>(
     ledger: &Ledger,
 ) -> Result<Vec<u8>, AllocError>
     requires { IsLedger (H.digest hash.now) ledger.now }
-    ensures { IfOk result (λ reply. reply.items ≡ state_reply (H.digest hash.now) ledger.now.transactions) }
+    ensures reply { IfOk result (λ reply. reply.items ≡ state_reply (H.digest hash.now) ledger.now.transactions) }
+    ensures again { IfOk result (λ reply. IsReadBack (H.digest hash.now) ledger.now.transactions says.State reply.items) }
 {
     let _ = hash;
     let count = ledger.count();
@@ -52,6 +60,7 @@ fn refused_between(
     t: u64,
 ) -> Result<Option<Vec<u8>>, AllocError>
     ensures refused { IfOk result (λ refused. IfSome refused (λ reply. (shown : List ℕ) → reply.items ≡ between_reply ledger.now.transactions s t shown)) }
+    ensures closed { IfOk result (λ refused. IfSome refused (λ reply. is_open reply.items ≡ false)) }
     ensures taken { IfOk result (λ refused. IfNone refused ((1 ≤ s) × (s ≤ t) × (t ≤ length ledger.now.transactions))) }
 {
     let count = ledger.count();
@@ -92,7 +101,8 @@ pub(crate) fn prove_text<H: Hash32>(
     t: u64,
 ) -> Result<Vec<u8>, AllocError>
     requires { IsLedger (H.digest hash.now) ledger.now }
-    ensures { IfOk result (λ reply. reply.items ≡ prove_reply (H.digest hash.now) ledger.now.transactions s t) }
+    ensures reply { IfOk result (λ reply. reply.items ≡ prove_reply (H.digest hash.now) ledger.now.transactions s t) }
+    ensures again { IfOk result (λ reply. IsReadBack (H.digest hash.now) ledger.now.transactions (says.Prove s t) reply.items) }
 {
     if let Some(refusal) = refused_between(alloc, ledger, s, t)? {
         return Ok(refusal);
@@ -136,7 +146,8 @@ pub(crate) fn advance_text<H: Hash32>(
     t: u64,
 ) -> Result<Vec<u8>, AllocError>
     requires { IsLedger (H.digest hash.now) ledger.now }
-    ensures { IfOk result (λ reply. reply.items ≡ advance_reply (H.digest hash.now) ledger.now.transactions s t) }
+    ensures reply { IfOk result (λ reply. reply.items ≡ advance_reply (H.digest hash.now) ledger.now.transactions s t) }
+    ensures again { IfOk result (λ reply. IsReadBack (H.digest hash.now) ledger.now.transactions (says.Advance s t) reply.items) }
 {
     if let Some(refusal) = refused_between(alloc, ledger, s, t)? {
         return Ok(refusal);
@@ -167,7 +178,8 @@ fn item<H: Hash32>(
     index: u32,
 ) -> Result<Vec<u8>, AllocError>
     requires { index < length entries.now }
-    ensures { IfOk result (λ reply. reply.items ≡ item_shown (H.digest hash.now) dual entries.now index) }
+    ensures reply { IfOk result (λ reply. reply.items ≡ item_shown (H.digest hash.now) dual entries.now index) }
+    ensures again { IfOk result (λ reply. HasMessage reply.items (Item dual (slice_index_or entries.now index no_entry) index (path_of (H.digest hash.now) (map (entry_digest (H.digest hash.now)) entries.now) index))) }
 {
     let entry = entries[index as usize].try_clone(alloc)?;
     let digests = digests_of(alloc, hash, entries)?;
@@ -195,7 +207,8 @@ pub(crate) fn item_text<H: Hash32>(
     under: Option<u64>,
 ) -> Result<Vec<u8>, AllocError>
     requires { IsLedger (H.digest hash.now) ledger.now }
-    ensures { IfOk result (λ reply. reply.items ≡ item_reply (H.digest hash.now) ledger.now.transactions number index (unwrap_or under (length ledger.now.transactions))) }
+    ensures reply { IfOk result (λ reply. reply.items ≡ item_reply (H.digest hash.now) ledger.now.transactions number index (unwrap_or under (length ledger.now.transactions))) }
+    ensures again { IfOk result (λ reply. IsReadBack (H.digest hash.now) ledger.now.transactions (says.Item number index under) reply.items) }
 {
     let state = under.unwrap_or(ledger.count());
     if let Some(refusal) = refused_between(alloc, ledger, number, state)? {

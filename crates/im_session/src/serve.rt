@@ -1,5 +1,7 @@
 ghost use Rattle.std.specs.Prelude.{◌≡◌, [], All, IfOk, OnOk};
 ghost use Rattle.im_report.specs.Report.{Report};
+ghost use Rattle.im_accept.specs.Messages.{IsReadBack};
+ghost use Rattle.im_accept.specs.Taken.{AreReadBack, HaveSessions};
 ghost use Rattle.im_session.specs.Ledgers.{IsLedger};
 ghost use Rattle.im_session.specs.Turns.{Answers, HasTime, Turn};
 
@@ -23,6 +25,7 @@ fn answer<H: Hash32, C: Clock>(
 ) -> Result<Vec<u8>, AllocError>
     requires { IsLedger (H.digest hash.now) ledger.old }
     ensures answers { IfOk result (λ reply. Answers (H.digest hash.now) (C.constant clock.old) command ledger.old ledger.new reply.items) }
+    ensures again { IfOk result (λ reply. IsReadBack (H.digest hash.now) ledger.new.transactions command reply.items) }
     ensures same { C.constant clock.new ≡ C.constant clock.old }
 {
     match command {
@@ -66,8 +69,8 @@ pub struct Served {
     pub out: Vec<u8>,
 }
 
-/// Answers the lines of a script in order by one session, from the empty history on. Its only error is want
-/// of memory.
+/// Answers the lines of a script in order by one session, from the empty history on. Each reply that is a
+/// message is read as the one that was asked for. The only error is want of memory.
 pub fn serve<H: Hash32, C: Clock>(
     alloc: Global,
     hash: &H,
@@ -75,6 +78,8 @@ pub fn serve<H: Hash32, C: Clock>(
     lines: Vec<Line>,
 ) -> Result<Served, AllocError>
     ensures report { IfOk result (λ served. Report (H.digest hash.now) [] served.history.items lines.items served.out.items) }
+    ensures again { IfOk result (λ served. (report : Report (H.digest hash.now) [] served.history.items lines.items served.out.items)
+        → HaveSessions lines.items → AreReadBack (H.digest hash.now) served.history.items report.answers) }
     ensures timed { IfOk result (λ served. All (HasTime (C.constant clock.old)) served.history.items) }
     ensures same { C.constant clock.new ≡ C.constant clock.old }
 {

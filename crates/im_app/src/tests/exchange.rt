@@ -58,7 +58,7 @@ pub(super) fn verify<H: Hash32 + Sync>(
 }
 
 // The place of a text in another, or that one's length.
-fn place_of(text: &[u8], part: &[u8]) -> usize
+pub(super) fn place_of(text: &[u8], part: &[u8]) -> usize
     ensures { result ≤ length text.now }
 {
     for at in 0..text.len() {

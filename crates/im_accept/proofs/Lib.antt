@@ -1,0 +1,6 @@
+pub mod CutLemmas
+pub mod DigitLemmas
+pub mod LfLemmas
+pub mod PassLemmas
+pub mod ShownLemmas
+pub mod TakenLemmas

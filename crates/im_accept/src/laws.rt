@@ -1,0 +1,39 @@
+//! What holds of the definitions. Each function does nothing, and its contract is the law.
+
+ghost use Rattle.std.specs.Prelude.{◌≡◌, ℕ, List, map, true};
+ghost use Rattle.im_cuts.specs.Lines.{AreTexts};
+ghost use Rattle.im_digest.specs.Digests.{Hash};
+ghost use Rattle.im_model.specs.declared.transactions.Transaction.{Transaction};
+ghost use Rattle.im_report.specs.Report.{Report};
+ghost use Rattle.im_script.specs.Script.{IsScript};
+ghost use Rattle.im_script.specs.declared.commands.Line.{Line};
+ghost use Rattle.im_wire.specs.Lines.{is_open};
+ghost use Rattle.im_wire.specs.Texts.{text};
+ghost use Rattle.im_wire.specs.declared.messages.Message.{Message};
+ghost use Rattle.im_accept.specs.Taken.{line_text, AreReadBack, AreTaken, HaveSessions};
+
+/// The lines of a script have sessions' names.
+pub fn lines_of_a_script_have_sessions()
+    ensures { (octets : List ℕ) (lines : List Line) → IsScript octets lines → HaveSessions lines }
+{}
+
+/// The text of each message begins as an object does.
+pub fn each_message_is_open()
+    ensures { (message : Message) → is_open (text message) ≡ true }
+{}
+
+/// Each line of a report that is a message is accepted by the clients that it is for, and every other line
+/// is passed over, where the replies are read as the messages that were asked for. That they are is said by
+/// the session which writes them: digests of other lengths than 32 octets would be read by none.
+pub fn a_client_takes_each_message()
+    ensures { (hash : Hash) (h0 h : List Transaction) (lines : List Line) (octets : List ℕ) (report : Report hash h0 h lines octets)
+        → HaveSessions lines → AreReadBack hash h report.answers → AreTaken hash h report.answers }
+{}
+
+/// The octets of a report, cut at each LF, are its answered lines, and a report is of one list of them.
+pub fn a_report_is_cut_into_its_lines()
+    ensures texts { (hash : Hash) (h0 h : List Transaction) (lines : List Line) (octets : List ℕ) (report : Report hash h0 h lines octets)
+        → HaveSessions lines → AreTexts octets (map line_text report.answers) }
+    ensures one { (hash : Hash) (h0 h : List Transaction) (lines : List Line) (octets : List ℕ) (a b : Report hash h0 h lines octets)
+        → HaveSessions lines → a.answers ≡ b.answers }
+{}

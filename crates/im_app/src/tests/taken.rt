@@ -1,0 +1,98 @@
+//! What a run wrote is accepted by the client that it is for, line by line.
+
+use super::exchange::{place_of, replaced, verify};
+use super::run;
+use crate::status::Status;
+use im_digest::{Hash32, Sha, Sum};
+use im_edge::keeper::MemKeeper;
+use std::alloc::Global;
+use std::process::Abort;
+use std::test::Fail;
+
+// Six transactions, of which two are linked before the fifth, and what a client asks for on its way.
+const ASKED: &[u8] =
+    b"a: set k=1\na: set k=2\na: set k=ab\na: state\na: item 3 0\na: set k=4\na: link 2\na: set k=5\na: advance 3 5\na: set k=6\na: advance 5 6\na: item 3 0\n";
+
+// What the client says of the lines before the last.
+const ON_THE_WAY: &[u8] = b"ok 4 state 3\nok 5 item 3 0\nok 9 advance 3 5\nok 11 advance 5 6\n";
+
+// What `verify` of a new client writes for a stream, and how it ends.
+fn verdict_of<H: Hash32 + Sync>(
+    rt: &(impl Abort + Alloc<A = Global>),
+    hash: &H,
+    stream: &[u8],
+) -> Result<(Status, Vec<u8>), Fail> {
+    let mut keeper = MemKeeper::new(rt.alloc());
+    verify(rt, hash, &mut keeper, stream)
+}
+
+// The report with `ba` for `ab` in the last line.
+fn exchanged<H: Hash32 + Sync>(
+    rt: &(impl Abort + Alloc<A = Global>),
+    hash: &H,
+) -> Result<Vec<u8>, Fail> {
+    let (_, report) = run(rt, hash, ASKED)?;
+    let last = place_of(report.as_slice(), b"a 6 {\"dual\":");
+    let (before, line) = report.as_slice().split_at(last);
+    let mut out = Vec::from_slice(rt.alloc(), before)?;
+    let line = replaced(
+        rt.alloc(),
+        line,
+        b"\"value\":\"6162",
+        b"\"}",
+        b"\"value\":\"6261",
+    )?;
+    out.extend_from_slice(line.as_slice())?;
+    Ok(out)
+}
+
+#[test]
+fn each_message_is_accepted_under_the_sum(rt: HostRuntime) -> Result<(), Fail> {
+    let (status, report) = run(&rt, &Sum, ASKED)?;
+    assert_eq!(rt; status, Status::Ok);
+    let (status, written) = verdict_of(&rt, &Sum, report.as_slice())?;
+    assert_eq!(rt; status, Status::Ok);
+    let mut want = Vec::from_slice(rt.alloc(), ON_THE_WAY)?;
+    want.extend_from_slice(b"ok 12 item 3 0\n")?;
+    assert_eq!(rt; written.as_slice(), want.as_slice());
+    Ok(())
+}
+
+#[test]
+fn each_message_is_accepted_under_sha_256(rt: HostRuntime) -> Result<(), Fail> {
+    let (status, report) = run(&rt, &Sha, ASKED)?;
+    assert_eq!(rt; status, Status::Ok);
+    let (status, written) = verdict_of(&rt, &Sha, report.as_slice())?;
+    assert_eq!(rt; status, Status::Ok);
+    let mut want = Vec::from_slice(rt.alloc(), ON_THE_WAY)?;
+    want.extend_from_slice(b"ok 12 item 3 0\n")?;
+    assert_eq!(rt; written.as_slice(), want.as_slice());
+    Ok(())
+}
+
+// `ab` and `ba` have one sum, c3, so each digest above them is the same. A client that keeps its state alone
+// can't tell line 12 from line 5; one that also keeps the entries it was shown will.
+#[test]
+fn a_value_of_the_same_sum_is_accepted(rt: HostRuntime) -> Result<(), Fail> {
+    let stream = exchanged(&rt, &Sum)?;
+    let (status, written) = verdict_of(&rt, &Sum, stream.as_slice())?;
+    assert_eq!(rt; status, Status::Ok);
+    let mut want = Vec::from_slice(rt.alloc(), ON_THE_WAY)?;
+    want.extend_from_slice(b"ok 12 item 3 0\n")?;
+    assert_eq!(rt; written.as_slice(), want.as_slice());
+    Ok(())
+}
+
+// Under SHA-256 they differ: the root of the one entry k=ab, and that of k=ba, by another program.
+#[test]
+fn another_value_is_refused_under_sha_256(rt: HostRuntime) -> Result<(), Fail> {
+    let stream = exchanged(&rt, &Sha)?;
+    let (status, written) = verdict_of(&rt, &Sha, stream.as_slice())?;
+    assert_eq!(rt; status, Status::Refused);
+    let mut want = Vec::from_slice(rt.alloc(), ON_THE_WAY)?;
+    want.extend_from_slice(
+        b"refused 12 path-root 5707ce597a46601b74da45d114c298cb9b0b64ddbad1613d19146f72a523f920 3890339881501d1e5e259a7022936f2f56f6d4026b8ba18448f41f8dd41c729a\n",
+    )?;
+    assert_eq!(rt; written.as_slice(), want.as_slice());
+    Ok(())
+}
