@@ -9,7 +9,7 @@ use Rattle.im_disk.specs.declared.calls.Call.{Call}
 use Rattle.im_disk.specs.declared.calls.Call.TheVariants.{Wrote, Tore, Synced, Missed}
 use Rattle.im_image.specs.Remains.{since_sync, until_sync, range_of, ranges_of, furthest_end, MayRemain, EachMayRemain}
 use Rattle.im_image.specs.declared.ranges.WrittenRange.{WrittenRange}
-use Rattle.im_image.proofs.RemainLemmas.{torn-remains, remains-torn, remains-durable, durable-remains}
+use Rattle.im_image.proofs.RemainLemmas.{torn-remains, remains-torn, remains-durable, durable-remains, take_from_octets, drop_from_octets, written-length, written-before, written-behind}
 
 -- the ranges with that of one call more, which writes this range of one file
 abbrev added : ℕ → ℕ → WrittenRange → List WrittenRange → List WrittenRange
@@ -43,11 +43,11 @@ torn-each durable ranges file k at n before image was torn =
     let range : WrittenRange = record { at = at; count = n } in
     ⊎_elim
     (λ (same : file ≡ k).
-        added-same (λ (rs : List WrittenRange). MayRemain durable rs (image k)) file k range ranges same
-        (torn-remains durable (before k) (image k) ranges range was (subst (λ (j : ℕ). Torn at n (before j) (image j)) same torn.torn)))
+    added-same (λ (rs : List WrittenRange). MayRemain durable rs (image k)) file k range ranges same
+    (torn-remains durable (before k) (image k) ranges range was (subst (λ (j : ℕ). Torn at n (before j) (image j)) same torn.torn)))
     (λ (other : file ≡ k → ⊥).
-        added-other (λ (rs : List WrittenRange). MayRemain durable rs (image k)) file k range ranges other
-        (subst (λ (octets : List ℕ). MayRemain durable ranges octets) (sym (torn.others k (λ e. other (sym e)))) was))
+    added-other (λ (rs : List WrittenRange). MayRemain durable rs (image k)) file k range ranges other
+    (subst (λ (octets : List ℕ). MayRemain durable ranges octets) (sym (torn.others k (λ e. other (sym e)))) was))
     (cases_eq file k)
 
 -- of each file of an image there is what may remain
@@ -84,13 +84,13 @@ seen-most first (Wrote file at piece ∷ calls) k =
     let was = seen-most first calls k in
     ⊎_elim
     (λ (same : file ≡ k).
-        added-same (λ (rs : List WrittenRange). length (seen_after first (Wrote file at piece ∷ calls) k) ≤ furthest_end end rs) file k range ranges same
-        (subst (λ (octets : List ℕ). length octets ≤ furthest_end end (range ∷ ranges)) (sym (with-same (seen_after first calls) file k (written (seen_after first calls file) at piece) (sym same)))
-        (subst (λ (j : ℕ). length (written (seen_after first calls j) at piece) ≤ furthest_end end (range ∷ ranges)) (sym same)
-        (omega (arith, was, written-most (seen_after first calls k) at piece)))))
+    added-same (λ (rs : List WrittenRange). length (seen_after first (Wrote file at piece ∷ calls) k) ≤ furthest_end end rs) file k range ranges same
+    (subst (λ (octets : List ℕ). length octets ≤ furthest_end end (range ∷ ranges)) (sym (with-same (seen_after first calls) file k (written (seen_after first calls file) at piece) (sym same)))
+    (subst (λ (j : ℕ). length (written (seen_after first calls j) at piece) ≤ furthest_end end (range ∷ ranges)) (sym same)
+    (omega (arith, was, written-most (seen_after first calls k) at piece)))))
     (λ (other : file ≡ k → ⊥).
-        added-other (λ (rs : List WrittenRange). length (seen_after first (Wrote file at piece ∷ calls) k) ≤ furthest_end end rs) file k range ranges other
-        (subst (λ (octets : List ℕ). length octets ≤ furthest_end end ranges) (sym (with-other (seen_after first calls) file k (written (seen_after first calls file) at piece) (λ e. other (sym e)))) was))
+    added-other (λ (rs : List WrittenRange). length (seen_after first (Wrote file at piece ∷ calls) k) ≤ furthest_end end rs) file k range ranges other
+    (subst (λ (octets : List ℕ). length octets ≤ furthest_end end ranges) (sym (with-other (seen_after first calls) file k (written (seen_after first calls file) at piece) (λ e. other (sym e)))) was))
     (cases_eq file k)
 seen-most first (Tore file at n ∷ calls) k =
     let range : WrittenRange = record { at = at; count = n } in
@@ -117,21 +117,22 @@ each-torn first calls file at n image near each =
     added-same-of (λ (rs : List WrittenRange). MayRemain (durable file) rs (image file)) file file range (ranges file) refl (each file) in
     let old = remains-torn (durable file) (image file) (ranges file) range (omega (arith, near, seen-most first calls file)) now in
     let before : Files = with_file image file old.0 in
-    let here : before file ≡ old.0 = with-same image file file old.0 refl in
-    (before,
+    let here : before file ≡ old.0 = with-same image file file old.0 refl in (
+      before,
       λ k.
-        ⊎_elim
-        (λ (same : k ≡ file).
-            subst (λ (octets : List ℕ). MayRemain (durable k) (ranges k) octets) (sym (with-same image file k old.0 same))
-            (subst (λ (j : ℕ). MayRemain (durable j) (ranges j) old.0) (sym same) old.1))
-        (λ (other : k ≡ file → ⊥).
-            subst (λ (octets : List ℕ). MayRemain (durable k) (ranges k) octets) (sym (with-other image file k old.0 other))
-            (added-other-of (λ (rs : List WrittenRange). MayRemain (durable k) rs (image k)) file k range (ranges k) (λ e. other (sym e)) (each k)))
-        (cases_eq k file),
+          ⊎_elim
+          (λ (same : k ≡ file).
+          subst (λ (octets : List ℕ). MayRemain (durable k) (ranges k) octets) (sym (with-same image file k old.0 same))
+          (subst (λ (j : ℕ). MayRemain (durable j) (ranges j) old.0) (sym same) old.1))
+          (λ (other : k ≡ file → ⊥).
+          subst (λ (octets : List ℕ). MayRemain (durable k) (ranges k) octets) (sym (with-other image file k old.0 other))
+          (added-other-of (λ (rs : List WrittenRange). MayRemain (durable k) rs (image k)) file k range (ranges k) (λ e. other (sym e)) (each k)))
+          (cases_eq k file),
       record {
         torn = subst (λ (octets : List ℕ). Torn at n octets (image file)) (sym here) old.2;
         others = λ k other. sym (with-other image file k old.0 other);
-      })
+      },
+    )
 
 -- where each write began within what reads gave, of which each file may remain is an image
 pub remains-image : (first : Files) (calls : List Call) (image : Files) → AreWithin first calls → EachMayRemain first calls image → IsImage first calls image
@@ -144,3 +145,36 @@ remains-image first (Tore file at n ∷ calls) image within each =
     (before.0, remains-image first calls before.0 within.1 before.1, before.2)
 remains-image first (Synced ∷ calls) image within each = λ k. remains-durable (seen_after first calls k) (image k) (each k)
 remains-image first (Missed ∷ calls) image within each = remains-image first calls image within.1 each
+
+-- a write that was done whole is one that a crash cuts short
+written-torn : (old : List ℕ) (at : ℕ) (piece : List ℕ) → at ≤ length old → Torn at (length piece) old (written old at piece)
+written-torn old at piece near =
+    let long = written-length old at piece near in
+    record {
+      before = take_from_octets at (written old at piece) old (omega arith) (λ k h _. written-before old at piece k near h);
+      after = drop_from_octets (at + length piece) (written old at piece) old (omega arith) (λ k h _. written-behind old at piece k near h);
+      no_shorter = omega arith;
+      no_longer = omega arith;
+    }
+
+-- what reads give is an image
+pub seen-image : (first : Files) (calls : List Call) → AreWithin first calls → IsImage first calls (seen_after first calls)
+seen-image first [] within = λ k. refl
+seen-image first (Wrote file at piece ∷ calls) within =
+    let was : Files = seen_after first calls in
+    let octets : List ℕ = written (was file) at piece in
+    (was,
+      seen-image first calls within.1,
+      record {
+        torn = subst (λ (now : List ℕ). Torn at (length piece) (was file) now) (sym (with-same was file file octets refl)) (written-torn (was file) at piece within.0.within);
+        others = λ k other. with-other was file k octets other;
+      })
+seen-image first (Tore file at n ∷ calls) within =
+    (seen_after first calls,
+      seen-image first calls within.1,
+      record {
+        torn = record { before = refl; after = refl; no_shorter = omega arith; no_longer = omega arith };
+        others = λ _ _. refl;
+      })
+seen-image first (Synced ∷ calls) within = λ k. refl
+seen-image first (Missed ∷ calls) within = seen-image first calls within.1

@@ -23,17 +23,17 @@ pub take_from_octets : (n : ℕ) (xs ys : List ℕ) → min n (length xs) ≡ mi
 take_from_octets n xs ys long same =
     ext_get_or 0 (take n xs) (take n ys) (length-take n xs ∙ long ∙ sym (length-take n ys))
     (λ k h.
-        let lx = length-take n xs in
-        let below : k < n = omega arith in
-        get_or-take n xs k 0 below ∙ same k below (omega arith) ∙ sym (get_or-take n ys k 0 below))
+    let lx = length-take n xs in
+    let below : k < n = omega arith in
+    get_or-take n xs k 0 below ∙ same k below (omega arith) ∙ sym (get_or-take n ys k 0 below))
 
 pub drop_from_octets : (n : ℕ) (xs ys : List ℕ) → length xs - n ≡ length ys - n
     → ((k : ℕ) → n ≤ k → k < length xs → get_or xs k 0 ≡ get_or ys k 0) → drop n xs ≡ drop n ys
 drop_from_octets n xs ys long same =
     ext_get_or 0 (drop n xs) (drop n ys) (length-drop n xs ∙ long ∙ sym (length-drop n ys))
     (λ k h.
-        let lx = length-drop n xs in
-        get_or-drop n xs k 0 ∙ same (n + k) (omega arith) (omega arith) ∙ sym (get_or-drop n ys k 0))
+    let lx = length-drop n xs in
+    get_or-drop n xs k 0 ∙ same (n + k) (omega arith) (omega arith) ∙ sym (get_or-drop n ys k 0))
 
 -- the octets of a list with a piece written over it
 pub written-length : (xs : List ℕ) (at : ℕ) (piece : List ℕ) → at ≤ length xs → length (written xs at piece) ≡ max (length xs) (at + length piece)
@@ -60,10 +60,10 @@ torn-remains durable old new ranges range was torn = record {
   no_shorter = omega (arith, was.no_shorter, torn.no_shorter);
   no_longer = omega (arith, was.no_longer, torn.no_longer);
   elsewhere = λ place within out.
-    ⊎_elim
-    (λ (before : place < range.at). same_before range.at new old torn.before place before ∙ was.elsewhere place within out.1)
-    (λ (from : range.at ≤ place). same_behind (range.at + range.count) new old torn.after place (out.0 from) ∙ was.elsewhere place within out.1)
-    (cases_lt place range.at);
+      ⊎_elim
+      (λ (before : place < range.at). same_before range.at new old torn.before place before ∙ was.elsewhere place within out.1)
+      (λ (from : range.at ≤ place). same_behind (range.at + range.count) new old torn.after place (out.0 from) ∙ was.elsewhere place within out.1)
+      (cases_lt place range.at);
 }
 
 -- a range that begins behind the durable octets: what lies within the furthest end of the others was there before
@@ -77,20 +77,21 @@ behind-old durable new ranges range near behind left =
     let least = furthest-old (length durable) ranges in
     let shorter = left.no_shorter in
     let longer = left.no_longer in
-    let same : (k : ℕ) → k < end → get_or old k 0 ≡ get_or new k 0 = λ k h. get_or-take end new k 0 h in
-    (old,
+    let same : (k : ℕ) → k < end → get_or old k 0 ≡ get_or new k 0 = λ k h. get_or-take end new k 0 h in (
+      old,
       record {
         no_shorter = omega arith;
         no_longer = omega arith;
         elsewhere = λ place within out.
-          same place (omega arith) ∙ left.elsewhere place within ((λ from. absurd (omega arith)), out);
+            same place (omega arith) ∙ left.elsewhere place within ((λ from. absurd (omega arith)), out);
       },
       record {
         before = take_from_octets range.at new old (omega arith) (λ k h l. sym (same k (omega arith)));
         after = drop_from_octets (range.at + range.count) new old (omega arith) (λ k h l. sym (same k (omega arith)));
         no_shorter = omega arith;
         no_longer = omega arith;
-      })
+      },
+    )
 
 -- a range that begins within the durable octets: before it was written its place held the durable octets
 within-old : (durable new : List ℕ) (ranges : List WrittenRange) (range : WrittenRange) → range.at ≤ length durable
@@ -116,29 +117,30 @@ within-old durable new ranges range near left =
     λ k h l. written-behind front at piece k starts h ∙ same_front k l in
     let inside : (k : ℕ) → at ≤ k → k < at + range.count → k < length durable → get_or old k 0 ≡ get_or durable k 0 =
     λ k from to within.
-        let place : at + (k - at) ≡ k = omega arith in
-        written-inside front at piece k starts from (omega arith)
-        ∙ get_or-take range.count (drop at durable) (k - at) 0 (omega arith)
-        ∙ get_or-drop at durable (k - at) 0
-        ∙ ap (λ (j : ℕ). get_or durable j 0) place in
+    let place : at + (k - at) ≡ k = omega arith in
+    written-inside front at piece k starts from (omega arith)
+    ∙ get_or-take range.count (drop at durable) (k - at) 0 (omega arith)
+    ∙ get_or-drop at durable (k - at) 0
+    ∙ ap (λ (j : ℕ). get_or durable j 0) place in
     let kept : (k : ℕ) → k < length durable → IsOutside ranges k → get_or old k 0 ≡ get_or durable k 0 =
     λ k within out.
-        ⊎_elim
-        (λ (b : k < at). before k b ∙ left.elsewhere k within ((λ from. absurd (omega arith)), out))
-        (λ (from : at ≤ k).
-            ⊎_elim
-            (λ (to : k < at + range.count). inside k from to within)
-            (λ (past : at + range.count ≤ k). behind k (omega arith) (omega arith) ∙ left.elsewhere k within ((λ _. past), out))
-            (cases_lt k (at + range.count)))
-        (cases_lt k at) in
-    (old,
+    ⊎_elim
+    (λ (b : k < at). before k b ∙ left.elsewhere k within ((λ from. absurd (omega arith)), out))
+    (λ (from : at ≤ k).
+    ⊎_elim
+    (λ (to : k < at + range.count). inside k from to within)
+    (λ (past : at + range.count ≤ k). behind k (omega arith) (omega arith) ∙ left.elsewhere k within ((λ _. past), out))
+    (cases_lt k (at + range.count)))
+    (cases_lt k at) in (
+      old,
       record { no_shorter = omega arith; no_longer = omega arith; elsewhere = kept },
       record {
         before = take_from_octets at new old (omega arith) (λ k h l. sym (before k h));
         after = drop_from_octets (at + range.count) new old (omega arith) (λ k h l. sym (behind k (omega arith) (omega arith)));
         no_shorter = omega arith;
         no_longer = omega arith;
-      })
+      },
+    )
 
 -- what may remain with one range more comes from a write that a crash cut short
 pub remains-torn : (durable new : List ℕ) (ranges : List WrittenRange) (range : WrittenRange) → range.at ≤ furthest_end (length durable) ranges

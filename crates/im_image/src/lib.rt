@@ -1,4 +1,7 @@
-//! What a crash may leave of a disk, decided at run time.
+//! What a crash may leave of a disk, decided by comparing.
 #![tactic(auto)]
 
+pub mod images;
+pub mod laws;
 mod ranges;
+mod settled;
