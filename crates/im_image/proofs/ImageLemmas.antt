@@ -63,10 +63,10 @@ image-remains first (Synced ∷ calls) image is = λ k. durable-remains (seen_af
 image-remains first (Missed ∷ calls) image is = image-remains first calls image is
 
 -- a disk with other octets in one file
-with-same : (files : Files) (file k : ℕ) (octets : List ℕ) → k ≡ file → with_file files file octets k ≡ octets
+pub with-same : (files : Files) (file k : ℕ) (octets : List ℕ) → k ≡ file → with_file files file octets k ≡ octets
 with-same files file k octets same = ap (λ (b : Bool). cond b octets (files k)) (eq-eqb k file same)
 
-with-other : (files : Files) (file k : ℕ) (octets : List ℕ) → k ≢ file → with_file files file octets k ≡ files k
+pub with-other : (files : Files) (file k : ℕ) (octets : List ℕ) → k ≢ file → with_file files file octets k ≡ files k
 with-other files file k octets other = ap (λ (b : Bool). cond b octets (files k)) (ne_eqb k file other)
 
 -- a written list ends no further than it did, or where the piece ends
@@ -178,3 +178,36 @@ seen-image first (Tore file at n ∷ calls) within =
       })
 seen-image first (Synced ∷ calls) within = λ k. refl
 seen-image first (Missed ∷ calls) within = seen-image first calls within.1
+
+-- a file whose number no disk has is never written
+seen-beyond : (first : Files) (calls : List Call) (k : ℕ) → 16 ≤ k → AreWithin first calls → seen_after first calls k ≡ first k
+seen-beyond first [] k far within = refl
+seen-beyond first (Wrote file at piece ∷ calls) k far within =
+    let other : k ≢ file = omega (arith, within.0.file) in
+    with-other (seen_after first calls) file k (written (seen_after first calls file) at piece) other ∙ seen-beyond first calls k far within.1
+seen-beyond first (Tore file at n ∷ calls) k far within = seen-beyond first calls k far within.1
+seen-beyond first (Synced ∷ calls) k far within = seen-beyond first calls k far within.1
+seen-beyond first (Missed ∷ calls) k far within = seen-beyond first calls k far within.1
+
+-- so what may remain of it is what it was at first
+pub remains-beyond : (first : Files) (calls : List Call) (k : ℕ) (left : List ℕ) → 16 ≤ k → AreWithin first calls → left ≡ first k
+    → MayRemain (seen_after first (until_sync calls) k) (ranges_of (since_sync calls) k) left
+remains-beyond first [] k left far within same = durable-remains (first k) left same
+remains-beyond first (Wrote file at piece ∷ calls) k left far within same =
+    let other : file ≢ k = omega (arith, within.0.file) in
+    added-other (λ (rs : List WrittenRange). MayRemain (seen_after first (until_sync calls) k) rs left) file k (record { at = at; count = length piece }) (ranges_of (since_sync calls) k) other
+    (remains-beyond first calls k left far within.1 same)
+remains-beyond first (Tore file at n ∷ calls) k left far within same =
+    let other : file ≢ k = omega (arith, within.0.file) in
+    added-other (λ (rs : List WrittenRange). MayRemain (seen_after first (until_sync calls) k) rs left) file k (record { at = at; count = n }) (ranges_of (since_sync calls) k) other
+    (remains-beyond first calls k left far within.1 same)
+remains-beyond first (Synced ∷ calls) k left far within same = durable-remains (seen_after first calls k) left (same ∙ sym (seen-beyond first calls k far within.1))
+remains-beyond first (Missed ∷ calls) k left far within same = remains-beyond first calls k left far within.1 same
+
+-- the same by equal calls
+pub remains-by : (first : Files) (k : ℕ) (until until' since since' : List Call) (left left' : List ℕ) → until ≡ until' → since ≡ since' → left ≡ left'
+    → MayRemain (seen_after first until k) (ranges_of since k) left → MayRemain (seen_after first until' k) (ranges_of since' k) left'
+remains-by first k until until' since since' left left' same_until same_since same_left remains =
+    subst (λ (cs : List Call). MayRemain (seen_after first cs k) (ranges_of since' k) left') same_until
+    (subst (λ (cs : List Call). MayRemain (seen_after first until k) (ranges_of cs k) left') same_since
+    (subst (λ (l : List ℕ). MayRemain (seen_after first until k) (ranges_of since k) l) same_left remains))

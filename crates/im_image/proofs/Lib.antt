@@ -1,3 +1,5 @@
 pub mod CallLemmas
 pub mod ImageLemmas
+pub mod PieceLemmas
 pub mod RemainLemmas
+pub mod StayLemmas
