@@ -61,12 +61,12 @@ unsynced-more calls rest earlier call is other was =
       whole = whole ∙ ap (λ (cs : List Call). earlier ++ cs) more;
       until = was.until ∙ ap until_sync last ∙ until-more call (reverse earlier) other;
       since =
-        was.since
-        ∙ ap (λ (cs : List Call). reverse behind ++ since_sync cs) last
-        ∙ ap (λ (cs : List Call). reverse behind ++ cs) (since-more call (reverse earlier) other)
-        ∙ sym (append_assoc (reverse behind) (call ∷ []) (since_sync (reverse earlier)))
-        ∙ ap (λ (cs : List Call). cs ++ since_sync (reverse earlier)) (sym (reverse-append (call ∷ []) behind))
-        ∙ ap (λ (cs : List Call). reverse cs ++ since_sync (reverse earlier)) more;
+          was.since
+          ∙ ap (λ (cs : List Call). reverse behind ++ since_sync cs) last
+          ∙ ap (λ (cs : List Call). reverse behind ++ cs) (since-more call (reverse earlier) other)
+          ∙ sym (append_assoc (reverse behind) (call ∷ []) (since_sync (reverse earlier)))
+          ∙ ap (λ (cs : List Call). cs ++ since_sync (reverse earlier)) (sym (reverse-append (call ∷ []) behind))
+          ∙ ap (λ (cs : List Call). reverse cs ++ since_sync (reverse earlier)) more;
     }
 
 pub unsynced-synced : (calls rest earlier : List Call) → rest ≡ earlier ++ Synced ∷ [] → Unsynced calls rest → SplitAt calls (length rest)
@@ -88,10 +88,10 @@ unsynced-none calls rest none was =
       bound = omega arith;
       until = was.until ∙ ap (λ (cs : List Call). until_sync (reverse cs)) empty;
       since =
-        was.since
-        ∙ ap (λ (cs : List Call). reverse (drop (length rest) calls) ++ since_sync (reverse cs)) empty
-        ∙ append-nil (reverse (drop (length rest) calls))
-        ∙ ap (λ (n : ℕ). reverse (drop n calls)) none;
+          was.since
+          ∙ ap (λ (cs : List Call). reverse (drop (length rest) calls) ++ since_sync (reverse cs)) empty
+          ∙ append-nil (reverse (drop (length rest) calls))
+          ∙ ap (λ (n : ℕ). reverse (drop n calls)) none;
     }
 
 -- of the octets from a place on so many lie in none of the ranges that were looked at, of which some are left

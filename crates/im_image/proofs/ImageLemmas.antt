@@ -162,20 +162,22 @@ pub seen-image : (first : Files) (calls : List Call) → AreWithin first calls �
 seen-image first [] within = λ k. refl
 seen-image first (Wrote file at piece ∷ calls) within =
     let was : Files = seen_after first calls in
-    let octets : List ℕ = written (was file) at piece in
-    (was,
+    let octets : List ℕ = written (was file) at piece in (
+      was,
       seen-image first calls within.1,
       record {
         torn = subst (λ (now : List ℕ). Torn at (length piece) (was file) now) (sym (with-same was file file octets refl)) (written-torn (was file) at piece within.0.within);
         others = λ k other. with-other was file k octets other;
-      })
-seen-image first (Tore file at n ∷ calls) within =
-    (seen_after first calls,
-      seen-image first calls within.1,
-      record {
-        torn = record { before = refl; after = refl; no_shorter = omega arith; no_longer = omega arith };
-        others = λ _ _. refl;
-      })
+      },
+    )
+seen-image first (Tore file at n ∷ calls) within = (
+  seen_after first calls,
+  seen-image first calls within.1,
+  record {
+    torn = record { before = refl; after = refl; no_shorter = omega arith; no_longer = omega arith };
+    others = λ _ _. refl;
+  },
+)
 seen-image first (Synced ∷ calls) within = λ k. refl
 seen-image first (Missed ∷ calls) within = seen-image first calls within.1
 

@@ -3,3 +3,4 @@ pub mod ImageLemmas
 pub mod PieceLemmas
 pub mod RemainLemmas
 pub mod StayLemmas
+pub mod WithinLemmas

@@ -26,12 +26,13 @@ shows-wrote first calls number at octets file near =
     let piece : Piece = record { at = at; octets = octets } in
     ⊎_elim
     (λ (same : number ≡ file).
-        subst (λ (b : Bool). Shows (was file) (cond b (Some piece) None) (now file)) (sym (eq-eqb number file same))
-        (subst (λ (j : ℕ). at ≤ length (was j)) same near,
-          with-same was number file new (sym same) ∙ ap (λ (j : ℕ). written (was j) at octets) same))
+    subst (λ (b : Bool). Shows (was file) (cond b (Some piece) None) (now file)) (sym (eq-eqb number file same)) (
+      subst (λ (j : ℕ). at ≤ length (was j)) same near,
+      with-same was number file new (sym same) ∙ ap (λ (j : ℕ). written (was j) at octets) same,
+    ))
     (λ (other : number ≡ file → ⊥).
-        subst (λ (b : Bool). Shows (was file) (cond b (Some piece) None) (now file)) (sym (ne_eqb number file other))
-        (with-other was number file new (λ e. other (sym e))))
+    subst (λ (b : Bool). Shows (was file) (cond b (Some piece) None) (now file)) (sym (ne_eqb number file other))
+    (with-other was number file new (λ e. other (sym e))))
     (cases_eq number file)
 
 shows : (first : Files) (calls : List Call) (call : Call) (file : ℕ) → AreWithin first (call ∷ calls)
@@ -86,8 +87,7 @@ seen-step old now piece at place count k shown long h where_it_is =
     ∙ ⊎_elim (λ before. written-before old at piece (place + k) shown.0 before) (λ behind. written-behind old at piece (place + k) shown.0 behind) where_it_is
 
 module _ (first : Files) (calls rest earlier : List Call) (call : Call) (file place room count : ℕ) (is : rest ≡ earlier ++ call ∷ [])
-  (so_far : SeenSoFar first calls rest file place room count) where
-
+    (so_far : SeenSoFar first calls rest file place room count) where
   pub seen-none : None ≡ piece_of call file → SeenSoFar first calls earlier file place room count
   seen-none none =
       let shown = shows-last first rest earlier call file is so_far.within in
@@ -109,7 +109,7 @@ module _ (first : Files) (calls rest earlier : List Call) (call : Call) (file pl
         most = omega (arith, so_far.most);
         long = omega (arith, shown.0);
         same = λ k h. so_far.same k (omega arith)
-          ∙ seen-step (seen_after first (reverse earlier) file) (seen_after first (reverse rest) file) piece.octets piece.at place count k shown so_far.long (omega arith) (inl (omega arith));
+            ∙ seen-step (seen_after first (reverse earlier) file) (seen_after first (reverse rest) file) piece.octets piece.at place count k shown so_far.long (omega arith) (inl (omega arith));
       }
 
   pub seen-behind : (piece : Piece) → Some piece ≡ piece_of call file → piece.at + length piece.octets ≤ place → SeenSoFar first calls earlier file place room count
@@ -121,7 +121,7 @@ module _ (first : Files) (calls rest earlier : List Call) (call : Call) (file pl
         most = so_far.most;
         long = omega (arith, so_far.some, so_far.long, ap length shown.1, written-length (seen_after first (reverse earlier) file) piece.at piece.octets shown.0);
         same = λ k h. so_far.same k h
-          ∙ seen-step (seen_after first (reverse earlier) file) (seen_after first (reverse rest) file) piece.octets piece.at place count k shown so_far.long h (inr (omega arith));
+            ∙ seen-step (seen_after first (reverse earlier) file) (seen_after first (reverse rest) file) piece.octets piece.at place count k shown so_far.long h (inr (omega arith));
       }
 
   pub seen-found : (piece : Piece) → Some piece ≡ piece_of call file → piece.at ≤ place → (k : ℕ) → k < count → place + k < piece.at + length piece.octets
@@ -160,9 +160,10 @@ part-octets octets from n k h =
     let rest : List ℕ = take (length octets - from) (drop from octets) in
     let long : length (take n rest) ≡ min n (length rest) = length-take n rest in
     let rest_long : length rest ≡ min (length octets - from) (length (drop from octets)) = length-take (length octets - from) (drop from octets) in
-    let drop_long = length-drop from octets in
-    (omega arith,
+    let drop_long = length-drop from octets in (
+      omega arith,
       omega arith,
       get_or-take n rest k 0 (omega arith)
-      ∙ get_or-take (length octets - from) (drop from octets) k 0 (omega arith)
-      ∙ get_or-drop from octets k 0)
+          ∙ get_or-take (length octets - from) (drop from octets) k 0 (omega arith)
+          ∙ get_or-drop from octets k 0,
+    )

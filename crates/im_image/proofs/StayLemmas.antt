@@ -52,11 +52,11 @@ pub stays-more : (ranges : List WrittenRange) (left durable : List ℕ) (place n
     → StaysBelow ranges left durable (place + n)
 stays-more ranges left durable place n so_far here = record {
   same = λ k h out.
-    ⊎_elim
-    (λ (below : k < place). so_far.same k below out)
-    (λ (from : place ≤ k).
-        let at : place + (k - place) ≡ k = omega arith in
-        subst (λ (j : ℕ). get_or left j 0 ≡ get_or durable j 0) at
-        (here (k - place) (omega arith) (subst (λ (j : ℕ). IsOutside ranges j) (sym at) out)))
-    (cases_lt k place);
+      ⊎_elim
+      (λ (below : k < place). so_far.same k below out)
+      (λ (from : place ≤ k).
+      let at : place + (k - place) ≡ k = omega arith in
+      subst (λ (j : ℕ). get_or left j 0 ≡ get_or durable j 0) at
+      (here (k - place) (omega arith) (subst (λ (j : ℕ). IsOutside ranges j) (sym at) out)))
+      (cases_lt k place);
 }

@@ -5,11 +5,9 @@ ghost use Rattle.im_image.specs.Remains.{IsOutside, MayRemain, ranges_of};
 
 use crate::ranges::{Stretch, reaches, stretch_at, synced_calls};
 use crate::settled::{settled_len, settled_octets};
+use crate::within::FILES;
 use im_disk::calls::Call;
 use im_octet::octets::Octets;
-
-/// The number of a disk's files.
-const FILES: u8 = 16;
 
 /// Whether a crash may leave an image of a disk, whose files were at first `first`, and whose
 /// changing calls were `calls`, the first one first. An image is the octets of each of its files.

@@ -5,3 +5,4 @@ pub mod images;
 pub mod laws;
 mod ranges;
 mod settled;
+pub mod within;

@@ -13,25 +13,27 @@ may_remain-requires-clause-within c =
     (within-until (files_of c.args.first.now) (reverse c.args.calls.now) c.requires.within)
 
 pub returns-then-not-may_remain : goal.returns-then-not-may_remain
-returns-then-not-may_remain c =
-    (λ no. absurd (false≢true no),
-      λ image.
-        c.if-not-may_remain.ensures.1
-        (remains-by (files_of c.args.first.now) c.loop-file.file _ _ _ _ _ _
-          (c.synced_calls.ensures.until ∙ ap (λ (cs : List Call). reverse cs) (sym c.split_at.ensures.front))
-          (c.synced_calls.ensures.since ∙ ap (λ (cs : List Call). reverse cs) (sym c.split_at.ensures.back))
-          (sym (c.as_slice.ensures ∙ get_or_read c.args.image.now c.loop-file.file c.index-image-file.result (omega arith) c.index-image-file.is []))
-          (image-remains (files_of c.args.first.now) (reverse c.args.calls.now) (files_of c.args.image.now) image c.loop-file.file)))
+returns-then-not-may_remain c = (
+  λ no. absurd (false≢true no),
+  λ image.
+      c.if-not-may_remain.ensures.1
+      (remains-by (files_of c.args.first.now) c.loop-file.file _ _ _ _ _ _
+      (c.synced_calls.ensures.until ∙ ap (λ (cs : List Call). reverse cs) (sym c.split_at.ensures.front))
+      (c.synced_calls.ensures.since ∙ ap (λ (cs : List Call). reverse cs) (sym c.split_at.ensures.back))
+      (sym (c.as_slice.ensures ∙ get_or_read c.args.image.now c.loop-file.file c.index-image-file.result (omega arith) c.index-image-file.is []))
+      (image-remains (files_of c.args.first.now) (reverse c.args.calls.now) (files_of c.args.image.now) image c.loop-file.file)),
+)
 
 pub returns : goal.returns
-returns c =
-    (λ _.
-        remains-image (files_of c.args.first.now) (reverse c.args.calls.now) (files_of c.args.image.now) c.requires.within
-        (λ k.
-            ⊎_elim
-            (λ (h : k < 16). c.loop-file.invariant k (omega arith))
-            (λ (far : 16 ≤ k).
-                remains-beyond (files_of c.args.first.now) (reverse c.args.calls.now) k (files_of c.args.image.now k) far c.requires.within
-                (get_or_past c.args.image.now k [] (omega arith) ∙ sym (get_or_past c.args.first.now k [] (omega arith))))
-            (cases_lt k 16)),
-      λ _. refl)
+returns c = (
+  λ _.
+      remains-image (files_of c.args.first.now) (reverse c.args.calls.now) (files_of c.args.image.now) c.requires.within
+      (λ k.
+      ⊎_elim
+      (λ (h : k < 16). c.loop-file.invariant k (omega arith))
+      (λ (far : 16 ≤ k).
+      remains-beyond (files_of c.args.first.now) (reverse c.args.calls.now) k (files_of c.args.image.now k) far c.requires.within
+      (get_or_past c.args.image.now k [] (omega arith) ∙ sym (get_or_past c.args.first.now k [] (omega arith))))
+      (cases_lt k 16)),
+  λ _. refl,
+)
