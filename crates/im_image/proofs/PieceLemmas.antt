@@ -86,51 +86,37 @@ seen-step old now piece at place count k shown long h where_it_is =
     ap (λ (octets : List ℕ). get_or octets (place + k) 0) shown.1
     ∙ ⊎_elim (λ before. written-before old at piece (place + k) shown.0 before) (λ behind. written-behind old at piece (place + k) shown.0 behind) where_it_is
 
+-- a piece behind whose end the octets stand, and one that has their first
 module _ (first : Files) (calls rest earlier : List Call) (call : Call) (file place room count : ℕ) (is : rest ≡ earlier ++ call ∷ [])
-    (so_far : SeenSoFar first calls rest file place room count) where
-  pub seen-none : None ≡ piece_of call file → SeenSoFar first calls earlier file place room count
-  seen-none none =
-      let shown = shows-last first rest earlier call file is so_far.within in
-      let same : seen_after first (reverse rest) file ≡ seen_after first (reverse earlier) file = subst (λ (o : Option Piece). Shows (seen_after first (reverse earlier) file) o (seen_after first (reverse rest) file)) (sym none) shown in
+  (so_far : SeenSoFar first calls rest file place room count) (piece : Piece) (wrote : Some piece ≡ piece_of call file) where
+  old : List ℕ
+  old = seen_after first (reverse earlier) file
+
+  now : List ℕ
+  now = seen_after first (reverse rest) file
+
+  shown : Shows old (Some piece) now
+  unfolding old now
+  shown = subst (λ (o : Option Piece). Shows (seen_after first (reverse earlier) file) o (seen_after first (reverse rest) file)) (sym wrote) (shows-last first rest earlier call file is so_far.within)
+
+  pub seen-behind : piece.at + length piece.octets ≤ place → SeenSoFar first calls earlier file place room count
+  unfolding old now
+  seen-behind behind =
       record {
         within = within-last first rest earlier call is so_far.within;
         some = so_far.some;
         most = so_far.most;
-        long = omega (arith, so_far.long, ap length same);
-        same = λ k h. so_far.same k h ∙ ap (λ (octets : List ℕ). get_or octets (place + k) 0) same;
+        long = omega (arith, so_far.some, so_far.long, ap length shown.1, written-length old piece.at piece.octets shown.0);
+        same = λ k h. so_far.same k h ∙ seen-step old now piece.octets piece.at place count k shown so_far.long h (inr (omega arith));
       }
 
-  pub seen-before : (piece : Piece) → Some piece ≡ piece_of call file → place < piece.at → SeenSoFar first calls earlier file place room (min count (piece.at - place))
-  seen-before piece some before =
-      let shown : Shows (seen_after first (reverse earlier) file) (Some piece) (seen_after first (reverse rest) file) = subst (λ (o : Option Piece). Shows (seen_after first (reverse earlier) file) o (seen_after first (reverse rest) file)) (sym some) (shows-last first rest earlier call file is so_far.within) in
-      record {
-        within = within-last first rest earlier call is so_far.within;
-        some = omega (arith, so_far.some);
-        most = omega (arith, so_far.most);
-        long = omega (arith, shown.0);
-        same = λ k h. so_far.same k (omega arith)
-            ∙ seen-step (seen_after first (reverse earlier) file) (seen_after first (reverse rest) file) piece.octets piece.at place count k shown so_far.long (omega arith) (inl (omega arith));
-      }
-
-  pub seen-behind : (piece : Piece) → Some piece ≡ piece_of call file → piece.at + length piece.octets ≤ place → SeenSoFar first calls earlier file place room count
-  seen-behind piece some behind =
-      let shown : Shows (seen_after first (reverse earlier) file) (Some piece) (seen_after first (reverse rest) file) = subst (λ (o : Option Piece). Shows (seen_after first (reverse earlier) file) o (seen_after first (reverse rest) file)) (sym some) (shows-last first rest earlier call file is so_far.within) in
-      record {
-        within = within-last first rest earlier call is so_far.within;
-        some = so_far.some;
-        most = so_far.most;
-        long = omega (arith, so_far.some, so_far.long, ap length shown.1, written-length (seen_after first (reverse earlier) file) piece.at piece.octets shown.0);
-        same = λ k h. so_far.same k h
-            ∙ seen-step (seen_after first (reverse earlier) file) (seen_after first (reverse rest) file) piece.octets piece.at place count k shown so_far.long h (inr (omega arith));
-      }
-
-  pub seen-found : (piece : Piece) → Some piece ≡ piece_of call file → piece.at ≤ place → (k : ℕ) → k < count → place + k < piece.at + length piece.octets
+  pub seen-found : piece.at ≤ place → (k : ℕ) → k < count → place + k < piece.at + length piece.octets
       → get_or piece.octets ((place - piece.at) + k) 0 ≡ get_or (seen_after first (reverse calls) file) (place + k) 0
-  seen-found piece some from k h to =
-      let shown : Shows (seen_after first (reverse earlier) file) (Some piece) (seen_after first (reverse rest) file) = subst (λ (o : Option Piece). Shows (seen_after first (reverse earlier) file) o (seen_after first (reverse rest) file)) (sym some) (shows-last first rest earlier call file is so_far.within) in
+  unfolding old now
+  seen-found from k h to =
       let at : (place - piece.at) + k ≡ (place + k) - piece.at = omega arith in
       ap (λ (j : ℕ). get_or piece.octets j 0) at
-      ∙ sym (written-inside (seen_after first (reverse earlier) file) piece.at piece.octets (place + k) shown.0 (omega arith) to)
+      ∙ sym (written-inside old piece.at piece.octets (place + k) shown.0 (omega arith) to)
       ∙ ap (λ (octets : List ℕ). get_or octets (place + k) 0) (sym shown.1)
       ∙ sym (so_far.same k h)
 

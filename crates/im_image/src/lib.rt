@@ -5,4 +5,8 @@ pub mod images;
 pub mod laws;
 mod ranges;
 mod settled;
+#[cfg(test)]
+mod sync_tests;
+#[cfg(test)]
+mod tests;
 pub mod within;
