@@ -1,11 +1,8 @@
 -- Calls one by one from the last on: what is left of a record when its last call was looked at.
-use Rattle.std.proofs.Common.{◌≡◌, ◌≢◌, ◌⊎◌, ◌↔◌, ℕ, ◌+◌, ◌-◌, ◌<◌, ◌≤◌, ◌==◌, min, max, List, [], ◌∷◌, ◌++◌, length, get_or, take, drop, reverse, refl, ap, sym, subst, ◌∙◌, arith, ⊎_elim, inl, inr, true, false, Bool, cond, Option, Some, None, append_assoc}
-use Rattle.std.specs.List.{cons_option}
-use Rattle.std.proofs.lemmas.List.{reverse-append, append-nil, length-append, take_at, drop_at, drop_all, nil_from_length}
-use Rattle.std.proofs.lemmas.Bool.{cases_eq, eq-eqb, ne_eqb}
+use Rattle.std.proofs.Common.{◌≡◌, ℕ, ◌+◌, ◌<◌, ◌≤◌, List, [], ◌∷◌, ◌++◌, length, drop, reverse, ap, ◌∙◌}
+use Rattle.std.proofs.lemmas.List.{reverse-append}
 use Rattle.im_disk.specs.declared.calls.Call.{Call}
-use Rattle.im_disk.specs.declared.calls.Call.TheVariants.{Wrote, Tore, Synced, Missed}
-use Rattle.im_image.specs.Remains.{since_sync, until_sync, range_of, ranges_of, IsOutside, furthest_end}
+use Rattle.im_image.specs.Remains.{since_sync, until_sync, IsOutside}
 use Rattle.im_image.specs.declared.ranges.WrittenRange.{WrittenRange}
 
 -- the last of a list comes first in the reverse

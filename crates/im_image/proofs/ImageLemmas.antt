@@ -1,13 +1,13 @@
 -- The images that a crash may leave of a disk are those of which each file may remain.
-use Rattle.std.proofs.Common.{◌≡◌, ◌≢◌, ◌⊎◌, ℕ, ◌+◌, ◌-◌, ◌<◌, ◌≤◌, ◌==◌, min, max, List, [], ◌∷◌, ◌++◌, length, take, drop, refl, ap, sym, subst, ◌∙◌, arith, ⊎_elim, inl, inr, true, false, Bool, cond, Option, Some, None}
+use Rattle.std.proofs.Common.{◌≡◌, ◌≢◌, ℕ, ◌+◌, ◌≤◌, ◌==◌, max, List, [], ◌∷◌, length, refl, ap, sym, subst, ◌∙◌, arith, ⊎_elim, Bool, cond, Some, None}
 use Rattle.std.specs.List.{cons_option}
 use Rattle.std.proofs.lemmas.List.{length-take, length-drop, length-append}
 use Rattle.std.proofs.lemmas.Bool.{cases_eq, eq-eqb, ne_eqb}
 use Rattle.im_disk.specs.Disk.{Files, seen_after, written, with_file, Torn, TornFile, IsImage}
-use Rattle.im_disk.specs.Records.{LiesBehind, FitsBehind, AreWithin}
+use Rattle.im_disk.specs.Records.{AreWithin}
 use Rattle.im_disk.specs.declared.calls.Call.{Call}
 use Rattle.im_disk.specs.declared.calls.Call.TheVariants.{Wrote, Tore, Synced, Missed}
-use Rattle.im_image.specs.Remains.{since_sync, until_sync, range_of, ranges_of, furthest_end, MayRemain, EachMayRemain}
+use Rattle.im_image.specs.Remains.{since_sync, until_sync, ranges_of, furthest_end, MayRemain, EachMayRemain}
 use Rattle.im_image.specs.declared.ranges.WrittenRange.{WrittenRange}
 use Rattle.im_image.proofs.RemainLemmas.{torn-remains, remains-torn, remains-durable, durable-remains, take_from_octets, drop_from_octets, written-length, written-before, written-behind}
 

@@ -1,9 +1,9 @@
 -- What reads give of one file, by the pieces that calls wrote of it, from the last call on.
-use Rattle.std.proofs.Common.{◌≡◌, ◌≢◌, ◌⊎◌, ℕ, ◌+◌, ◌-◌, ◌<◌, ◌≤◌, ◌^◌, ◌==◌, min, max, List, [], ◌∷◌, ◌++◌, length, get_or, take, drop, reverse, refl, ap, sym, subst, ◌∙◌, arith, ⊎_elim, inl, inr, Option, Some, None, true, false, Bool, cond}
+use Rattle.std.proofs.Common.{◌≡◌, ◌⊎◌, ℕ, ◌+◌, ◌-◌, ◌<◌, ◌≤◌, ◌^◌, min, max, List, [], ◌∷◌, ◌++◌, length, get_or, take, drop, reverse, refl, ap, sym, subst, ◌∙◌, arith, ⊎_elim, inr, Option, Some, None, Bool, cond}
 use Rattle.std.proofs.lemmas.List.{nil_from_length, length-take, length-drop, get_or-take, get_or-drop}
 use Rattle.std.proofs.lemmas.Bool.{cases_eq, eq-eqb, ne_eqb}
-use Rattle.im_disk.specs.Disk.{Files, seen_after, written, with_file}
-use Rattle.im_disk.specs.Records.{LiesBehind, FitsBehind, AreWithin}
+use Rattle.im_disk.specs.Disk.{Files, seen_after, written}
+use Rattle.im_disk.specs.Records.{AreWithin}
 use Rattle.im_disk.specs.declared.calls.Call.{Call}
 use Rattle.im_disk.specs.declared.calls.Call.TheVariants.{Wrote, Tore, Synced, Missed}
 use Rattle.im_image.specs.Pieces.{Piece, piece_of}
@@ -88,7 +88,7 @@ seen-step old now piece at place count k shown long h where_it_is =
 
 -- a piece behind whose end the octets stand, and one that has their first
 module _ (first : Files) (calls rest earlier : List Call) (call : Call) (file place room count : ℕ) (is : rest ≡ earlier ++ call ∷ [])
-  (so_far : SeenSoFar first calls rest file place room count) (piece : Piece) (wrote : Some piece ≡ piece_of call file) where
+    (so_far : SeenSoFar first calls rest file place room count) (piece : Piece) (wrote : Some piece ≡ piece_of call file) where
   old : List ℕ
   old = seen_after first (reverse earlier) file
 

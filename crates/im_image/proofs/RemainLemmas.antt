@@ -1,6 +1,6 @@
 -- What may remain of a file, from one written range to the next.
-use Rattle.std.proofs.Common.{◌≡◌, ◌⊎◌, ℕ, ◌+◌, ◌-◌, ◌<◌, ◌≤◌, min, max, List, [], ◌∷◌, ◌++◌, length, get_or, take, drop, refl, ap, sym, subst, ◌∙◌, arith, ⊎_elim, inl, inr, append_assoc, rules}
-use Rattle.std.proofs.lemmas.List.{get_or-take, get_or-drop, get_or_append_left, get_or-append_right, length-take, length-drop, length-append, ext_get_or, take-take, take_all, drop_all, places}
+use Rattle.std.proofs.Common.{◌≡◌, ℕ, ◌+◌, ◌-◌, ◌<◌, ◌≤◌, min, max, List, [], ◌∷◌, length, get_or, take, drop, ap, sym, subst, ◌∙◌, arith, ⊎_elim, rules}
+use Rattle.std.proofs.lemmas.List.{get_or-take, get_or-drop, length-take, length-drop, length-append, ext_get_or, places}
 use Rattle.std.proofs.lemmas.Bool.{cases_lt}
 use Rattle.im_disk.specs.Disk.{written, Torn}
 use Rattle.im_image.specs.Remains.{IsOutside, furthest_end, MayRemain}

@@ -5,14 +5,14 @@ ghost use Rattle.im_image.specs.Stretches.{IsStretch};
 use im_disk::calls::Call;
 
 /// A range of a file: the place where it begins, and how many octets it has.
-#[derive(Clone, Copy, Debug, PartialEq, Eq)]
+#[derive(Clone, Copy)]
 pub struct WrittenRange {
     pub at: usize,
     pub count: usize,
 }
 
 /// Octets of a file from a place on, as many as there are in one range, or in none.
-#[derive(Clone, Copy, Debug, PartialEq, Eq)]
+#[derive(Clone, Copy)]
 pub enum Stretch {
     /// So many lie in one range.
     Inside(usize),

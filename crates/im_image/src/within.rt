@@ -6,7 +6,7 @@ use im_disk::calls::Call;
 use im_octet::octets::Octets;
 
 /// The number of a disk's files.
-pub const FILES: u8 = 16;
+pub(crate) const FILES: u8 = 16;
 
 // A disk is written at places below this one.
 const PLACES: u64 = 1 << 62;

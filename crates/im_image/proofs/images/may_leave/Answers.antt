@@ -1,4 +1,4 @@
-use Rattle.std.proofs.Common.{◌≡◌, ℕ, ◌<◌, ◌≤◌, List, [], reverse, refl, sym, ◌∙◌, subst, ap, arith, ⊎_elim, false}
+use Rattle.std.proofs.Common.{◌<◌, ◌≤◌, List, [], reverse, refl, sym, ◌∙◌, subst, ap, arith, ⊎_elim}
 use Rattle.std.proofs.lemmas.List.{get_or_past, get_or_read}
 use Rattle.std.proofs.lemmas.Bool.{cases_lt, false≢true}
 use Rattle.im_disk.specs.Records.{files_of, AreWithin}

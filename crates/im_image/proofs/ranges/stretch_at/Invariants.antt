@@ -1,5 +1,5 @@
-use Rattle.std.proofs.Common.{ℕ, ◌+◌, ◌<◌, ◌≤◌, length, reverse}
-use Rattle.im_image.specs.Remains.{IsOutside, ranges_of}
+use Rattle.std.proofs.Common.{length, reverse}
+use Rattle.im_image.specs.Remains.{ranges_of}
 use Rattle.im_image.proofs.CallLemmas.{IsFreeSoFar}
 use Rattle.im_image.proofs.ranges.stretch_at.Given as goal
 

@@ -1,4 +1,4 @@
-use Rattle.std.proofs.Common.{◌≡◌, ◌<◌, ℕ, length, reverse, [], arith, ap, ◌∙◌}
+use Rattle.std.proofs.Common.{◌≡◌, length, reverse, [], arith, ap, ◌∙◌}
 use Rattle.std.proofs.lemmas.List.{get_or_read}
 use Rattle.im_disk.specs.Disk.{seen_after}
 use Rattle.im_disk.specs.Records.{files_of}

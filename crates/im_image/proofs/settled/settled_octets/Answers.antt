@@ -1,5 +1,4 @@
-use Rattle.std.proofs.Common.{◌≡◌, ◌+◌, ◌-◌, ◌<◌, ◌≤◌, ℕ, length, get_or, take, drop, reverse, arith, ap, sym, ◌∙◌, refl}
-use Rattle.std.proofs.lemmas.List.{get_or-take, get_or-drop, length-take, length-drop}
+use Rattle.std.proofs.Common.{◌-◌, arith, ◌∙◌}
 use Rattle.im_disk.specs.Records.{files_of}
 use Rattle.im_image.proofs.PieceLemmas.{seen-behind, seen-found, part-octets}
 use Rattle.im_image.proofs.settled.settled_octets.Goals as goal

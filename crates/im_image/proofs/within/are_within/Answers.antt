@@ -1,4 +1,4 @@
-use Rattle.std.proofs.Common.{length, ◌<◌, take, reverse, sym, subst, arith}
+use Rattle.std.proofs.Common.{take, reverse, sym, subst, arith}
 use Rattle.std.proofs.lemmas.Bool.{false≢true}
 use Rattle.im_disk.specs.Records.{files_of, FitsBehind}
 use Rattle.im_disk.specs.declared.calls.Call.{Call}
