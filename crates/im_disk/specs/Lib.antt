@@ -1,3 +1,4 @@
 pub mod Causes
 pub mod Disk
 pub mod Moments
+pub mod Records

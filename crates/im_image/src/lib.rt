@@ -1,0 +1,12 @@
+//! What a crash may leave of a disk, decided by comparing.
+#![tactic(auto)]
+
+pub mod images;
+pub mod laws;
+mod ranges;
+mod settled;
+#[cfg(test)]
+mod sync_tests;
+#[cfg(test)]
+mod tests;
+pub mod within;
