@@ -1,10 +1,8 @@
-use Rattle.std.proofs.Common.{◌≡◌, ◌<◌, ◌≤◌, ◌+◌, ◌^◌, ◌++◌, ◌∷◌, [], ℕ, List, length, refl, sym, ◌∙◌, ap, arith, rules, length-append}
+use Rattle.std.proofs.Common.{◌≡◌, ◌+◌, ◌++◌, ◌∷◌, [], ℕ, List, length, refl, ◌∙◌, ap, arith, length-append}
 use Rattle.std.proofs.lemmas.List.{get_or_at}
 use Rattle.im_octet.specs.Fields.{field8}
-use Rattle.im_format.specs.Batches.{Counts, batch_octets}
+use Rattle.im_format.specs.Batches.{batch_octets}
 use Rattle.im_format.specs.Reading.{number8}
-use Rattle.im_clog.specs.Marks.{mark_at}
-use Rattle.im_clog.specs.declared.marks.Mark.{Mark}
 use Rattle.im_clog.proofs.FieldLemmas.{length-field8, length-batch_octets, number8-field8, cut_first, cut_count, cut_end}
 use Rattle.im_clog.proofs.laws.a_staged_batch_is_read_back.Goals as goal
 
