@@ -35,19 +35,20 @@ same_back p n at old new le same =
     ap (λ (l : List ℕ). take n l) (split new ∙ ap (λ (l : List ℕ). drop (p - at) l) same ∙ sym (split old))
 
 -- what a torn write misses is as it was
-pub keeps : (file at n : ℕ) (old new : Files) (s : Span) → TornFile file at n old new → Misses file at n s → Reads old s → Reads new s
-keeps file at n old new s torn misses r =
+pub kept_octets : (file at n : ℕ) (old new : Files) (s : Span) → TornFile file at n old new → Misses file at n s
+    → octets_at (new s.file) s.at (length s.octets) ≡ octets_at (old s.file) s.at (length s.octets)
+kept_octets file at n old new s torn misses =
     decide_file s.file file
-    (λ same. record {
-      reads =
-          subst (λ (k : ℕ). octets_at (new k) s.at (length s.octets) ≡ octets_at (old k) s.at (length s.octets)) (sym same)
-          (⊎_elim
-          (λ le. same_front s.at (length s.octets) at (old file) (new file) le torn.torn.before)
-          (λ le. same_back s.at (length s.octets) (at + n) (old file) (new file) le torn.torn.after)
-          (misses.apart same))
-          ∙ r.reads;
-    })
-    (λ other. record { reads = ap (λ (l : List ℕ). octets_at l s.at (length s.octets)) (torn.others s.file other) ∙ r.reads })
+    (λ same.
+    subst (λ (k : ℕ). octets_at (new k) s.at (length s.octets) ≡ octets_at (old k) s.at (length s.octets)) (sym same)
+    (⊎_elim
+    (λ le. same_front s.at (length s.octets) at (old file) (new file) le torn.torn.before)
+    (λ le. same_back s.at (length s.octets) (at + n) (old file) (new file) le torn.torn.after)
+    (misses.apart same)))
+    (λ other. ap (λ (l : List ℕ). octets_at l s.at (length s.octets)) (torn.others s.file other))
+
+pub keeps : (file at n : ℕ) (old new : Files) (s : Span) → TornFile file at n old new → Misses file at n s → Reads old s → Reads new s
+keeps file at n old new s torn misses r = record { reads = kept_octets file at n old new s torn misses ∙ r.reads }
 
 -- two facts on each element
 pub all_both : {X : Type 0} (P Q R : X → Type 0) → ((x : X) → P x → Q x → R x) → (xs : List X) → All P xs → All Q xs → All R xs

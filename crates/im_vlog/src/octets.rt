@@ -33,8 +33,8 @@ fn push_values(
 ) -> Result<(), AllocError>
     ensures { OnOk result (octets.new.items ≡ octets.old.items ++ values_in log entries.now refs.now) }
 {
-    for (entry, value) in entries.iter().zip(refs) {
-        if value.log == log {
+    for (entry, reference) in entries.iter().zip(refs) {
+        if reference.log == log {
             octets.extend_from_slice(entry.value.as_slice())?;
         }
     }
