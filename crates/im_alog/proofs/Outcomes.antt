@@ -1,18 +1,16 @@
 -- What a changing call leaves, by what it answers.
-use Rattle.std.proofs.Common.{◌≡◌, ◌⊎◌, ℕ, ◌+◌, ◌≤◌, List, length, refl, sym, ap, subst, arith, inl, inr}
-use Rattle.std.specs.Prelude.{All, Option, Some, None, IfSome, Result, Ok, Err, OnOk, IsErrOf}
+use Rattle.std.proofs.Common.{◌≡◌, ℕ, ◌+◌, ◌≤◌, List, length, refl, sym, subst, arith}
+use Rattle.std.specs.Prelude.{Option, Some, None, IfSome, Result, Ok, Err, OnOk, IsErrOf}
 use Rattle.std.specs.Option.{option_map}
-use Rattle.im_disk.specs.Disk.{Files, Told, Images, LiesWithin, TornFile, seen, after}
+use Rattle.im_disk.specs.Disk.{Files, Told, LiesWithin, TornFile, seen, after}
 use Rattle.im_disk.specs.Moments.{Leaves, LeavesNow, LeavesOnly}
 use Rattle.im_disk.specs.declared.calls.Call.{Call}
 use Rattle.im_disk.specs.declared.calls.Call.TheVariants.{Wrote, Tore, Synced, Missed}
 use Rattle.im_disk.specs.declared.disk.DiskError.{DiskError}
 use Rattle.im_disk.specs.declared.disk.DiskError.TheVariants.{Failed, Memory}
 use Rattle.im_disk.proofs.Leaving.{leaves_nothing, leaves_more}
-use Rattle.im_format.specs.Spans.{Misses, Reads}
-use Rattle.im_format.specs.declared.spans.Span.{Span}
-use Rattle.im_alog.specs.Holding.{Holds, IsDurable, IsLong, IsOldOrSeen}
-use Rattle.im_alog.proofs.Torn.{decide_file, keeps_all, same_all, written_torn, written_reads}
+use Rattle.im_format.specs.Spans.{Reads}
+use Rattle.im_alog.proofs.Torn.{decide_file, written_torn, written_reads}
 
 pub if_some : (P Q : Told → Type 0) → ((t : Told) → P t → Q t) → (o : Option Told) → IfSome o P → IfSome o Q
 if_some P Q step None h = tt

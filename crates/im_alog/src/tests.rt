@@ -1,3 +1,5 @@
+ghost use Rattle.std.specs.Prelude.{◌≡◌, IfOk};
+
 use crate::laying::{put, sync};
 use crate::reading::{read_all, read_at};
 use im_disk::disk::{Disk, DiskError};
@@ -82,7 +84,10 @@ fn a_file_is_read(rt: HostRuntime) -> Result<(), Fail> {
     Ok(())
 }
 
-fn span(alloc: Global, at: u64) -> Result<Span, Fail> {
+// Three octets for a place of file 5.
+fn span(alloc: Global, at: u64) -> Result<Span, Fail>
+    ensures { IfOk result (λ span. (span.file ≡ 5) × (span.at ≡ at)) }
+{
     Ok(Span {
         file: 5,
         at,

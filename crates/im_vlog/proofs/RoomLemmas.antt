@@ -1,5 +1,5 @@
 -- How far the logs reach behind the records of a history.
-use Rattle.std.proofs.Common.{◌≡◌, ◌≤◌, ◌<◌, ◌+◌, ◌-◌, ◌*◌, ◌^◌, ◌==◌, ℕ, Bool, true, false, List, [], ◌∷◌, ◌++◌, length, get_or, max, refl, sym, ◌∙◌, ap, arith, rules}
+use Rattle.std.proofs.Common.{◌≤◌, ◌+◌, ◌*◌, ◌^◌, ◌==◌, ℕ, Bool, true, false, List, [], ◌∷◌, ◌++◌, length, max, arith}
 use Rattle.std.specs.Prelude.{if◌then◌else◌}
 use Rattle.im_digest.specs.Digests.{Hash}
 use Rattle.im_format.specs.Places.{log_end, refs_of}

@@ -1,5 +1,5 @@
 -- Values that were written one behind the other stand at their places.
-use Rattle.std.proofs.Common.{◌≡◌, ◌≢◌, ◌≤◌, ◌<◌, ◌+◌, ◌==◌, ℕ, List, [], ◌∷◌, ◌++◌, length, take, drop, refl, sym, ◌∙◌, ap, subst, arith, rules, eq-eqb, ne_eqb, append_assoc, length-append}
+use Rattle.std.proofs.Common.{◌≡◌, ◌≢◌, ◌≤◌, ◌+◌, ◌==◌, ℕ, List, [], ◌∷◌, ◌++◌, length, refl, sym, ◌∙◌, ap, subst, arith, eq-eqb, ne_eqb, append_assoc, length-append}
 use Rattle.std.proofs.lemmas.List.{append-nil}
 use Rattle.std.proofs.lemmas.List.Elements.{All-nil, All-cons, All-append}
 use Rattle.std.specs.Prelude.{All, if◌then◌else◌}
@@ -8,12 +8,11 @@ use Rattle.im_digest.specs.Digests.{Hash}
 use Rattle.im_disk.specs.Disk.{Files}
 use Rattle.im_format.specs.Batches.{entries_spans, value_span, values_spans}
 use Rattle.im_format.specs.Places.{AreAppended, ArePut, log_end, log_values, refs_of, values_in}
-use Rattle.im_format.specs.Records.{AreRecords, AreReferences, IsReference}
+use Rattle.im_format.specs.Records.{AreRecords, AreReferences}
 use Rattle.im_format.specs.Spans.{Reads}
 use Rattle.im_format.specs.Standing.{LiesIn}
 use Rattle.im_format.specs.declared.records.Record.{Record}
 use Rattle.im_format.specs.declared.references.ValueRef.{ValueRef}
-use Rattle.im_format.specs.declared.spans.Span.{Span}
 use Rattle.im_model.specs.declared.entries.Entry.{Entry}
 use Rattle.im_model.specs.declared.transactions.Transaction.{Transaction}
 use Rattle.im_vlog.proofs.LogLemmas.{log_end_same, log_end_other}

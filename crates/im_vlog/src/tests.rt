@@ -1,6 +1,6 @@
 ghost use Rattle.std.specs.Prelude.{◌≡◌, ◌≤◌, length, IfOk};
 
-use crate::laws::{ends_of_records_have_room, written_values_stand};
+use crate::laws::{a_standing_value_is_shown, ends_of_records_have_room, written_values_stand};
 use crate::octets::log_values;
 use crate::placing::{append_values, reference};
 use crate::showing::{ReadError, read_value};
@@ -241,5 +241,6 @@ fn a_fault_of_the_disk_is_told(rt: HostRuntime) -> Result<(), Fail> {
 fn laws_are_called(_rt: HostRuntime) -> Result<(), Fail> {
     ends_of_records_have_room();
     written_values_stand();
+    a_standing_value_is_shown();
     Ok(())
 }

@@ -1,10 +1,8 @@
-use Rattle.std.proofs.Common.{◌≡◌, ℕ, ◌+◌, ◌≤◌, List, length, subst}
-use Rattle.std.specs.Prelude.{IfSome, Option, OnOk, IsErrOf, Result}
-use Rattle.std.specs.Option.{option_map}
-use Rattle.im_disk.specs.Disk.{Files, Told, after, seen}
+use Rattle.std.proofs.Common.{◌≡◌, ℕ, ◌≤◌, List, length, subst}
+use Rattle.std.specs.Prelude.{IfSome, Option, Result}
+use Rattle.im_disk.specs.Disk.{Told, seen}
 use Rattle.im_disk.specs.declared.calls.Call.TheVariants.{Wrote, Tore}
 use Rattle.im_disk.specs.declared.disk.DiskError.{DiskError}
-use Rattle.im_disk.specs.declared.disk.DiskError.TheVariants.{Failed}
 use Rattle.im_format.specs.Spans.{Reads}
 use Rattle.im_format.specs.declared.spans.Span.{Span}
 use Rattle.im_alog.specs.Holding.{Holds, IsLong}

@@ -1,11 +1,11 @@
-use Rattle.std.proofs.Common.{◌≡◌, ◌⊎◌, ℕ, ◌≤◌, List, length, inl, inr}
+use Rattle.std.proofs.Common.{◌≡◌, ℕ, ◌≤◌, length, inl, inr}
 use Rattle.std.specs.Prelude.{IfSome, Option, Some, None}
-use Rattle.im_disk.specs.Disk.{Files, Told, Images, after, seen}
+use Rattle.im_disk.specs.Disk.{Files, Told, after, seen}
 use Rattle.im_disk.specs.Moments.{LeavesNow}
-use Rattle.im_disk.specs.declared.calls.Call.TheVariants.{Synced, Missed}
+use Rattle.im_disk.specs.declared.calls.Call.TheVariants.{Synced}
 use Rattle.im_alog.specs.Holding.{Holds, IsDurable, IsLong, IsOldOrSeen}
 use Rattle.im_alog.proofs.Torn.{same_all}
-use Rattle.im_alog.proofs.Outcomes.{HasAnswer, if_any, if_mapped, if_some, leaves_of_sync, on_ok, seen_of_sync}
+use Rattle.im_alog.proofs.Outcomes.{if_any, if_mapped, if_some, leaves_of_sync, on_ok, seen_of_sync}
 use Rattle.im_alog.proofs.laying.sync.Goals as goal
 
 old_now : (o : Option Told) → LeavesNow (IsOldOrSeen o) o

@@ -1,4 +1,4 @@
-use Rattle.std.proofs.Common.{◌≡◌, ◌<◌, ℕ, zero, suc, get_or, refl, arith, rules, List, replicate}
+use Rattle.std.proofs.Common.{◌≡◌, ℕ, zero, suc, get_or, refl, List, replicate}
 use Rattle.im_vlog.proofs.RoomLemmas.{records_have_room}
 use Rattle.im_vlog.proofs.laws.ends_of_records_have_room.Goals as goal
 

@@ -1,4 +1,4 @@
-use Rattle.std.proofs.Common.{◌≡◌, ◌+◌, drop, ap, arith, rules, List, []}
+use Rattle.std.proofs.Common.{◌≡◌, drop, ap, arith, List}
 use Rattle.std.proofs.lemmas.List.{drop_all}
 use Rattle.im_format.specs.declared.references.ValueRef.{ValueRef}
 use Rattle.im_vlog.specs.Sizes.{octets_in}

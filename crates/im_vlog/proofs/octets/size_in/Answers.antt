@@ -1,8 +1,7 @@
-use Rattle.std.proofs.Common.{◌≡◌, ◌+◌, ◌-◌, ◌^◌, ◌∷◌, ◌++◌, ◌<◌, ◌≤◌, ℕ, min, drop, length, get_or, ap, sym, ◌∙◌, arith, rules, List, []}
+use Rattle.std.proofs.Common.{◌≡◌, ◌+◌, ◌-◌, ◌^◌, ◌∷◌, ◌<◌, ℕ, min, drop, length, get_or, ap, sym, ◌∙◌, arith, rules, List}
 use Rattle.std.proofs.lemmas.List.{drop_all, drop_more}
 use Rattle.im_format.specs.Places.{refs_of}
 use Rattle.im_format.specs.declared.records.Record.{Record}
-use Rattle.im_format.specs.declared.references.ValueRef.{ValueRef}
 use Rattle.im_vlog.specs.Sizes.{octets_in}
 use Rattle.im_vlog.proofs.LogLemmas.{octets_in_both}
 use Rattle.im_vlog.proofs.octets.size_in.Goals as goal
