@@ -1,0 +1,153 @@
+-- What a write leaves standing in what reads give, and in a file that a crash tears.
+use Rattle.std.proofs.Common.{◌≡◌, ◌≢◌, ℕ, ◌+◌, ◌-◌, ◌≤◌, List, [], ◌∷◌, ◌++◌, length, take, drop, refl, sym, ◌∙◌, ap, subst, arith, rules, eqb-true, eq-eqb, ne_eqb, length-drop, length-take, length-append, true, false, append_assoc, ⊎_elim}
+use Rattle.std.proofs.lemmas.Bool.{false≢true}
+use Rattle.std.proofs.lemmas.List.{take-take, drop-take, take_at, drop_at, drop-drop}
+use Rattle.std.proofs.lemmas.List.Elements.{All-weaker, All-nil, All-cons, All-head, All-tail}
+use Rattle.std.specs.Prelude.{◌==◌, All, if◌then◌else◌}
+use Rattle.im_disk.specs.Disk.{Files, Torn, TornFile, written, with_file}
+use Rattle.im_format.specs.Spans.{Reads, Misses, octets_at}
+use Rattle.im_format.specs.declared.spans.Span.{Span}
+use Rattle.im_alog.specs.Holding.{Holds}
+
+-- two numbers are the same, or not
+pub decide_file : {P : Type 0} (a b : ℕ) → (a ≡ b → P) → (a ≢ b → P) → P
+decide_file {P} a b same other = go (a == b) refl
+  where
+    go : (t : _) → (a == b) ≡ t → P
+    go true is = same (eqb-true a b is)
+    go false is = other (λ e. false≢true (sym is ∙ eq-eqb a b e))
+
+-- octets that end before a place don't depend on what stands from there on
+same_front : (p n at : ℕ) (old new : List ℕ) → p + n ≤ at → take at new ≡ take at old → octets_at new p n ≡ octets_at old p n
+same_front p n at old new le same =
+    sym (drop-take p n new)
+    ∙ ap (λ (l : List ℕ). drop p l) (
+    sym (take-take (p + n) at new le) ∙ ap (λ (l : List ℕ). take (p + n) l) same ∙ take-take (p + n) at old le
+    )
+    ∙ drop-take p n old
+
+-- octets behind a place don't depend on what stands before it
+same_back : (p n at : ℕ) (old new : List ℕ) → at ≤ p → drop at new ≡ drop at old → octets_at new p n ≡ octets_at old p n
+same_back p n at old new le same =
+    let split : (l : List ℕ) → drop p l ≡ drop (p - at) (drop at l) =
+    λ l. ap (λ (k : ℕ). drop k l) (omega (arith, le)) ∙ sym (drop-drop (p - at) at l)
+    in
+    ap (λ (l : List ℕ). take n l) (split new ∙ ap (λ (l : List ℕ). drop (p - at) l) same ∙ sym (split old))
+
+-- what a torn write misses is as it was
+pub kept_octets : (file at n : ℕ) (old new : Files) (s : Span) → TornFile file at n old new → Misses file at n s
+    → octets_at (new s.file) s.at (length s.octets) ≡ octets_at (old s.file) s.at (length s.octets)
+kept_octets file at n old new s torn misses =
+    decide_file s.file file
+    (λ same.
+    subst (λ (k : ℕ). octets_at (new k) s.at (length s.octets) ≡ octets_at (old k) s.at (length s.octets)) (sym same)
+    (⊎_elim
+    (λ le. same_front s.at (length s.octets) at (old file) (new file) le torn.torn.before)
+    (λ le. same_back s.at (length s.octets) (at + n) (old file) (new file) le torn.torn.after)
+    (misses.apart same)))
+    (λ other. ap (λ (l : List ℕ). octets_at l s.at (length s.octets)) (torn.others s.file other))
+
+pub keeps : (file at n : ℕ) (old new : Files) (s : Span) → TornFile file at n old new → Misses file at n s → Reads old s → Reads new s
+keeps file at n old new s torn misses r = record { reads = kept_octets file at n old new s torn misses ∙ r.reads }
+
+-- two facts on each element
+pub all_both : {X : Type 0} (P Q R : X → Type 0) → ((x : X) → P x → Q x → R x) → (xs : List X) → All P xs → All Q xs → All R xs
+all_both P Q R f [] ps qs = All-nil R
+all_both P Q R f (x ∷ xs) ps qs =
+    All-cons R x xs (f x (All-head P x xs ps) (All-head Q x xs qs))
+    (all_both P Q R f xs (All-tail P x xs ps) (All-tail Q x xs qs))
+
+pub keeps_all : (file at n : ℕ) (old new : Files) (spans : List Span) → TornFile file at n old new → All (Misses file at n) spans → Holds spans old → Holds spans new
+keeps_all file at n old new spans torn misses reads =
+    all_both (Misses file at n) (Reads old) (Reads new) (λ s m r. keeps file at n old new s torn m r) spans misses reads
+
+-- the same octets in another image
+pub same_reads : (old new : Files) → ((k : ℕ) → new k ≡ old k) → (s : Span) → Reads old s → Reads new s
+same_reads old new same s r = record { reads = ap (λ (l : List ℕ). octets_at l s.at (length s.octets)) (same s.file) ∙ r.reads }
+
+pub same_all : (old new : Files) → ((k : ℕ) → new k ≡ old k) → (spans : List Span) → Holds spans old → Holds spans new
+same_all old new same spans = All-weaker (Reads old) (Reads new) (same_reads old new same) spans
+
+-- what reads give after a write is a torn write too
+pub written_torn : (files : Files) (file at : ℕ) (piece : List ℕ) → at ≤ length (files file)
+    → TornFile file at (length piece) files (with_file files file (written (files file) at piece))
+written_torn files file at piece le =
+    let old = files file in
+    let new = written old at piece in
+    let front : length (take at old) ≡ at = search (rules, le) in
+    let grouped : new ≡ take at old ++ (piece ++ drop (at + length piece) old) =
+    append_assoc (take at old) piece (drop (at + length piece) old)
+    in
+    let here : with_file files file new file ≡ new = ap (λ t. if t then new else files file) (eq-eqb file file refl) in
+    let sizes : length new ≡ at + length piece + (length old - (at + length piece)) =
+    omega (
+      arith,
+      length-append (take at old ++ piece) (drop (at + length piece) old),
+      length-append (take at old) piece,
+      front,
+      length-drop (at + length piece) old,
+    )
+    in
+    record {
+      torn = subst (λ (l : List ℕ). Torn at (length piece) old l) (sym here) (record {
+        before = ap (λ (l : List ℕ). take at l) grouped ∙ take_at (take at old) _ at front;
+        after = drop_at (take at old ++ piece) (drop (at + length piece) old) (at + length piece)
+            (omega (arith, length-append (take at old) piece, front));
+        no_shorter = omega (arith, sizes);
+        no_longer = omega (arith, sizes);
+      });
+      others = λ k other. ap (λ t. if t then new else files k) (ne_eqb k file other);
+    }
+
+-- what was written reads back
+pub written_reads : (files : Files) (file at : ℕ) (piece : List ℕ) → at ≤ length (files file)
+    → Reads (with_file files file (written (files file) at piece)) (record { file = file; at = at; octets = piece })
+written_reads files file at piece le =
+    let old = files file in
+    let new = written old at piece in
+    let front : length (take at old) ≡ at = search (rules, le) in
+    let grouped : new ≡ take at old ++ (piece ++ drop (at + length piece) old) =
+    append_assoc (take at old) piece (drop (at + length piece) old)
+    in
+    let here : with_file files file new file ≡ new = ap (λ t. if t then new else files file) (eq-eqb file file refl) in
+    record {
+      reads =
+          ap (λ (l : List ℕ). octets_at l at (length piece)) (here ∙ grouped)
+          ∙ ap (λ (l : List ℕ). take (length piece) l) (drop_at (take at old) _ at front)
+          ∙ take_at piece _ (length piece) refl;
+    }
+
+-- a part of what reads
+pub part_reads : (image : Files) (file at : ℕ) (before octets behind : List ℕ)
+    → Reads image (record { file = file; at = at; octets = before ++ octets ++ behind })
+    → Reads image (record { file = file; at = at + length before; octets = octets })
+part_reads image file at before octets behind r =
+    let n = length octets in
+    let l = drop at (image file) in
+    let whole : take (length (before ++ octets ++ behind)) l ≡ before ++ octets ++ behind = r.reads in
+    let within : length before + n ≤ length (before ++ octets ++ behind) =
+    omega (arith, length-append (before ++ octets) behind, length-append before octets)
+    in
+    record {
+      reads =
+          ap (λ (k : List ℕ). take n k) (sym (drop-drop (length before) at (image file)))
+          ∙ sym (drop-take (length before) n l)
+          ∙ ap (λ (k : List ℕ). drop (length before) k) (
+          sym (take-take (length before + n) (length (before ++ octets ++ behind)) l within)
+          ∙ ap (λ (k : List ℕ). take (length before + n) k) whole
+          )
+          ∙ drop-take (length before) n (before ++ octets ++ behind)
+          ∙ ap (λ (k : List ℕ). take n (drop (length before) k)) (append_assoc before octets behind)
+          ∙ ap (λ (k : List ℕ). take n k) (drop_at before (octets ++ behind) (length before) refl)
+          ∙ take_at octets behind n refl;
+    }
+
+-- what reads lies within its file
+pub reads_within : (image : Files) (s : Span) → 1 ≤ length s.octets → Reads image s → s.at + length s.octets ≤ length (image s.file)
+reads_within image s some r =
+    omega (
+      arith,
+      ap length r.reads,
+      length-take (length s.octets) (drop s.at (image s.file)),
+      length-drop s.at (image s.file),
+    )

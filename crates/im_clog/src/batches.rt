@@ -1,0 +1,24 @@
+ghost use Rattle.std.specs.Prelude.{◌≡◌};
+ghost use Rattle.im_format.specs.Batches.{batch_octets};
+
+use arrayvec::ArrayVec;
+use im_octet::buffers::append;
+use im_octet::fields::eight;
+
+/// The octet that is staged for the next gate.
+const CLOSED: u8 = 0;
+
+/// What is staged of a batch, for the place behind its gate: the ID of its first transaction, the number of
+/// its transactions, and where their records end in the transaction log, as eight octets each; and the next
+/// gate, which is closed. It takes no memory.
+#[tactic(auto, unfolding(im_format::specs::Batches::batch_octets, im_format::specs::Batches::batch_fields))]
+pub fn batch_octets(first: u64, count: u64, end: u64) -> [u8; 25]
+    ensures { result ≡ batch_octets first count end }
+{
+    let mut octets = ArrayVec::<u8, 25>::new();
+    append(&mut octets, &eight(first));
+    append(&mut octets, &eight(count));
+    append(&mut octets, &eight(end));
+    append(&mut octets, &[CLOSED]);
+    octets.into_inner().unwrap()
+}

@@ -1,0 +1,4 @@
+pub mod LogLemmas
+pub mod PlaceLemmas
+pub mod RoomLemmas
+pub mod StandLemmas

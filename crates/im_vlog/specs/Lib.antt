@@ -1,0 +1,3 @@
+pub mod Ends
+pub mod Showing
+pub mod Sizes

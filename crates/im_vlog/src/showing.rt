@@ -1,0 +1,78 @@
+ghost use Rattle.std.specs.Prelude.{◌≡◌, ◌≤◌, ◌<◌, IfOk, IfErr, IfSome, length};
+ghost use Rattle.im_disk.specs.Causes.{HasCause};
+ghost use Rattle.im_disk.specs.Disk.{seen};
+ghost use Rattle.im_vlog.specs.Showing.{shown, IsCorrupt, HasReadCause};
+
+use im_alog::reading::read_at;
+use im_digest::{D32, Hash32};
+use im_disk::disk::{Disk, DiskError};
+use im_format::references::ValueRef;
+use std::alloc::{AllocError, Global};
+
+/// Why a value wasn't read.
+#[derive(Clone, Copy, Debug, PartialEq, Eq)]
+pub enum ReadError {
+    /// The disk failed, and was counted.
+    DiskFault,
+    /// The octets at the value's place have another digest than its reference.
+    Corrupt {
+        /// The digest in the reference.
+        want: D32,
+        /// The digest of the octets.
+        got: D32,
+    },
+    /// Memory ran out.
+    Memory,
+}
+
+impl From<DiskError> for ReadError {
+    ghost use Rattle.im_vlog.specs.Showing.{error_of};
+
+    ghost from_gives = { λ cause error. error ≡ error_of cause };
+
+    fn from(cause: DiskError) -> Self {
+        match cause {
+            DiskError::Failed => ReadError::DiskFault,
+            DiskError::Memory => ReadError::Memory,
+        }
+    }
+}
+
+/// The value that a reference shows: the octets at its place of its log, fewer where the log ends before, and
+/// none where there is no such log. They are checked against the reference's digest.
+pub fn read_value<D: Disk, H: Hash32>(
+    alloc: Global,
+    hash: &H,
+    disk: &mut D,
+    value: &ValueRef,
+) -> Result<Vec<u8>, ReadError>
+    ensures octets { IfOk result (λ octets. IfSome (D.told disk.old) (λ t. octets.items ≡ shown (seen t) value.now)) }
+    ensures digest { IfOk result (λ octets. H.digest hash.now octets.items ≡ value.now.hval) }
+    ensures most { IfOk result (λ octets. length octets.items ≤ value.now.len) }
+    ensures corrupt { IfErr result (λ error. IsCorrupt (H.digest hash.now) (D.told disk.old) value.now error) }
+    ensures told { D.told disk.new ≡ D.told disk.old }
+    ensures cause { HasReadCause (D.faults disk.old) (D.faults disk.new) result }
+{
+    let octets = octets_of(alloc, disk, value)?;
+    let got = hash.hash(octets.as_slice(), &[], &[]);
+    if got != value.hval {
+        return Err(ReadError::Corrupt {
+            want: value.hval,
+            got,
+        });
+    }
+    Ok(octets)
+}
+
+// The octets that a reference shows, unchecked.
+fn octets_of<D: Disk>(alloc: Global, disk: &mut D, value: &ValueRef) -> Result<Vec<u8>, DiskError>
+    ensures octets { IfOk result (λ octets. IfSome (D.told disk.old) (λ t. octets.items ≡ shown (seen t) value.now)) }
+    ensures most { IfOk result (λ octets. length octets.items ≤ value.now.len) }
+    ensures told { D.told disk.new ≡ D.told disk.old }
+    ensures cause { HasCause (D.faults disk.old) (D.faults disk.new) result }
+{
+    if value.log > 3 {
+        return Ok(Vec::new(alloc));
+    }
+    read_at(alloc, disk, 2 + value.log, value.at, value.len as usize)
+}
