@@ -1,0 +1,3 @@
+pub mod FailLemmas
+pub mod NumberLemmas
+pub mod SlotLemmas

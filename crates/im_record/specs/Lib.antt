@@ -1,0 +1,4 @@
+pub mod Writing
+pub mod Heads
+pub mod Keys
+pub mod Slots
