@@ -1,3 +1,5 @@
+pub mod AtLemmas
+pub mod BackLemmas
 pub mod FailLemmas
 pub mod NumberLemmas
 pub mod SlotLemmas

@@ -6,6 +6,7 @@ pub mod errors;
 mod fields;
 pub mod heads;
 pub mod keys;
+pub mod laws;
 mod refs;
 pub mod slots;
 pub mod writing;

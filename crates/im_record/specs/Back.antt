@@ -1,0 +1,70 @@
+-- What the octets of a record are read as.
+use Rattle.std.specs.Prelude.{◌≡◌, ◌≤◌, ◌<◌, ◌+◌, ◌*◌, ◌^◌, ◌-◌, ℕ, List, [], ◌∷◌, ◌++◌, length, map, All, AllPairs, FitsSigned, slice_index_or}
+use Rattle.std.specs.Int.{w64}
+use Rattle.im_digest.specs.Digests.{Hash}
+use Rattle.im_disk.specs.Disk.{Files}
+use Rattle.im_model.specs.History.{IsTransaction}
+use Rattle.im_mtree.specs.Checks.{first_fail}
+use Rattle.im_model.specs.declared.entries.Entry.{Entry}
+use Rattle.im_model.specs.declared.transactions.Transaction.{Transaction}
+use Rattle.im_format.specs.Batches.{entries_spans}
+use Rattle.im_format.specs.Reading.{Slot, alh_place, bl_at, count_at, number8, record_end, slots_at, slots_end, transaction_in, ts_at}
+use Rattle.im_format.specs.Records.{AreReferences, record_octets}
+use Rattle.im_format.specs.Spans.{Reads, octets_at}
+use Rattle.im_format.specs.Standing.{LiesIn}
+use Rattle.im_format.specs.declared.records.Record.{Record}
+use Rattle.im_format.specs.declared.references.ValueRef.{ValueRef}
+
+-- these octets stand at a place of a log
+pub record HasAt (log : List ℕ) (at : ℕ) (octets : List ℕ) : Type 0 where
+  pub has : octets_at log at (length octets) ≡ octets
+
+-- a reference whose digest is one and whose numbers fit their fields
+pub record FitsRef (ref : ValueRef) : Type 0 where
+  pub hval : length ref.hval ≡ 32
+  pub len : ref.len < 2 ^ 32
+  pub at : ref.at < 2 ^ 64
+
+-- metadata and key whose lengths fit their fields
+pub record FitsEntry (entry : Entry) : Type 0 where
+  pub md : length entry.md < 2 ^ 16
+  pub key : length entry.key < 2 ^ 16
+
+-- a record of transaction id of which every number fits its field, with one reference for each entry
+pub record FitsRecord (id : ℕ) (r : Record) : Type 0 where
+  pub number : id < 2 ^ 64
+  pub ts : FitsSigned w64 r.tx.ts
+  pub bl : r.tx.bl < 2 ^ 64
+  pub count : length r.tx.entries < 2 ^ 32
+  pub entries : All FitsEntry r.tx.entries
+  pub one_each : length r.refs ≡ length r.tx.entries
+  pub refs : All FitsRef r.refs
+  pub alh : length r.alh ≡ 32
+
+-- the fields of an entry that is read are those of this one, with this reference
+pub record IsEntryOf (entry : Entry) (ref : ValueRef) (slot : Slot) : Type 0 where
+  pub md_len : slot.md_len ≡ length entry.md
+  pub md : slot.md ≡ entry.md
+  pub key_len : slot.key_len ≡ length entry.key
+  pub key : slot.key ≡ entry.key
+  pub value : slot.ref ≡ ref
+
+-- the entries that are read are these, each with its reference
+abbrev pub AreEntriesOf : List Entry → List ValueRef → List Slot → Type 0
+AreEntriesOf [] [] [] = Unit {0}
+AreEntriesOf [] [] (slot ∷ slots) = ⊥
+AreEntriesOf [] (ref ∷ refs) slots = ⊥
+AreEntriesOf (entry ∷ entries) [] slots = ⊥
+AreEntriesOf (entry ∷ entries) (ref ∷ refs) [] = ⊥
+AreEntriesOf (entry ∷ entries) (ref ∷ refs) (slot ∷ slots) = IsEntryOf entry ref slot × AreEntriesOf entries refs slots
+
+-- what is read at a place of a log is this record of transaction id, and nothing but it
+pub record IsReadAs (log : List ℕ) (at id : ℕ) (r : Record) : Type 0 where
+  pub number : number8 log at ≡ id
+  pub ts : ts_at log at ≡ r.tx.ts
+  pub bl : bl_at log at ≡ r.tx.bl
+  pub count : count_at log at ≡ length r.tx.entries
+  pub entries : AreEntriesOf r.tx.entries r.refs (slots_at log (at + 28) (count_at log at))
+  pub alh : octets_at log (slots_end log (at + 28) (count_at log at)) 32 ≡ r.alh
+  pub end : slots_end log (at + 28) (count_at log at) + 32 ≡ at + length (record_octets id r)
+  pub within : at + length (record_octets id r) ≤ length log
