@@ -1,5 +1,5 @@
 -- What the octets of a record are read as.
-use Rattle.std.specs.Prelude.{◌≡◌, ◌≤◌, ◌<◌, ◌+◌, ◌*◌, ◌^◌, ◌-◌, ℕ, List, [], ◌∷◌, ◌++◌, length, map, All, AllPairs, FitsSigned, slice_index_or}
+use Rattle.std.specs.Prelude.{◌≡◌, ◌≤◌, ◌<◌, ◌+◌, ◌*◌, ◌^◌, ◌-◌, ℕ, List, [], ◌∷◌, ◌++◌, length, All, FitsSigned, Ok}
 use Rattle.std.specs.Int.{w64}
 use Rattle.im_digest.specs.Digests.{Hash}
 use Rattle.im_disk.specs.Disk.{Files}
@@ -8,6 +8,7 @@ use Rattle.im_mtree.specs.Checks.{first_fail}
 use Rattle.im_model.specs.declared.entries.Entry.{Entry}
 use Rattle.im_model.specs.declared.transactions.Transaction.{Transaction}
 use Rattle.im_format.specs.Batches.{entries_spans}
+use Rattle.im_format.specs.Damages.{alh_checks, head_checks, slots_checks}
 use Rattle.im_format.specs.Reading.{Slot, alh_place, bl_at, count_at, number8, record_end, slots_at, slots_end, transaction_in, ts_at}
 use Rattle.im_format.specs.Records.{AreReferences, record_octets}
 use Rattle.im_format.specs.Spans.{Reads, octets_at}
@@ -68,3 +69,27 @@ pub record IsReadAs (log : List ℕ) (at id : ℕ) (r : Record) : Type 0 where
   pub alh : octets_at log (slots_end log (at + 28) (count_at log at)) 32 ≡ r.alh
   pub end : slots_end log (at + 28) (count_at log at) + 32 ≡ at + length (record_octets id r)
   pub within : at + length (record_octets id r) ≤ length log
+
+-- the record of transaction id of a history, as far as it can be told without the others: within the limits
+-- behind id - 1 others, with references of its values, and with a digest for its Alh
+pub record IsSound (hash : Hash) (id : ℕ) (r : Record) : Type 0 where
+  pub first : 1 ≤ id
+  pub few : id < 2 ^ 42
+  pub tx : IsTransaction (id - 1) r.tx
+  pub refs : AreReferences hash id r.tx.entries r.refs
+  pub alh : length r.alh ≡ 32
+
+-- the octets at a place of an image's transaction log pass the checks of transaction id, behind one whose tree
+-- had this size, and are read as this record
+pub record Passes (hash : Hash) (image : Files) (id least at : ℕ) (r : Record) : Type 0 where
+  pub head : first_fail (head_checks (image 0) id least at) ≡ Ok tt
+  pub entries : first_fail (slots_checks hash image id [] (at + 28) (count_at (image 0) at)) ≡ Ok tt
+  pub alh : first_fail (alh_checks (image 0) (alh_place image at) r.alh) ≡ Ok tt
+  pub transaction : transaction_in image at ≡ r.tx
+  pub end : record_end image at ≡ at + length (record_octets id r)
+
+-- the image has these octets in its transaction log, and the values of the record, within their logs
+pub record Holds (image : Files) (id at : ℕ) (r : Record) : Type 0 where
+  pub octets : HasAt (image 0) at (record_octets id r)
+  pub values : All (Reads image) (entries_spans r.tx.entries r.refs)
+  pub lie : All (LiesIn image) r.refs
