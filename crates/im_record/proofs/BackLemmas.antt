@@ -99,8 +99,16 @@ length-entry entry ref e =
     let c : List ℕ = field2 (length entry.key) in
     let d : List ℕ = entry.key in
     let r : List ℕ = reference_octets ref in
-    omega (arith, length-append (a ++ b ++ c ++ d) r, length-append (a ++ b ++ c) d, length-append (a ++ b) c, length-append a b,
-        length-field2 (length entry.md), length-field2 (length entry.key), length-reference ref e)
+    omega (
+      arith,
+      length-append (a ++ b ++ c ++ d) r,
+      length-append (a ++ b ++ c) d,
+      length-append (a ++ b) c,
+      length-append a b,
+      length-field2 (length entry.md),
+      length-field2 (length entry.key),
+      length-reference ref e,
+    )
 
 pub entry-back : (log : List ℕ) (at : ℕ) (entry : Entry) (ref : ValueRef) → FitsEntry entry → FitsRef ref
     → HasAt log at (entry_octets entry ref)
@@ -122,14 +130,16 @@ entry-back log at entry ref fits rfits h =
     number2-field log (at + 2 + number2 log at) (length d) fits.key (HasAt-moved log _ _ c (HasAt-back log at (a ++ b) c abc) lb) in
     let lc : at + length (a ++ b ++ c) ≡ at + 4 + number2 log at = omega (arith, length-append (a ++ b) c, lb, length-field2 (length d)) in
     let ld : at + length (a ++ b ++ c ++ d) ≡ at + 4 + number2 log at + number2 log (at + 2 + number2 log at) =
-    omega (arith, length-append (a ++ b ++ c) d, lc, key_len) in
-    (record {
-      md_len = md_len;
-      md = ap (octets_at log (at + 2)) md_len ∙ (HasAt-moved log _ (at + 2) b (HasAt-back log at a b ab) (ap (λ k. at + k) la)).has;
-      key_len = key_len;
-      key = ap (octets_at log (at + 4 + number2 log at)) key_len ∙ (HasAt-moved log _ (at + 4 + number2 log at) d (HasAt-back log at (a ++ b ++ c) d abcd) lc).has;
-      value = ref-back log _ ref rfits (HasAt-moved log _ _ r (HasAt-back log at (a ++ b ++ c ++ d) r h) ld);
-    }, omega (arith, length-append (a ++ b ++ c ++ d) r, length-reference ref rfits.hval, ld))
+    omega (arith, length-append (a ++ b ++ c) d, lc, key_len) in (
+      record {
+        md_len = md_len;
+        md = ap (octets_at log (at + 2)) md_len ∙ (HasAt-moved log _ (at + 2) b (HasAt-back log at a b ab) (ap (λ k. at + k) la)).has;
+        key_len = key_len;
+        key = ap (octets_at log (at + 4 + number2 log at)) key_len ∙ (HasAt-moved log _ (at + 4 + number2 log at) d (HasAt-back log at (a ++ b ++ c) d abcd) lc).has;
+        value = ref-back log _ ref rfits (HasAt-moved log _ _ r (HasAt-back log at (a ++ b ++ c ++ d) r h) ld);
+      },
+      omega (arith, length-append (a ++ b ++ c ++ d) r, length-reference ref rfits.hval, ld),
+    )
 
 -- entries, and where they end
 pub entries-back : (log : List ℕ) (at : ℕ) (entries : List Entry) (refs : List ValueRef) → length refs ≡ length entries

@@ -64,22 +64,34 @@ slot-md-holds : (image : Files) (id : ℕ) (keys : List (List ℕ)) (s : Slot) �
     → first_fail (slot_md_checks (image 0) s) ≡ Ok tt
 slot-md-holds image id keys s f =
     let w : s.start + 49 + s.md_len + s.key_len ≤ length (image 0) = f.within in
-    none-fails (slot_md_checks (image 0) s)
-    (le-leb (s.start + 2) (length (image 0)) (omega arith),
-    (le-leb s.md_len 2 f.md_short,
-    (le-leb (s.start + 2 + s.md_len) (length (image 0)) (omega arith),
-    all-hold (md_checks (s.start + 2) s.md) (md-holds (s.start + 2) s.md f.md))))
+    none-fails (slot_md_checks (image 0) s) (
+      le-leb (s.start + 2) (length (image 0)) (omega arith),
+      (
+        le-leb s.md_len 2 f.md_short,
+        (
+          le-leb (s.start + 2 + s.md_len) (length (image 0)) (omega arith),
+          all-hold (md_checks (s.start + 2) s.md) (md-holds (s.start + 2) s.md f.md),
+        ),
+      ),
+    )
 
 slot-key-holds : (image : Files) (id : ℕ) (keys : List (List ℕ)) (s : Slot) → IsFineSlot image id keys s
     → first_fail (slot_key_checks (image 0) keys s) ≡ Ok tt
 slot-key-holds image id keys s f =
     let w : s.start + 49 + s.md_len + s.key_len ≤ length (image 0) = f.within in
-    none-fails (slot_key_checks (image 0) keys s)
-    (le-leb (s.start + 2 + s.md_len + 2) (length (image 0)) (omega arith),
-    (le-leb 1 s.key_len f.key_given,
-    (le-leb s.key_len 1024 f.key_short,
-    (le-leb (s.start + 2 + s.md_len + 2 + s.key_len) (length (image 0)) (omega arith),
-    (eq-eqb (index_of s.key keys) (length keys) f.fresh, tt)))))
+    none-fails (slot_key_checks (image 0) keys s) (
+      le-leb (s.start + 2 + s.md_len + 2) (length (image 0)) (omega arith),
+      (
+        le-leb 1 s.key_len f.key_given,
+        (
+          le-leb s.key_len 1024 f.key_short,
+          (
+            le-leb (s.start + 2 + s.md_len + 2 + s.key_len) (length (image 0)) (omega arith),
+            (eq-eqb (index_of s.key keys) (length keys) f.fresh, tt),
+          ),
+        ),
+      ),
+    )
 
 slot-ref-holds : (image : Files) (id : ℕ) (keys : List (List ℕ)) (s : Slot) → IsFineSlot image id keys s
     → first_fail (slot_ref_checks image id s) ≡ Ok tt
@@ -87,15 +99,28 @@ slot-ref-holds image id keys s f =
     let w : s.start + 49 + s.md_len + s.key_len ≤ length (image 0) = f.within in
     let at : ℕ = s.start + 4 + s.md_len + s.key_len in
     let room : s.ref.at ≤ id * 2 ^ 22 - s.ref.len = omega (arith, f.room) in
-    none-fails (slot_ref_checks image id s)
-    (le-leb (at + 32) (length (image 0)) (omega arith),
-    (le-leb (at + 32 + 4) (length (image 0)) (omega arith),
-    (le-leb s.ref.len 4096 f.short,
-    (le-leb (at + 36 + 1) (length (image 0)) (omega arith),
-    (le-leb s.ref.log 3 f.log,
-    (le-leb (at + 37 + 8) (length (image 0)) (omega arith),
-    (le-leb s.ref.at (id * 2 ^ 22 - s.ref.len) room,
-    (le-leb (s.ref.at + s.ref.len) (length (image (2 + s.ref.log))) f.lies, tt))))))))
+    none-fails (slot_ref_checks image id s) (
+      le-leb (at + 32) (length (image 0)) (omega arith),
+      (
+        le-leb (at + 32 + 4) (length (image 0)) (omega arith),
+        (
+          le-leb s.ref.len 4096 f.short,
+          (
+            le-leb (at + 36 + 1) (length (image 0)) (omega arith),
+            (
+              le-leb s.ref.log 3 f.log,
+              (
+                le-leb (at + 37 + 8) (length (image 0)) (omega arith),
+                (
+                  le-leb s.ref.at (id * 2 ^ 22 - s.ref.len) room,
+                  (le-leb (s.ref.at + s.ref.len) (length (image (2 + s.ref.log))) f.lies, tt),
+                ),
+              ),
+            ),
+          ),
+        ),
+      ),
+    )
 
 -- it passes its checks
 pub slot-holds : (image : Files) (id : ℕ) (keys : List (List ℕ)) (s : Slot) → IsFineSlot image id keys s
@@ -187,13 +212,14 @@ entries-pass hash image id keys at (entry ∷ entries) (ref ∷ refs) fits rfits
     (subst (λ (k : List ℕ). All (λ e. index_of e.key (keys ++ k ∷ []) ≡ length (keys ++ k ∷ [])) entries) (sym one.0.key)
     (fresh-put keys entry.key entries (λ k d p. fresh (suc k) d (omega arith)) (λ k d p. distinct 0 (suc k) d (omega arith) (omega arith))))
     (λ i j d p q. distinct (suc i) (suc j) d (omega arith) (omega arith)) are.1
-    (λ k d p. reads (suc k) d (omega arith)) (λ k d p. lie (suc k) d (omega arith)) in
-    (both-hold (slot_checks image id keys s) (value_check hash image s ∷ slots_checks hash image id (keys ++ s.key ∷ []) s.end (length entries))
-    (slot-holds image id keys s fine)
-    (none-fails (value_check hash image s ∷ slots_checks hash image id (keys ++ s.key ∷ []) s.end (length entries))
-    (value-holds hash image entry ref id s one.0 are.0 v, all-hold (slots_checks hash image id (keys ++ s.key ∷ []) s.end (length entries)) rest.0)),
-    ap (λ (x : Entry). x ∷ map (entry_in image) (slots_at log s.end (length entries))) (entry-read image entry ref s one.0 v)
-    ∙ ap (λ (xs : List Entry). entry ∷ xs) rest.1)
+    (λ k d p. reads (suc k) d (omega arith)) (λ k d p. lie (suc k) d (omega arith)) in (
+      both-hold (slot_checks image id keys s) (value_check hash image s ∷ slots_checks hash image id (keys ++ s.key ∷ []) s.end (length entries))
+          (slot-holds image id keys s fine)
+          (none-fails (value_check hash image s ∷ slots_checks hash image id (keys ++ s.key ∷ []) s.end (length entries))
+          (value-holds hash image entry ref id s one.0 are.0 v, all-hold (slots_checks hash image id (keys ++ s.key ∷ []) s.end (length entries)) rest.0)),
+      ap (λ (x : Entry). x ∷ map (entry_in image) (slots_at log s.end (length entries))) (entry-read image entry ref s one.0 v)
+          ∙ ap (λ (xs : List Entry). entry ∷ xs) rest.1,
+    )
 
 -- an entry of a history fits its fields
 fits-entry : (entry : Entry) → IsEntry entry → FitsEntry entry
@@ -238,16 +264,31 @@ sound-fits hash id r sizes s =
 head-holds : (log : List ℕ) (at id least : ℕ) (r : Record) → IsReadAs log at id r → at + 28 ≤ length log → least ≤ r.tx.bl → r.tx.bl ≤ id - 1
     → 1 ≤ length r.tx.entries → length r.tx.entries ≤ 1024 → first_fail (head_checks log id least at) ≡ Ok tt
 head-holds log at id least r is w grows linked some few =
-    none-fails (head_checks log id least at)
-    (le-leb (at + 8) (length log) (omega arith),
-    (eq-eqb (number8 log at) id is.number,
-    (le-leb (at + 8 + 8) (length log) (omega arith),
-    (le-leb (at + 16 + 8) (length log) (omega arith),
-    (le-leb least (bl_at log at) (omega (arith, is.bl, grows)),
-    (le-leb (bl_at log at) (id - 1) (omega (arith, is.bl, linked)),
-    (le-leb (at + 24 + 4) (length log) (omega arith),
-    (le-leb 1 (count_at log at) (omega (arith, is.count, some)),
-    (le-leb (count_at log at) 1024 (omega (arith, is.count, few)), tt)))))))))
+    none-fails (head_checks log id least at) (
+      le-leb (at + 8) (length log) (omega arith),
+      (
+        eq-eqb (number8 log at) id is.number,
+        (
+          le-leb (at + 8 + 8) (length log) (omega arith),
+          (
+            le-leb (at + 16 + 8) (length log) (omega arith),
+            (
+              le-leb least (bl_at log at) (omega (arith, is.bl, grows)),
+              (
+                le-leb (bl_at log at) (id - 1) (omega (arith, is.bl, linked)),
+                (
+                  le-leb (at + 24 + 4) (length log) (omega arith),
+                  (
+                    le-leb 1 (count_at log at) (omega (arith, is.count, some)),
+                    (le-leb (count_at log at) 1024 (omega (arith, is.count, few)), tt),
+                  ),
+                ),
+              ),
+            ),
+          ),
+        ),
+      ),
+    )
 
 -- a transaction of these fields
 abbrev pub transaction_with : ℤ → List Entry → ℕ → Transaction

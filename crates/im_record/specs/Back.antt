@@ -1,5 +1,5 @@
 -- What the octets of a record are read as.
-use Rattle.std.specs.Prelude.{◌≡◌, ◌≤◌, ◌<◌, ◌+◌, ◌*◌, ◌^◌, ◌-◌, ℕ, List, [], ◌∷◌, ◌++◌, length, All, FitsSigned, Ok}
+use Rattle.std.specs.Prelude.{◌≡◌, ◌≤◌, ◌<◌, ◌+◌, ◌*◌, ◌^◌, ◌-◌, ℕ, List, [], ◌∷◌, ◌++◌, length, All, FitsSigned, Ok, map, slice_index_or}
 use Rattle.std.specs.Int.{w64}
 use Rattle.im_digest.specs.Digests.{Hash}
 use Rattle.im_disk.specs.Disk.{Files}
@@ -93,3 +93,24 @@ pub record Holds (image : Files) (id at : ℕ) (r : Record) : Type 0 where
   pub octets : HasAt (image 0) at (record_octets id r)
   pub values : All (Reads image) (entries_spans r.tx.entries r.refs)
   pub lie : All (LiesIn image) r.refs
+
+-- a list of octets
+abbrev pub AreOctets : List ℕ → Type 0
+AreOctets log = (i : ℕ) → slice_index_or log i 0 < 256
+
+-- the record whose octets begin at a place of an image's transaction log
+abbrev pub record_in : Files → ℕ → Record
+record_in image at = record {
+  tx = transaction_in image at;
+  refs = map (λ s. s.ref) (slots_at (image 0) (at + 28) (count_at (image 0) at));
+  alh = octets_at (image 0) (alh_place image at) 32;
+}
+
+-- the record that is read at a place is one of transaction id, behind one whose tree had this size, with this
+-- Alh, and the image holds it up to where its reading ends
+pub record IsWritten (hash : Hash) (image : Files) (id least at : ℕ) (want : List ℕ) (r : Record) : Type 0 where
+  pub sound : IsSound hash id r
+  pub grows : least ≤ r.tx.bl
+  pub held : Holds image id at r
+  pub end : record_end image at ≡ at + length (record_octets id r)
+  pub alh : r.alh ≡ want
