@@ -191,7 +191,9 @@ pub entries-pass : (hash : Hash) (image : Files) (id : ℕ) (keys : List (List �
     → AreReferences hash id entries refs → All (Reads image) (entries_spans entries refs) → All (LiesIn image) refs
     → (first_fail (slots_checks hash image id keys at (length entries)) ≡ Ok tt)
     × (map (entry_in image) (slots_at (image 0) at (length entries)) ≡ entries)
-entries-pass hash image id keys at [] refs fits rfits h each fresh distinct are reads lie = (refl, refl)
+    × (map (λ s. s.ref) (slots_at (image 0) at (length entries)) ≡ refs)
+entries-pass hash image id keys at [] [] fits rfits h each fresh distinct are reads lie = (refl, refl, refl)
+entries-pass hash image id keys at [] (ref ∷ refs) fits rfits h each fresh distinct are reads lie = absurd are
 entries-pass hash image id keys at (entry ∷ entries) [] fits rfits h each fresh distinct are reads lie = absurd are
 entries-pass hash image id keys at (entry ∷ entries) (ref ∷ refs) fits rfits h each fresh distinct are reads lie =
     let log : List ℕ = image 0 in
@@ -219,6 +221,8 @@ entries-pass hash image id keys at (entry ∷ entries) (ref ∷ refs) fits rfits
           (value-holds hash image entry ref id s one.0 are.0 v, all-hold (slots_checks hash image id (keys ++ s.key ∷ []) s.end (length entries)) rest.0)),
       ap (λ (x : Entry). x ∷ map (entry_in image) (slots_at log s.end (length entries))) (entry-read image entry ref s one.0 v)
           ∙ ap (λ (xs : List Entry). entry ∷ xs) rest.1,
+      ap (λ (x : ValueRef). x ∷ map (λ s. s.ref) (slots_at log s.end (length entries))) one.0.value
+          ∙ ap (λ (xs : List ValueRef). ref ∷ xs) rest.2,
     )
 
 -- an entry of a history fits its fields
@@ -290,9 +294,9 @@ head-holds log at id least r is w grows linked some few =
       ),
     )
 
--- a transaction of these fields
-abbrev pub transaction_with : ℤ → List Entry → ℕ → Transaction
-transaction_with ts entries bl = record { ts = ts; entries = entries; bl = bl }
+-- a record of these fields
+abbrev pub record_with : ℤ → List Entry → ℕ → List ValueRef → List ℕ → Record
+record_with ts entries bl refs alh = record { tx = record { ts = ts; entries = entries; bl = bl }; refs = refs; alh = alh }
 
 -- a record of a history passes its checks
 pub record-passes : (hash : Hash) (image : Files) (id least at : ℕ) (r : Record) → ((octets : List ℕ) → length (hash octets) ≡ 32)
@@ -318,10 +322,15 @@ record-passes hash image id least at r sizes s grows h =
       entries = subst (λ n. first_fail (slots_checks hash image id [] (at + 28) n) ≡ Ok tt) (sym is.count) pass.0;
       alh = none-fails (alh_checks log place r.alh)
           (le-leb (place + 32) (length log) (omega arith), (bytes-same (octets_at log place 32) r.alh is.alh, tt));
-      transaction =
-          ap (λ (x : ℤ). transaction_with x (map (entry_in image) (slots_at log (at + 28) (count_at log at))) (bl_at log at)) is.ts
-          ∙ ap (λ (n : ℕ). transaction_with r.tx.ts (map (entry_in image) (slots_at log (at + 28) n)) (bl_at log at)) is.count
-          ∙ ap (λ (xs : List Entry). transaction_with r.tx.ts xs (bl_at log at)) pass.1
-          ∙ ap (λ (n : ℕ). transaction_with r.tx.ts r.tx.entries n) is.bl;
+      reading =
+          ap (λ (x : ℤ). record_with x (map (entry_in image) (slots_at log (at + 28) (count_at log at))) (bl_at log at)
+              (map (λ s. s.ref) (slots_at log (at + 28) (count_at log at))) (octets_at log place 32)) is.ts
+          ∙ ap (λ (n : ℕ). record_with r.tx.ts (map (entry_in image) (slots_at log (at + 28) n)) (bl_at log at)
+              (map (λ s. s.ref) (slots_at log (at + 28) n)) (octets_at log place 32)) is.count
+          ∙ ap (λ (xs : List Entry). record_with r.tx.ts xs (bl_at log at)
+              (map (λ s. s.ref) (slots_at log (at + 28) (length r.tx.entries))) (octets_at log place 32)) pass.1
+          ∙ ap (λ (xs : List ValueRef). record_with r.tx.ts r.tx.entries (bl_at log at) xs (octets_at log place 32)) pass.2
+          ∙ ap (λ (n : ℕ). record_with r.tx.ts r.tx.entries n r.refs (octets_at log place 32)) is.bl
+          ∙ ap (λ (xs : List ℕ). record_with r.tx.ts r.tx.entries r.tx.bl r.refs xs) is.alh;
       end = is.end;
     }

@@ -79,13 +79,21 @@ pub record IsSound (hash : Hash) (id : ℕ) (r : Record) : Type 0 where
   pub refs : AreReferences hash id r.tx.entries r.refs
   pub alh : length r.alh ≡ 32
 
+-- the record whose octets begin at a place of an image's transaction log
+abbrev pub record_in : Files → ℕ → Record
+record_in image at = record {
+  tx = transaction_in image at;
+  refs = map (λ s. s.ref) (slots_at (image 0) (at + 28) (count_at (image 0) at));
+  alh = octets_at (image 0) (alh_place image at) 32;
+}
+
 -- the octets at a place of an image's transaction log pass the checks of transaction id, behind one whose tree
 -- had this size, and are read as this record
 pub record Passes (hash : Hash) (image : Files) (id least at : ℕ) (r : Record) : Type 0 where
   pub head : first_fail (head_checks (image 0) id least at) ≡ Ok tt
   pub entries : first_fail (slots_checks hash image id [] (at + 28) (count_at (image 0) at)) ≡ Ok tt
   pub alh : first_fail (alh_checks (image 0) (alh_place image at) r.alh) ≡ Ok tt
-  pub transaction : transaction_in image at ≡ r.tx
+  pub reading : record_in image at ≡ r
   pub end : record_end image at ≡ at + length (record_octets id r)
 
 -- the image has these octets in its transaction log, and the values of the record, within their logs
@@ -97,14 +105,6 @@ pub record Holds (image : Files) (id at : ℕ) (r : Record) : Type 0 where
 -- a list of octets
 abbrev pub AreOctets : List ℕ → Type 0
 AreOctets log = (i : ℕ) → slice_index_or log i 0 < 256
-
--- the record whose octets begin at a place of an image's transaction log
-abbrev pub record_in : Files → ℕ → Record
-record_in image at = record {
-  tx = transaction_in image at;
-  refs = map (λ s. s.ref) (slots_at (image 0) (at + 28) (count_at (image 0) at));
-  alh = octets_at (image 0) (alh_place image at) 32;
-}
 
 -- the record that is read at a place is one of transaction id, behind one whose tree had this size, with this
 -- Alh, and the image holds it up to where its reading ends
