@@ -324,11 +324,11 @@ record-passes hash image id least at r sizes s grows h =
           (le-leb (place + 32) (length log) (omega arith), (bytes-same (octets_at log place 32) r.alh is.alh, tt));
       reading =
           ap (λ (x : ℤ). record_with x (map (entry_in image) (slots_at log (at + 28) (count_at log at))) (bl_at log at)
-              (map (λ s. s.ref) (slots_at log (at + 28) (count_at log at))) (octets_at log place 32)) is.ts
+          (map (λ s. s.ref) (slots_at log (at + 28) (count_at log at))) (octets_at log place 32)) is.ts
           ∙ ap (λ (n : ℕ). record_with r.tx.ts (map (entry_in image) (slots_at log (at + 28) n)) (bl_at log at)
-              (map (λ s. s.ref) (slots_at log (at + 28) n)) (octets_at log place 32)) is.count
+          (map (λ s. s.ref) (slots_at log (at + 28) n)) (octets_at log place 32)) is.count
           ∙ ap (λ (xs : List Entry). record_with r.tx.ts xs (bl_at log at)
-              (map (λ s. s.ref) (slots_at log (at + 28) (length r.tx.entries))) (octets_at log place 32)) pass.1
+          (map (λ s. s.ref) (slots_at log (at + 28) (length r.tx.entries))) (octets_at log place 32)) pass.1
           ∙ ap (λ (xs : List ValueRef). record_with r.tx.ts r.tx.entries (bl_at log at) xs (octets_at log place 32)) pass.2
           ∙ ap (λ (n : ℕ). record_with r.tx.ts r.tx.entries n r.refs (octets_at log place 32)) is.bl
           ∙ ap (λ (xs : List ℕ). record_with r.tx.ts r.tx.entries r.tx.bl r.refs xs) is.alh;
