@@ -5,5 +5,6 @@ pub mod LengthLemmas
 pub mod NumberLemmas
 pub mod PassLemmas
 pub mod SlotLemmas
+pub mod SoundLemmas
 pub mod ThereLemmas
 pub mod WrittenLemmas

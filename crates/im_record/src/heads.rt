@@ -18,8 +18,14 @@ pub struct Head {
     pub count: u32,
 }
 
-/// Reads `ID 8 | Ts 8 | BlTxID 8 | entry count 4` of transaction `id` at a place of the transaction log, where
-/// the tree of the transaction before had `least_bl` leaves. It takes no memory.
+/// Reads the head of the record of transaction `id` at a place of the transaction log, where the tree of the
+/// transaction before had `least_bl` leaves:
+///
+/// ```text
+/// record    = ID 8 | Ts 8 | BlTxID 8 | entry count 4 | {entry} | Alh 32
+/// ```
+///
+/// It takes no memory.
 ///
 /// # Errors
 ///

@@ -3,10 +3,12 @@
 ghost use Rattle.std.specs.Prelude.{◌≡◌, ◌<◌, ◌≤◌, ◌+◌, ◌^◌, ◌++◌, ℕ, List, [], length, Ok};
 ghost use Rattle.im_digest.specs.Digests.{Hash};
 ghost use Rattle.im_disk.specs.Disk.{Files};
+ghost use Rattle.im_model.specs.History.{IsHistory, transaction_of};
+ghost use Rattle.im_model.specs.declared.transactions.Transaction.{Transaction};
 ghost use Rattle.im_mtree.specs.Checks.{first_fail};
 ghost use Rattle.im_format.specs.Damages.{alh_checks, head_checks, slot_checks, slots_checks};
 ghost use Rattle.im_format.specs.Reading.{alh_place, count_at, slot_at};
-ghost use Rattle.im_format.specs.Records.{record_octets};
+ghost use Rattle.im_format.specs.Records.{IsRecord, record_octets};
 ghost use Rattle.im_format.specs.declared.records.Record.{Record};
 ghost use Rattle.im_record.specs.Slots.{HaveLengths, slot_checks_by};
 ghost use Rattle.im_record.specs.Back.{AreOctets, FitsRecord, HasAt, Holds, IsReadAs, IsSound, IsWritten, Passes, record_in};
@@ -20,6 +22,11 @@ pub fn octets_stand_where_they_are_put()
 pub fn a_record_is_read_back()
     ensures held { (log : List ℕ) (at id : ℕ) (r : Record) → FitsRecord id r → HasAt log at (record_octets id r) → IsReadAs log at id r }
     ensures put { (before rest : List ℕ) (id : ℕ) (r : Record) → FitsRecord id r → IsReadAs (before ++ record_octets id r ++ rest) (length before) id r }
+{}
+
+/// The records of a history are within the limits of one.
+pub fn records_of_a_history_are_sound()
+    ensures { (hash : Hash) (history : List Transaction) (id : ℕ) (r : Record) → ((octets : List ℕ) → length (hash octets) ≡ 32) → IsHistory history → 1 ≤ id → id ≤ length history → r.tx ≡ transaction_of history id → IsRecord hash history id r → IsSound hash id r }
 {}
 
 /// The numbers of a history's record fit their fields.

@@ -25,9 +25,14 @@ pub struct Slot<'a> {
 }
 
 /// Reads an entry of transaction `id` at a place of the transaction log:
-/// `mdLen 2 | md | keyLen 2 | key | hVal 32 | value length 4 | log 1 | place 8`. `logs` are the lengths of
-/// the value logs 0 to 3. The entry's key joins those of the entries before it. The value itself isn't looked
-/// at.
+///
+/// ```text
+/// entry     = mdLen 2 | md | keyLen 2 | key | reference
+/// reference = hVal 32 | value length 4 | log 1 | place 8
+/// ```
+///
+/// `logs` are the lengths of the value logs 0 to 3. The entry's key joins those of the entries before it. The
+/// value itself isn't looked at.
 ///
 /// # Errors
 ///
@@ -45,6 +50,7 @@ pub fn read_slot<'a>(
     requires few { id < 2 ^ 42 }
     ensures slot { IfOk result (IsSlot log.now at) }
     ensures md { IfOk result (λ slot. AreAttributes slot.md.now) }
+    ensures two { IfOk result (λ slot. length slot.md.now ≤ 2) }
     ensures given { IfOk result (λ slot. 1 ≤ length slot.key.now) }
     ensures short { IfOk result (λ slot. length slot.key.now ≤ 1024) }
     ensures lies { IfOk result (λ slot. Lies logs.now id slot.value) }

@@ -1,4 +1,5 @@
-ghost use Rattle.std.specs.Prelude.{◌≤◌, ◌<◌, length};
+ghost use Rattle.std.specs.Prelude.{◌≤◌, ◌<◌, length, All, IfOk};
+ghost use Rattle.im_record.specs.Writing.{IsWhole};
 
 use crate::alhs::read_alh;
 use crate::errors::ReadError;
@@ -46,6 +47,7 @@ fn digest_of(last: u8) -> D32 {
 
 fn record_of(alloc: Global, md: &[u8]) -> Result<Record, AllocError>
     requires { length md.now ≤ 2 }
+    ensures { IfOk result IsWhole }
 {
     let entry = Entry {
         md: Metadata::new(Octets::from_slice(alloc, md)?),
@@ -75,26 +77,37 @@ fn a_record_is_written_behind_what_is_there(rt: HostRuntime) -> Result<(), Fail>
     let record = record_of(alloc, &[])?;
     let mut out = vec![in alloc; 9u8]?;
     push_record(&mut out, 1, &record)?;
-    assert!(rt; out.len() == 111);
-    assert!(rt; out.as_slice()[0] == 9);
-    assert!(rt; &out.as_slice()[1..] == RECORD.as_slice());
+    let mut known = vec![in alloc; 9u8]?;
+    known.extend_from_slice(&RECORD)?;
+    assert!(rt; out.as_slice() == known.as_slice());
     Ok(())
 }
 
-// The second record of a batch has the next ID, and the attributes 00 and 02 stand behind their number.
+// Two records, the second with both attributes.
+fn two_records(alloc: Global) -> Result<Vec<Record>, AllocError>
+    ensures all { IfOk result (λ records. All IsWhole records.items) }
+    ensures few { IfOk result (λ records. length records.items ≤ 2) }
+{
+    let first = record_of(alloc, &[])?;
+    let second = record_of(alloc, &[0, 2])?;
+    let mut records = Vec::new(alloc);
+    records.push(first)?;
+    records.push(second)?;
+    Ok(records)
+}
+
+// The second record of a batch has the next ID, and its attributes 00 and 02 stand behind their number.
 #[test]
 fn records_follow_each_other(rt: HostRuntime) -> Result<(), Fail> {
     let alloc = rt.alloc();
-    let mut records = Vec::new(alloc);
-    records.push(record_of(alloc, &[])?)?;
-    records.push(record_of(alloc, &[0, 2])?)?;
+    let records = two_records(alloc)?;
     let octets = records_octets(alloc, 1, records.as_slice())?;
-    assert!(rt; octets.len() == 222);
-    assert!(rt; &octets.as_slice()[..110] == RECORD.as_slice());
-    assert!(rt; &octets.as_slice()[110..118] == [0, 0, 0, 0, 0, 0, 0, 2].as_slice());
-    assert!(rt; octets.as_slice()[118..138] == RECORD[8..28]);
-    assert!(rt; &octets.as_slice()[138..142] == [0, 2, 0, 2].as_slice());
-    assert!(rt; octets.as_slice()[142..] == RECORD[30..]);
+    let mut known = Vec::from_slice(alloc, &RECORD)?;
+    known.extend_from_slice(&[0, 0, 0, 0, 0, 0, 0, 2])?;
+    known.extend_from_slice(&RECORD[8..28])?;
+    known.extend_from_slice(&[0, 2, 0, 2])?;
+    known.extend_from_slice(&RECORD[30..])?;
+    assert!(rt; octets.as_slice() == known.as_slice());
     Ok(())
 }
 
@@ -172,11 +185,16 @@ fn metadata_and_key_are_judged_in_order(rt: HostRuntime) {
     let alloc = rt.alloc();
     assert!(rt; slot_damage(alloc, &RECORD[..29]) == damaged(28, 30, 29));
     assert!(rt; slot_damage(alloc, &spoilt(29, 3)) == damaged(28, 2, 3));
-    assert!(rt; slot_damage(alloc, &spoilt(29, 2)[..31]) == damaged(30, 32, 31));
     assert!(rt; slot_damage(alloc, &RECORD[..31]) == damaged(30, 32, 31));
     assert!(rt; slot_damage(alloc, &spoilt(31, 0)) == damaged(30, 1, 0));
     assert!(rt; slot_damage(alloc, &spoilt(30, 4)) == damaged(30, 1024, 1025));
     assert!(rt; slot_damage(alloc, &RECORD[..32]) == damaged(32, 33, 32));
+}
+
+#[test]
+fn metadata_ends_within_the_log(rt: HostRuntime) {
+    let long = spoilt(29, 2);
+    assert!(rt; slot_damage(rt.alloc(), &long[..31]) == damaged(30, 32, 31));
 }
 
 // What is wrong with an entry at place 0 that begins with these octets, which are its metadata.

@@ -9,8 +9,7 @@ use im_model::transactions::Transaction;
 use im_octet::fields::{eight, four, signed_eight, two};
 use std::alloc::{AllocError, Global};
 
-/// The octets of records that follow each other, from this ID on.
-/// The room for all of them is taken first.
+/// The octets of records that follow each other, from this ID on. The room for all of them is taken first.
 pub fn records_octets(alloc: Global, id: u64, records: &[Record]) -> Result<Vec<u8>, AllocError>
     requires whole { All IsWhole records.now }
     requires few { id + length records.now < 2 ^ 64 }
@@ -39,7 +38,15 @@ fn room_for(records: &[Record]) -> usize {
     room
 }
 
-/// Adds the record of transaction `id`: `head | the entries | Alh 32`.
+/// Adds the record of transaction `id`:
+///
+/// ```text
+/// record    = ID 8 | Ts 8 | BlTxID 8 | entry count 4 | {entry} | Alh 32
+/// entry     = mdLen 2 | md | keyLen 2 | key | reference
+/// reference = hVal 32 | value length 4 | log 1 | place 8
+/// ```
+///
+/// Where memory is short, a part of the record may have been added.
 #[tactic(auto, unfolding(im_format::specs::Records::record_octets))]
 pub fn push_record(out: &mut Vec<u8>, id: u64, kept: &Record) -> Result<(), AllocError>
     requires { IsWhole kept.now }
