@@ -1,0 +1,10 @@
+pub mod AtLemmas
+pub mod BackLemmas
+pub mod FailLemmas
+pub mod LengthLemmas
+pub mod NumberLemmas
+pub mod PassLemmas
+pub mod SlotLemmas
+pub mod SoundLemmas
+pub mod ThereLemmas
+pub mod WrittenLemmas
