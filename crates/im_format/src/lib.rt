@@ -8,3 +8,5 @@ pub mod damages;
 pub mod records;
 pub mod references;
 pub mod spans;
+#[cfg(test)]
+mod tests;
