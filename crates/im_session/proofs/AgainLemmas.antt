@@ -1,5 +1,5 @@
 -- Each reply that is a message is read as that message, and so are those of a whole report.
-use Rattle.std.proofs.Common.{◌≡◌, ◌<◌, ◌≤◌, length, ℕ, ◌+◌, ℤ, List, [], ◌∷◌, ◌++◌, map, take, refl, arith, ap, subst, ◌∙◌, sym, get_or, length-append, append-nil, All, Option, Some, None, false, unwrap_or}
+use Rattle.std.proofs.Common.{◌≡◌, ◌≤◌, length, ℕ, ◌+◌, ℤ, List, [], ◌∷◌, ◌++◌, map, take, refl, arith, ap, subst, ◌∙◌, sym, get_or, length-append, append-nil, All, Option, Some, None, false, unwrap_or}
 use Rattle.std.specs.List.{flat_map}
 use Rattle.std.proofs.Math.Seq.{take-length}
 use Rattle.std.proofs.lemmas.Bool.{both_ways}
