@@ -1,5 +1,5 @@
 -- The octets of a record are read as that record.
-use Rattle.std.proofs.Common.{◌≡◌, ◌<◌, ◌≤◌, ◌+◌, ◌^◌, ℕ, ℤ, FitsSigned, suc, zero, List, [], ◌∷◌, ◌++◌, length, arith, refl, sym, ◌∙◌, ap, subst, length-append}
+use Rattle.std.proofs.Common.{◌≡◌, ◌<◌, ◌+◌, ◌^◌, ℕ, FitsSigned, List, [], ◌∷◌, ◌++◌, length, arith, sym, ◌∙◌, ap, subst, length-append}
 use Rattle.std.specs.Prelude.{All, slice_index_or}
 use Rattle.std.specs.Int.{w64}
 use Rattle.std.proofs.lemmas.List.Elements.{All-tail}

@@ -1,5 +1,5 @@
 -- The checks of an entry by the lengths of the value logs.
-use Rattle.std.proofs.Common.{◌≡◌, ◌≤◌, ◌<◌, ◌+◌, ◌-◌, ◌*◌, ◌^◌, ℕ, Bool, true, false, List, [], ◌∷◌, ◌++◌, length, refl, ap, sym, ◌∙◌, arith, inl, inr, Result, Ok, Err}
+use Rattle.std.proofs.Common.{◌≡◌, ◌≤◌, ◌+◌, ◌-◌, ◌*◌, ◌^◌, ℕ, Bool, false, List, [], ◌∷◌, ◌++◌, length, ap, sym, ◌∙◌, inl, inr}
 use Rattle.std.specs.Prelude.{nat_le, slice_index_or}
 use Rattle.std.proofs.lemmas.Bool.{cases_lt, lt-leb}
 use Rattle.im_disk.specs.Disk.{Files}
@@ -8,7 +8,7 @@ use Rattle.im_format.specs.Damages.{numbers, reaches, slot_checks, slot_key_chec
 use Rattle.im_format.specs.Reading.{Slot, slot_at}
 use Rattle.im_format.specs.declared.damages.Damage.{Damage}
 use Rattle.im_format.specs.declared.references.ValueRef.{ValueRef}
-use Rattle.im_record.specs.Slots.{HaveLengths, ref_at, ref_part, slot_checks_by}
+use Rattle.im_record.specs.Slots.{HaveLengths, ref_part, slot_checks_by}
 use Rattle.im_record.proofs.FailLemmas.{fail_both, then_check}
 
 -- the checks of a reference of transaction id, where its log is one, and has so many octets

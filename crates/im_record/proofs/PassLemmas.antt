@@ -1,23 +1,21 @@
 -- The octets of a record of a history pass the checks that they are read by.
-use Rattle.std.proofs.Common.{◌≡◌, ◌≢◌, ◌<◌, ◌≤◌, ◌+◌, ◌-◌, ◌*◌, ◌^◌, ℕ, ℤ, suc, zero, Bool, true, false, List, [], ◌∷◌, ◌++◌, length, map, arith, refl, sym, ◌∙◌, ap, subst, length-append, get_or, lit≤, Result, Ok, Err, nat_eq, nat_lt, if◌then◌else◌}
-use Rattle.std.specs.Prelude.{All, AllPairs, bytes_eq, nat_le, slice_index_or}
+use Rattle.std.proofs.Common.{◌≡◌, ◌≢◌, ◌<◌, ◌≤◌, ◌+◌, ◌-◌, ◌*◌, ◌^◌, ℕ, ℤ, suc, Bool, true, false, List, [], ◌∷◌, ◌++◌, length, map, arith, refl, sym, ◌∙◌, ap, subst, length-append, get_or, lit≤, Ok, if◌then◌else◌}
+use Rattle.std.specs.Prelude.{All, AllPairs, bytes_eq}
 use Rattle.std.proofs.lemmas.Bool.{eq-eqb, le-leb, false_from_ne_true}
 use Rattle.std.proofs.lemmas.List.Elements.{All-cons, All-tail}
 use Rattle.std.proofs.lemmas.Slice.Eq.{bytes_eq-Decides}
 use Rattle.im_digest.specs.Digests.{Hash}
 use Rattle.im_disk.specs.Disk.{Files}
 use Rattle.im_model.specs.Entries.{attributes}
-use Rattle.im_model.specs.History.{IsEntry, IsTransaction}
+use Rattle.im_model.specs.History.{IsEntry}
 use Rattle.im_model.specs.declared.entries.Entry.{Entry}
-use Rattle.im_model.specs.declared.transactions.Transaction.{Transaction}
-use Rattle.im_mtree.specs.Checks.{Check, first_fail}
+use Rattle.im_mtree.specs.Checks.{first_fail}
 use Rattle.im_format.specs.Batches.{entries_spans, value_span}
 use Rattle.im_format.specs.Damages.{alh_checks, head_checks, index_of, md_checks, slot_checks, slot_key_checks, slot_md_checks, slot_ref_checks, slots_checks, value_check}
 use Rattle.im_format.specs.Reading.{Slot, bl_at, count_at, entry_in, number8, slot_at, slots_at, slots_end, value_at}
 use Rattle.im_format.specs.Records.{AreReferences, IsReference, entries_octets, entry_octets, head_octets, record_octets}
 use Rattle.im_format.specs.Spans.{Reads, octets_at}
 use Rattle.im_format.specs.Standing.{LiesIn}
-use Rattle.im_format.specs.declared.damages.Damage.{Damage}
 use Rattle.im_format.specs.declared.records.Record.{Record}
 use Rattle.im_format.specs.declared.references.ValueRef.{ValueRef}
 use Rattle.im_record.specs.Back.{FitsEntry, FitsRecord, FitsRef, HasAt, Holds, IsEntryOf, IsReadAs, IsSound, Passes}

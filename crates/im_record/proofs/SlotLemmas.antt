@@ -1,5 +1,5 @@
 -- The checks of an entry as those of its parts.
-use Rattle.std.proofs.Common.{◌≡◌, ℕ, ◌+◌, List, ◌++◌, refl, ap, sym, ◌∙◌, subst, arith, Result, Ok, Err}
+use Rattle.std.proofs.Common.{◌≡◌, ℕ, ◌+◌, List, ◌++◌, refl, ap, sym, ◌∙◌, arith, Result, Ok}
 use Rattle.im_mtree.specs.Checks.{Check, first_fail}
 use Rattle.im_format.specs.Damages.{slot_key_checks, slot_md_checks}
 use Rattle.im_format.specs.Reading.{number2, slot_at}

@@ -1,7 +1,7 @@
 -- Numbers that are read stand as fields where they are read.
-use Rattle.std.proofs.Common.{◌≡◌, ◌<◌, ◌≤◌, ◌+◌, ◌^◌, ℕ, ℤ, FitsSigned, List, [], ◌∷◌, ◌++◌, length, take, drop, min, arith, refl, sym, ◌∙◌, ap, get_or, subst, inl, inr, drop-cons, Fits-lit}
+use Rattle.std.proofs.Common.{◌≡◌, ◌<◌, ◌≤◌, ◌+◌, ◌^◌, ℕ, FitsSigned, List, [], ◌∷◌, length, take, drop, arith, refl, sym, ◌∙◌, ap, get_or, subst, inl, inr, drop-cons}
 use Rattle.std.specs.Prelude.{slice_index_or}
-use Rattle.std.specs.Int.{w16, w32, w64, to_be_bytes, from_be_bytes, cast_signed, cast_unsigned}
+use Rattle.std.specs.Int.{w64, to_be_bytes, cast_signed, cast_unsigned}
 use Rattle.std.proofs.Math.Facts.{sfits_to_z}
 use Rattle.std.proofs.lemmas.Bool.{cases_lt}
 use Rattle.std.proofs.lemmas.Int.{of_z-to_z}
@@ -11,7 +11,7 @@ use Rattle.im_octet.specs.Fields.{field2, field4, field8, signed_field8}
 use Rattle.im_format.specs.Reading.{number2, number4, number8}
 use Rattle.im_format.specs.Spans.{octets_at}
 use Rattle.im_record.specs.Back.{AreOctets, HasAt}
-use Rattle.im_record.proofs.AtLemmas.{length-field2, length-field4, length-field8, length-signed}
+use Rattle.im_record.proofs.AtLemmas.{length-field2, length-field4, length-field8}
 
 -- so many octets of a log, where it reaches that far
 pub length-octets_at : (log : List ℕ) (at n : ℕ) → at + n ≤ length log → length (octets_at log at n) ≡ n

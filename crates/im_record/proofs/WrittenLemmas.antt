@@ -1,36 +1,35 @@
 -- What passes the checks of a record is the octets of a record of a history, with its values.
-use Rattle.std.proofs.Common.{◌≡◌, ◌≢◌, ◌<◌, ◌≤◌, ◌+◌, ◌-◌, ◌*◌, ◌^◌, ℕ, ℤ, suc, zero, Bool, true, false, List, [], ◌∷◌, ◌++◌, length, map, arith, refl, sym, ◌∙◌, ap, subst, length-append, get_or, inl, inr, Result, Ok, Err, nat_eq, if◌then◌else◌, FitsSigned, ◌&&◌, ◌||◌}
-use Rattle.std.specs.Prelude.{All, AllPairs, bytes_eq, nat_le, slice_index_or}
+use Rattle.std.proofs.Common.{◌≡◌, ◌≢◌, ◌<◌, ◌≤◌, ◌+◌, ◌-◌, ◌*◌, ◌^◌, ℕ, ℤ, suc, zero, Bool, true, false, List, [], ◌∷◌, ◌++◌, length, map, arith, refl, sym, ◌∙◌, ap, subst, length-append, get_or, inl, inr, Ok, nat_eq, if◌then◌else◌, ◌&&◌, ◌||◌}
+use Rattle.std.specs.Prelude.{All, AllPairs}
 use Rattle.std.proofs.lemmas.Bool.{cases_eq, cases_lt, eqb-true, leb-true, ne_eqb}
 use Rattle.std.proofs.lemmas.List.{length-map}
-use Rattle.std.proofs.lemmas.List.Elements.{All-cons, All-tail}
+use Rattle.std.proofs.lemmas.List.Elements.{All-cons}
 use Rattle.std.proofs.lemmas.List.Kept.{AllPairs-cons}
 use Rattle.std.proofs.lemmas.Slice.Eq.{bytes_eq-Decides}
 use Rattle.im_octet.specs.Fields.{field2, field4, field8, signed_field8}
 use Rattle.im_digest.specs.Digests.{Hash}
 use Rattle.im_disk.specs.Disk.{Files}
-use Rattle.im_model.specs.Entries.{attributes}
-use Rattle.im_model.specs.History.{IsEntry, IsTransaction}
+use Rattle.im_model.specs.History.{IsEntry}
 use Rattle.im_model.specs.declared.entries.Entry.{Entry}
 use Rattle.im_model.specs.declared.transactions.Transaction.{Transaction}
 use Rattle.im_mtree.specs.Checks.{Check, first_fail}
 use Rattle.im_format.specs.Batches.{entries_spans, value_span}
 use Rattle.im_format.specs.Damages.{alh_checks, head_checks, index_of, md_checks, slot_checks, slot_key_checks, slot_md_checks, slot_ref_checks, slots_checks, value_check}
-use Rattle.im_format.specs.Reading.{Slot, alh_place, bl_at, count_at, entry_in, number2, number4, number8, record_end, slot_at, slots_at, slots_end, transaction_in, ts_at, value_at}
+use Rattle.im_format.specs.Reading.{Slot, alh_place, bl_at, count_at, entry_in, number2, number8, slot_at, slots_at, slots_end, ts_at, value_at}
 use Rattle.im_format.specs.Records.{AreReferences, IsReference, entries_octets, entry_octets, head_octets, record_octets, reference_octets}
 use Rattle.im_format.specs.Spans.{Reads, octets_at}
 use Rattle.im_format.specs.Standing.{LiesIn}
 use Rattle.im_format.specs.declared.damages.Damage.{Damage}
 use Rattle.im_format.specs.declared.records.Record.{Record}
 use Rattle.im_format.specs.declared.references.ValueRef.{ValueRef}
-use Rattle.im_record.specs.Back.{AreOctets, HasAt, Holds, IsSound, IsWritten, record_in}
+use Rattle.im_record.specs.Back.{AreOctets, HasAt, IsWritten, record_in}
 use Rattle.im_record.specs.Slots.{AreAttributes, ref_at}
-use Rattle.im_record.proofs.AtLemmas.{HasAt-both, HasAt-moved, HasAt-within, length-field2, length-field4, length-field8, length-signed}
-use Rattle.im_record.proofs.BackLemmas.{length-entry, length-head, length-reference}
+use Rattle.im_record.proofs.AtLemmas.{HasAt-both, HasAt-moved, length-field2, length-field4, length-field8, length-signed}
+use Rattle.im_record.proofs.BackLemmas.{length-entry, length-head}
 use Rattle.im_record.proofs.FailLemmas.{AllHold, all-hold, each-holds}
 use Rattle.im_record.proofs.NumberLemmas.{Put, put}
-use Rattle.im_record.proofs.PassLemmas.{IsFineSlot, slot-start}
-use Rattle.im_record.proofs.ThereLemmas.{HasAt-number2, HasAt-number4, HasAt-number8, HasAt-octet, HasAt-octets, HasAt-signed, length-octets_at, number8-fits, signed-fits}
+use Rattle.im_record.proofs.PassLemmas.{IsFineSlot}
+use Rattle.im_record.proofs.ThereLemmas.{HasAt-number2, HasAt-number4, HasAt-number8, HasAt-octet, HasAt-octets, HasAt-signed, length-octets_at, signed-fits}
 
 -- both tests
 and-both : (a b : Bool) → (a && b) ≡ true → (a ≡ true) × (b ≡ true)

@@ -1,12 +1,11 @@
 -- What the octets of a record are read as.
-use Rattle.std.specs.Prelude.{◌≡◌, ◌≤◌, ◌<◌, ◌+◌, ◌*◌, ◌^◌, ◌-◌, ℕ, List, [], ◌∷◌, ◌++◌, length, All, FitsSigned, Ok, map, slice_index_or}
+use Rattle.std.specs.Prelude.{◌≡◌, ◌≤◌, ◌<◌, ◌+◌, ◌^◌, ◌-◌, ℕ, List, [], ◌∷◌, length, All, FitsSigned, Ok, map, slice_index_or}
 use Rattle.std.specs.Int.{w64}
 use Rattle.im_digest.specs.Digests.{Hash}
 use Rattle.im_disk.specs.Disk.{Files}
 use Rattle.im_model.specs.History.{IsTransaction}
 use Rattle.im_mtree.specs.Checks.{first_fail}
 use Rattle.im_model.specs.declared.entries.Entry.{Entry}
-use Rattle.im_model.specs.declared.transactions.Transaction.{Transaction}
 use Rattle.im_format.specs.Batches.{entries_spans}
 use Rattle.im_format.specs.Damages.{alh_checks, head_checks, slots_checks}
 use Rattle.im_format.specs.Reading.{Slot, alh_place, bl_at, count_at, number8, record_end, slots_at, slots_end, transaction_in, ts_at}

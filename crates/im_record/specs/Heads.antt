@@ -1,5 +1,5 @@
 -- What a record begins with, as it is read.
-use Rattle.std.specs.Prelude.{ℕ, ◌≤◌, ◌-◌, ◌+◌, ◌∷◌, [], nat_le, List}
+use Rattle.std.specs.Prelude.{ℕ, ◌-◌, ◌∷◌, [], nat_le, List}
 use Rattle.im_mtree.specs.Checks.{Check}
 use Rattle.im_format.specs.Damages.{numbers, reaches, from_one}
 use Rattle.im_format.specs.Reading.{ts_at, bl_at, count_at, number4, number8}

@@ -1,5 +1,5 @@
 -- The entries of a record as they are read, where the value logs have known lengths.
-use Rattle.std.specs.Prelude.{◌≡◌, ℕ, ◌+◌, ◌-◌, ◌*◌, ◌^◌, ◌≤◌, Bool, List, [], ◌∷◌, ◌++◌, Result, Ok, Err, length, nat_eq, nat_le, slice_index_or}
+use Rattle.std.specs.Prelude.{◌≡◌, ℕ, ◌+◌, ◌-◌, ◌*◌, ◌^◌, ◌≤◌, Bool, List, [], ◌∷◌, ◌++◌, Err, length, nat_eq, nat_le, slice_index_or}
 use Rattle.im_disk.specs.Disk.{Files}
 use Rattle.im_model.specs.Entries.{attributes}
 use Rattle.im_mtree.specs.Checks.{Check, first_fail}

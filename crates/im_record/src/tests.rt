@@ -191,12 +191,6 @@ fn metadata_and_key_are_judged_in_order(rt: HostRuntime) {
     assert!(rt; slot_damage(alloc, &RECORD[..32]) == damaged(32, 33, 32));
 }
 
-#[test]
-fn metadata_ends_within_the_log(rt: HostRuntime) {
-    let long = spoilt(29, 2);
-    assert!(rt; slot_damage(rt.alloc(), &long[..31]) == damaged(30, 32, 31));
-}
-
 // What is wrong with an entry at place 0 that begins with these octets, which are its metadata.
 fn md_damage(alloc: Global, log: &[u8]) -> Option<ReadError> {
     let mut keys = Keys::new(alloc);
@@ -206,6 +200,7 @@ fn md_damage(alloc: Global, log: &[u8]) -> Option<ReadError> {
 #[test]
 fn attributes_stand_in_rising_order(rt: HostRuntime) {
     let alloc = rt.alloc();
+    assert!(rt; md_damage(alloc, &[0, 2, 0]) == damaged(2, 4, 3));
     assert!(rt; md_damage(alloc, &[0, 1, 5]) == damaged(2, 0, 5));
     assert!(rt; md_damage(alloc, &[0, 2, 1, 2]) == damaged(2, 0, 1));
     assert!(rt; md_damage(alloc, &[0, 2, 0, 3]) == damaged(3, 2, 3));

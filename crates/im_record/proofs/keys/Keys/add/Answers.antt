@@ -1,4 +1,4 @@
-use Rattle.std.proofs.Common.{◌≡◌, ℕ, List, [], ◌∷◌, ◌++◌, arith, sym, subst, length}
+use Rattle.std.proofs.Common.{◌≡◌, ℕ, List, arith, sym, subst, length}
 use Rattle.std.proofs.lemmas.Map.Text.{btree_map_updates_str}
 use Rattle.im_format.specs.Damages.{index_of}
 use Rattle.im_record.specs.Keys.{AreNumbered, lent}
