@@ -1,4 +1,7 @@
 pub mod Causes
 pub mod Disk
+pub mod Fused
 pub mod Moments
+pub mod Recorded
 pub mod Records
+pub mod Stored
