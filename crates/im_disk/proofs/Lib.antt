@@ -1,2 +1,3 @@
+pub mod Burning
 pub mod Leaving
 pub mod Recording

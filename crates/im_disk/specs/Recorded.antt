@@ -1,5 +1,5 @@
 -- A disk in memory, by what it records.
-use Rattle.std.specs.Prelude.{◌≡◌, ℕ, ◌+◌, ◌-◌, ◌^◌, ◌==◌, min, Bool, IsTrue, IsFalse, List, [], ◌∷◌, ◌++◌, length, Result, OnOk, IsErrOf}
+use Rattle.std.specs.Prelude.{◌≡◌, ℕ, ◌+◌, ◌-◌, ◌^◌, ◌==◌, min, Bool, true, false, IsTrue, IsFalse, List, [], ◌∷◌, ◌++◌, length, Result, OnOk, IsErrOf}
 use Rattle.std.specs.List.{list_any}
 use Rattle.im_disk.specs.declared.calls.Call.{Call}
 use Rattle.im_disk.specs.declared.calls.Call.TheVariants.{Wrote, Tore, Synced, Missed}
@@ -42,9 +42,9 @@ pub record Changes {T : Type 0} (good bad : Call) (before now : Recorded) (resul
   pub failed : IsErrOf result Failed → IsTrue (fails_next before) × (now ≡ with_failure bad before)
   pub memory : IsErrOf result Memory → now ≡ before
 
--- a call that failed
-abbrev pub IsFailure : Call → Type 0
-IsFailure (Wrote file at piece) = ⊥
-IsFailure (Tore file at n) = Unit {0}
-IsFailure Synced = ⊥
-IsFailure Missed = Unit {0}
+-- whether a call failed
+abbrev pub is_failure : Call → Bool
+is_failure (Wrote file at piece) = false
+is_failure (Tore file at n) = true
+is_failure Synced = false
+is_failure Missed = true

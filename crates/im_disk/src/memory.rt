@@ -2,7 +2,7 @@ ghost use Rattle.std.specs.Prelude.{◌≡◌, ◌≤◌, ◌<◌, ◌+◌, ◌^
 ghost use Rattle.im_disk.specs.declared.disk.DiskError.TheVariants.{Failed, Memory};
 ghost use Rattle.im_disk.specs.Disk.{seen};
 ghost use Rattle.im_disk.specs.Records.{files_of, AreWithin, FitsBehind};
-ghost use Rattle.im_disk.specs.Recorded.{unchanged, told_by, fails_next, with_failure, IsFailure};
+ghost use Rattle.im_disk.specs.Recorded.{unchanged, told_by, fails_next, with_failure, is_failure};
 
 use crate::calls::Call;
 use crate::content::Content;
@@ -119,7 +119,7 @@ impl MemDisk {
     // Records a call that failed, and counts it.
     fn fail(&mut self, call: Call) -> DiskError
         requires fits { FitsBehind (files_of self.old.first) (reverse self.old.calls) call }
-        requires failure { IsFailure call }
+        requires failure { IsTrue (is_failure call) }
         ensures failed { result ≡ Failed → self.new ≡ with_failure call self.old }
         ensures memory { result ≡ Memory → self.new ≡ self.old }
     {
