@@ -5,6 +5,7 @@
 pub mod calls;
 mod content;
 pub mod disk;
+pub mod folder;
 pub mod fuse;
 pub mod memory;
 pub mod no_disk;
