@@ -7,6 +7,7 @@ mod content;
 pub mod disk;
 pub mod folder;
 pub mod fuse;
+pub mod laws;
 pub mod memory;
 pub mod no_disk;
 #[cfg(test)]
