@@ -1,3 +1,4 @@
+pub mod Brought
 pub mod Causes
 pub mod Disk
 pub mod Fused

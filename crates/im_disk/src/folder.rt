@@ -1,8 +1,9 @@
-ghost use Rattle.std.specs.Prelude.{◌≡◌, ◌<◌, ◌≤◌, ◌+◌, ◌↔◌, true, IsTrue, IsOk, IfErr, OnOk, slice_index_or, false};
+ghost use Rattle.std.specs.Prelude.{◌≡◌, ◌<◌, ◌≤◌, ◌+◌, ◌↔◌, true, IsTrue, IsOk, IsErr, IfErr, OnOk, IsFalse, slice_set, slice_index_or, false};
 ghost use Rattle.std.specs.IoError.{error_kind};
 ghost use Rattle.std.specs.declared.io.ErrorKind.TheVariants.{OutOfMemory};
 ghost use Rattle.im_disk.specs.declared.disk.DiskError.TheVariants.{Failed, Memory};
 ghost use Rattle.im_disk.specs.Causes.{HasCause};
+ghost use Rattle.im_disk.specs.Brought.{AllBrought};
 
 use crate::disk::{Disk, DiskError};
 use im_edge::sink::{Writing, write_all};
@@ -14,7 +15,8 @@ use std::{fs, io};
 
 /// A disk over the files of a folder, which are named by their numbers: `0`, `1` and so on. It opens
 /// a file at each call that needs it, and makes files and the folder only to write; what isn't there
-/// is empty. A read past a file's end fails, and so does a write behind it. Nothing is tried again.
+/// is empty. A read past a file's end fails, and so does a write behind it. Nothing is tried again;
+/// once the system couldn't bring something to the disk, no later sync succeeds.
 /// It tells no content, and no clause says what the files hold.
 #[derive(Drop)]
 pub struct FolderDisk<'a, R> {
@@ -35,6 +37,8 @@ struct Unsynced {
     names: bool,
     // Whether the folder was made.
     folder: bool,
+    // Whether the system couldn't bring something to the disk.
+    lost: bool,
 }
 
 impl<'a, R: Files> FolderDisk<'a, R> {
@@ -53,6 +57,7 @@ impl<'a, R: Files> FolderDisk<'a, R> {
                 files: [true; 16],
                 names: true,
                 folder: true,
+                lost: false,
             },
         }
     }
@@ -134,30 +139,85 @@ impl<'a, R: Files> FolderDisk<'a, R> {
     // Each file before the folder that names it.
     fn bring_all(&mut self) -> Result<(), DiskError>
         ensures failures { self.new.failures ≡ self.old.failures }
+        ensures lost { IsTrue self.old.unsynced.lost → IsErr result }
+        ensures all { OnOk result (AllBrought self.new.unsynced) }
     {
+        if self.unsynced.lost {
+            return Err(DiskError::Failed);
+        }
         for file in 0..16u8 {
-            if self.unsynced.files[file as usize] {
-                if let Some(opened) = self.opened(OpenOptions::new().read(true), file)? {
-                    opened.sync_data()?;
-                }
-                self.unsynced.files[file as usize] = false;
-            }
+            self.bring_file(file)?;
         }
         self.bring_names()
     }
 
+    // Brings a file to the disk, where it was written and is there.
+    fn bring_file(&mut self, file: u8) -> Result<(), DiskError>
+        requires { file < 16 }
+        ensures failures { self.new.failures ≡ self.old.failures }
+        ensures files { OnOk result
+            (self.new.unsynced.files ≡ slice_set self.old.unsynced.files file false) }
+    {
+        if self.unsynced.files[file as usize] {
+            if let Some(opened) = self.opened(OpenOptions::new().read(true), file)? {
+                let answer = opened.sync_data();
+                self.brought(answer)?;
+            }
+        }
+        self.unsynced.files[file as usize] = false;
+        Ok(())
+    }
+
+    // Brings to the disk which files the folder has, and which folders its own folder has.
     fn bring_names(&mut self) -> Result<(), DiskError>
         ensures failures { self.new.failures ≡ self.old.failures }
+        ensures files { self.new.unsynced.files ≡ self.old.unsynced.files }
+        ensures names { OnOk result (IsFalse self.new.unsynced.names) }
+        ensures folder { OnOk result (IsFalse self.new.unsynced.folder) }
     {
         if self.unsynced.names {
-            bring_folder(self.rt, self.folder)?;
+            self.bring_folder(self.folder)?;
             self.unsynced.names = false;
         }
         if self.unsynced.folder {
-            bring_folder(self.rt, parent_of(self.folder))?;
+            self.bring_folder(parent_of(self.folder))?;
             self.unsynced.folder = false;
         }
         Ok(())
+    }
+
+    // Brings the names in a folder to the disk, where it's there.
+    fn bring_folder(&mut self, folder: &str) -> Result<(), DiskError>
+        ensures failures { self.new.failures ≡ self.old.failures }
+        ensures files { self.new.unsynced.files ≡ self.old.unsynced.files }
+        ensures names { self.new.unsynced.names ≡ self.old.unsynced.names }
+    {
+        match fs::open(self.rt, folder) {
+            Ok(opened) => {
+                let answer = opened.sync_all();
+                self.brought(answer)
+            }
+            Err(error) if error.kind() == ErrorKind::NotFound => Ok(()),
+            Err(error) => Err(DiskError::from(error)),
+        }
+    }
+
+    // Whether the system brought something to the disk. Where it couldn't, it may have dropped what it
+    // was to bring, so that trying again would succeed for nothing: no later sync succeeds.
+    fn brought(&mut self, answer: io::Result<()>) -> Result<(), DiskError>
+        ensures failures { self.new.failures ≡ self.old.failures }
+        ensures files { self.new.unsynced.files ≡ self.old.unsynced.files }
+        ensures names { self.new.unsynced.names ≡ self.old.unsynced.names }
+        ensures ok { IsOk result ↔ IsOk answer }
+        ensures lost { IsErr answer → IsTrue self.new.unsynced.lost }
+    {
+        match answer {
+            Ok(()) => Ok(()),
+            Err(_) => {
+                self.unsynced.lost = true;
+                Err(DiskError::Failed)
+            }
+        }
     }
 }
 
@@ -243,15 +303,6 @@ fn fill<S: Read>(reader: &mut S, buffer: &mut [u8]) -> Result<(), DiskError> {
         }
     }
     Ok(())
-}
-
-// Brings the names in a folder to the disk, where it's there.
-fn bring_folder<R: Files>(rt: &R, folder: &str) -> Result<(), DiskError> {
-    match fs::open(rt, folder) {
-        Ok(opened) => Ok(opened.sync_all()?),
-        Err(error) if error.kind() == ErrorKind::NotFound => Ok(()),
-        Err(error) => Err(DiskError::from(error)),
-    }
 }
 
 // The folder that names another one.
