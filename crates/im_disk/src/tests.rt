@@ -156,47 +156,71 @@ fn a_disk_that_burns_through(rt: HostRuntime) -> Result<(), Fail> {
     Ok(())
 }
 
-const FOLDER: &str = "im_disk_test";
-
-const FILE_1: &str = "im_disk_test/1";
-
 #[test]
-fn files_in_a_folder(rt: HostRuntime) -> Result<(), Fail> {
-    let _ = fs::remove_dir_all(&rt, FOLDER);
-    let mut disk = FolderDisk::new(&rt, rt.alloc(), FOLDER);
-    let mut buffer = [0u8; 3];
-    // Nothing is there, and looking makes nothing.
+fn a_folder_that_is_not_there(rt: HostRuntime) -> Result<(), Fail> {
+    let folder = "im_disk_missing";
+    let _ = fs::remove_dir_all(&rt, folder);
+    let mut disk = FolderDisk::new(&rt, rt.alloc(), folder);
     assert_eq!(rt; disk.len(1), Ok(0));
     assert_eq!(rt; disk.read(1, 0, &mut []), Ok(()));
     assert_eq!(rt; disk.sync(), Ok(()));
     assert_eq!(rt; disk.failures(), 0);
-    assert_eq!(rt; disk.read(1, 0, &mut buffer), Err(DiskError::Failed));
-    assert_eq!(rt; disk.write_at(1, 1, b"abc"), Err(DiskError::Failed));
+    assert_eq!(rt; disk.read(1, 0, &mut [0]), Err(DiskError::Failed));
+    assert_eq!(rt; disk.write_at(1, 1, b"a"), Err(DiskError::Failed));
     assert_eq!(rt; disk.failures(), 2);
-    assert!(rt; !fs::exists(&rt, FOLDER)?);
-    // Written, overwritten, read.
-    assert_eq!(rt; disk.write_at(1, 0, b"abcdef"), Ok(()));
-    assert_eq!(rt; disk.write_at(1, 2, b"XY"), Ok(()));
-    assert_eq!(rt; disk.write_at(1, 5, b"ghi"), Ok(()));
+    assert!(rt; !fs::exists(&rt, folder)?);
+    Ok(())
+}
+
+#[test]
+fn files_in_a_folder(rt: HostRuntime) -> Result<(), Fail> {
+    let folder = "im_disk_test";
+    let _ = fs::remove_dir_all(&rt, folder);
+    let mut disk = FolderDisk::new(&rt, rt.alloc(), folder);
+    for (at, piece) in [
+        (0, b"abcdef".as_slice()),
+        (2, b"XY".as_slice()),
+        (5, b"ghi".as_slice()),
+    ] {
+        assert_eq!(rt; disk.write_at(1, at, piece), Ok(()));
+    }
     assert_eq!(rt; disk.sync(), Ok(()));
-    assert_eq!(rt; fs::read(&rt, FILE_1)?.as_slice(), b"abXYeghi".as_slice());
+    assert_eq!(rt;
+        fs::read(&rt, "im_disk_test/1")?.as_slice(),
+        b"abXYeghi".as_slice()
+    );
     assert_eq!(rt; disk.len(1), Ok(8));
     assert_eq!(rt; three(&mut disk, 1, 2), Ok(*b"XYe"));
     assert_eq!(rt; disk.len(2), Ok(0));
-    assert_eq!(rt; disk.failures(), 2);
-    // Past the end, each counted.
-    assert_eq!(rt; disk.read(1, 6, &mut buffer), Err(DiskError::Failed));
-    assert_eq!(rt; disk.read(1, 9, &mut []), Err(DiskError::Failed));
-    assert_eq!(rt; disk.read(1, u64::MAX, &mut buffer), Err(DiskError::Failed));
-    assert_eq!(rt; disk.write_at(1, 9, b"j"), Err(DiskError::Failed));
-    assert_eq!(rt; disk.failures(), 6);
-    // Another disk over the same folder, which takes what lies there.
-    let mut again = FolderDisk::new(&rt, rt.alloc(), FOLDER);
-    assert_eq!(rt; again.len(1), Ok(8));
+    assert_eq!(rt; disk.failures(), 0);
+    // Another disk over the same folder takes what lies there.
+    let mut again = FolderDisk::new(&rt, rt.alloc(), folder);
     assert_eq!(rt; three(&mut again, 1, 5), Ok(*b"ghi"));
     assert_eq!(rt; again.sync(), Ok(()));
-    assert_eq!(rt; again.failures(), 0);
-    fs::remove_dir_all(&rt, FOLDER)?;
+    fs::remove_dir_all(&rt, folder)?;
+    Ok(())
+}
+
+#[test]
+fn past_the_end_of_a_file(rt: HostRuntime) -> Result<(), Fail> {
+    let folder = "im_disk_short";
+    let _ = fs::remove_dir_all(&rt, folder);
+    let mut disk = FolderDisk::new(&rt, rt.alloc(), folder);
+    let mut buffer = [0u8; 3];
+    disk.write_at(1, 0, b"abc")?;
+    assert_eq!(rt; disk.read(1, 0, &mut buffer), Ok(()));
+    for at in [1, 4, u64::MAX] {
+        assert_eq!(rt;
+            disk.read(1, at, &mut buffer),
+            Err(DiskError::Failed),
+            "at {at}"
+        );
+    }
+    assert_eq!(rt; disk.read(1, 4, &mut []), Err(DiskError::Failed));
+    assert_eq!(rt; disk.write_at(1, 4, b"d"), Err(DiskError::Failed));
+    assert_eq!(rt; disk.failures(), 5);
+    assert_eq!(rt; disk.len(1), Ok(3));
+    fs::remove_dir_all(&rt, folder)?;
     Ok(())
 }
 
