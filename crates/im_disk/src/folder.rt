@@ -1,4 +1,4 @@
-ghost use Rattle.std.specs.Prelude.{◌≡◌, ◌<◌, ◌≤◌, ◌+◌, ◌↔◌, true, IsTrue, IsOk, IsErr, IfErr, OnOk, IsFalse, slice_set, slice_index_or, false};
+ghost use Rattle.std.specs.Prelude.{◌≡◌, ◌<◌, ◌≤◌, ◌+◌, ◌↔◌, true, IsTrue, IsOk, IsErr, IfErr, OnOk, IsFalse, slice_set, slice_index_or, replicate, false};
 ghost use Rattle.std.specs.IoError.{error_kind};
 ghost use Rattle.std.specs.declared.io.ErrorKind.TheVariants.{OutOfMemory};
 ghost use Rattle.im_disk.specs.declared.disk.DiskError.TheVariants.{Failed, Memory};
@@ -15,9 +15,9 @@ use std::{fs, io};
 
 /// A disk over the files of a folder, which are named by their numbers: `0`, `1` and so on. It opens
 /// a file at each call that needs it, and makes files and the folder only to write; what isn't there
-/// is empty. A read past a file's end fails, and so does a write behind it. Nothing is tried again;
-/// once the system couldn't bring something to the disk, no later sync succeeds.
-/// It tells no content, and no clause says what the files hold.
+/// is empty. A read past a file's end fails, and so does a write behind it. Nothing is tried again:
+/// once the system couldn't bring something to the disk, no later sync succeeds. It tells no
+/// content, and no clause says what the files hold.
 #[derive(Drop)]
 pub struct FolderDisk<'a, R> {
     rt: &'a R,
@@ -47,6 +47,8 @@ impl<'a, R: Files> FolderDisk<'a, R> {
     pub fn new(rt: &'a R, alloc: Global, path: &'a str) -> Self
         ensures folder { result.folder ≡ path.entry }
         ensures failures { result.failures ≡ 0 }
+        ensures unsynced { result.unsynced ≡
+            record { files = replicate 16 true; names = true; folder = true; lost = false } }
     {
         FolderDisk {
             rt,
