@@ -1,7 +1,7 @@
 -- Calls that failed change nothing that reads give.
 use Rattle.std.proofs.Common.{◌≡◌, ℕ, List, [], ◌∷◌, ◌++◌, ◌∙◌, refl, sym, subst}
 use Rattle.std.proofs.lemmas.List.Elements.{All-head, All-tail}
-use Rattle.std.specs.Prelude.{All, IsTrue, Option, Some, None, IfSome, reverse, true, false}
+use Rattle.std.specs.Prelude.{All, IsTrue, Option, Some, None, IfSome, reverse}
 use Rattle.std.specs.Option.{option_map}
 use Rattle.im_disk.specs.declared.calls.Call.{Call}
 use Rattle.im_disk.specs.declared.calls.Call.TheVariants.{Wrote, Tore, Synced, Missed}

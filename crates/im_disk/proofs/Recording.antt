@@ -1,13 +1,13 @@
 -- What a disk in memory tells after a changing call.
-use Rattle.std.proofs.Common.{◌≡◌, ℕ, List, ◌∷◌, [], ap, ◌∙◌}
+use Rattle.std.proofs.Common.{◌≡◌, List, ◌∷◌, [], ap, ◌∙◌}
 use Rattle.std.proofs.lemmas.List.{reverse-append}
-use Rattle.std.specs.Prelude.{Option, Some, Result, Ok, Err, OnOk, IsErrOf}
+use Rattle.std.specs.Prelude.{Some, Result, Ok, Err, OnOk, IsErrOf}
 use Rattle.im_disk.specs.declared.calls.Call.{Call}
 use Rattle.im_disk.specs.declared.disk.DiskError.{DiskError}
 use Rattle.im_disk.specs.declared.disk.DiskError.TheVariants.{Failed, Memory}
 use Rattle.im_disk.specs.Disk.{Told, after}
 use Rattle.im_disk.specs.Records.{files_of}
-use Rattle.im_disk.specs.Recorded.{Recorded, Changes, told_by, with_call, with_failure}
+use Rattle.im_disk.specs.Recorded.{Recorded, Changes, told_by, with_call}
 
 tells_more : (call : Call) (d : Recorded) → Some (told_by (with_call call d)) ≡ Some (after call (told_by d))
 tells_more call d =

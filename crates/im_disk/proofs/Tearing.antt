@@ -1,11 +1,11 @@
 -- What a write leaves of the octets around it, and what reads give among the images.
-use Rattle.std.proofs.Common.{◌≡◌, ◌≢◌, ℕ, ◌+◌, ◌-◌, ◌≤◌, max, List, [], ◌∷◌, ◌++◌, length, take, drop, suc, refl, sym, ◌∙◌, ap, subst, arith, inl, ⊎_elim, rules, eqb-true, eq-eqb, ne_eqb, length-append, length-drop, append_assoc, true, false}
+use Rattle.std.proofs.Common.{◌≡◌, ◌≢◌, ℕ, ◌+◌, ◌-◌, ◌≤◌, List, [], ◌∷◌, ◌++◌, length, take, drop, suc, refl, sym, ◌∙◌, ap, subst, arith, inl, ⊎_elim, rules, eqb-true, eq-eqb, ne_eqb, length-append, length-drop, append_assoc, true, false}
 use Rattle.std.proofs.lemmas.Bool.{false≢true}
 use Rattle.std.proofs.lemmas.List.{take_at, drop_at}
 use Rattle.std.specs.Prelude.{◌==◌, if◌then◌else◌}
 use Rattle.im_disk.specs.declared.calls.Call.{Call}
 use Rattle.im_disk.specs.declared.calls.Call.TheVariants.{Wrote, Tore, Synced, Missed}
-use Rattle.im_disk.specs.Disk.{Files, Told, Torn, TornFile, IsImage, WasImage, written, with_file, seen_after}
+use Rattle.im_disk.specs.Disk.{Files, Torn, TornFile, IsImage, WasImage, written, with_file, seen_after}
 use Rattle.im_disk.specs.Records.{AreWithin}
 
 -- by cases on whether two numbers, as of files, are the same

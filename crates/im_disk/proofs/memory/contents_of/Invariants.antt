@@ -1,4 +1,4 @@
-use Rattle.std.proofs.Common.{◌≡◌, ◌<◌, ℕ, List, [], length}
+use Rattle.std.proofs.Common.{◌≡◌, ◌<◌, ℕ, List, length}
 use Rattle.im_disk.specs.Records.{files_of}
 use Rattle.im_disk.proofs.memory.contents_of.Given as goal
 
