@@ -1,1 +1,4 @@
+pub mod Burning
 pub mod Leaving
+pub mod Recording
+pub mod Tearing

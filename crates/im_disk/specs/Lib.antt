@@ -1,4 +1,8 @@
+pub mod Brought
 pub mod Causes
 pub mod Disk
+pub mod Fused
 pub mod Moments
+pub mod Recorded
 pub mod Records
+pub mod Stored
