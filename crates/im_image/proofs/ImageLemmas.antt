@@ -9,7 +9,7 @@ use Rattle.im_disk.specs.declared.calls.Call.{Call}
 use Rattle.im_disk.specs.declared.calls.Call.TheVariants.{Wrote, Tore, Synced, Missed}
 use Rattle.im_image.specs.Remains.{since_sync, until_sync, ranges_of, furthest_end, MayRemain, EachMayRemain}
 use Rattle.im_image.specs.declared.ranges.WrittenRange.{WrittenRange}
-use Rattle.im_image.proofs.RemainLemmas.{torn-remains, remains-torn, remains-durable, durable-remains, take_from_octets, drop_from_octets, written-length, written-before, written-behind}
+use Rattle.im_image.proofs.RemainLemmas.{torn-remains, remains-torn, remains-durable, durable-remains}
 
 -- the ranges with that of one call more, which writes this range of one file
 abbrev added : ℕ → ℕ → WrittenRange → List WrittenRange → List WrittenRange
@@ -145,41 +145,6 @@ remains-image first (Tore file at n ∷ calls) image within each =
     (before.0, remains-image first calls before.0 within.1 before.1, before.2)
 remains-image first (Synced ∷ calls) image within each = λ k. remains-durable (seen_after first calls k) (image k) (each k)
 remains-image first (Missed ∷ calls) image within each = remains-image first calls image within.1 each
-
--- a write that was done whole is one that a crash cuts short
-written-torn : (old : List ℕ) (at : ℕ) (piece : List ℕ) → at ≤ length old → Torn at (length piece) old (written old at piece)
-written-torn old at piece near =
-    let long = written-length old at piece near in
-    record {
-      before = take_from_octets at (written old at piece) old (omega arith) (λ k h _. written-before old at piece k near h);
-      after = drop_from_octets (at + length piece) (written old at piece) old (omega arith) (λ k h _. written-behind old at piece k near h);
-      no_shorter = omega arith;
-      no_longer = omega arith;
-    }
-
--- what reads give is an image
-pub seen-image : (first : Files) (calls : List Call) → AreWithin first calls → IsImage first calls (seen_after first calls)
-seen-image first [] within = λ k. refl
-seen-image first (Wrote file at piece ∷ calls) within =
-    let was : Files = seen_after first calls in
-    let octets : List ℕ = written (was file) at piece in (
-      was,
-      seen-image first calls within.1,
-      record {
-        torn = subst (λ (now : List ℕ). Torn at (length piece) (was file) now) (sym (with-same was file file octets refl)) (written-torn (was file) at piece within.0.within);
-        others = λ k other. with-other was file k octets other;
-      },
-    )
-seen-image first (Tore file at n ∷ calls) within = (
-  seen_after first calls,
-  seen-image first calls within.1,
-  record {
-    torn = record { before = refl; after = refl; no_shorter = omega arith; no_longer = omega arith };
-    others = λ _ _. refl;
-  },
-)
-seen-image first (Synced ∷ calls) within = λ k. refl
-seen-image first (Missed ∷ calls) within = seen-image first calls within.1
 
 -- a file whose number no disk has is never written
 seen-beyond : (first : Files) (calls : List Call) (k : ℕ) → 16 ≤ k → AreWithin first calls → seen_after first calls k ≡ first k
