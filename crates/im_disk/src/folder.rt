@@ -240,12 +240,20 @@ impl<R: Files> Disk for FolderDisk<'_, R> {
         counted(&mut self.failures, answer)
     }
 
-    fn write_at(&mut self, file: u8, at: u64, piece: &[u8]) -> Result<(), DiskError> {
+    fn write_at(&mut self, file: u8, at: u64, piece: &[u8]) -> Result<(), DiskError>
+        requires { file < 16 }
+        ensures unsynced { slice_index_or self.new.unsynced.files file false ≡ true }
+        ensures cause { HasCause self.old.failures self.new.failures result }
+    {
         let answer = self.put(file, at, piece);
         counted(&mut self.failures, answer)
     }
 
-    fn sync(&mut self) -> Result<(), DiskError> {
+    fn sync(&mut self) -> Result<(), DiskError>
+        ensures lost { IsTrue self.old.unsynced.lost → IsErr result }
+        ensures all { OnOk result (AllBrought self.new.unsynced) }
+        ensures cause { HasCause self.old.failures self.new.failures result }
+    {
         let answer = self.bring_all();
         counted(&mut self.failures, answer)
     }
