@@ -1,0 +1,11 @@
+pub mod Calls
+pub mod Clear
+pub mod Limits
+pub mod Mids
+pub mod Parts
+pub mod Placing
+pub mod Prefixes
+pub mod SampleLemmas
+pub mod Torn
+pub mod Turns
+pub mod Whole

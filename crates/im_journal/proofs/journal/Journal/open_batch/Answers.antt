@@ -1,0 +1,26 @@
+use Rattle.std.proofs.Common.{arith, ◌<◌, ◌^◌, ℕ, List, sym, ap, subst}
+use Rattle.im_format.specs.Batches.{spans_of}
+use Rattle.im_journal.specs.Pieces.{end_of}
+use Rattle.im_journal.proofs.Mids.{mid_room, open_leaves}
+use Rattle.im_journal.proofs.journal.Journal.open_batch.Goals as goal
+
+pub returns-in-Ok-clause-any_moment : goal.returns-in-Ok-clause-any_moment
+returns-in-Ok-clause-any_moment g c hash history batches rs mid =
+    open_leaves g.D.Disk.told hash history batches rs _ c.args.self.now c.self.view_is mid c.requires.sealed (g.D.Disk.told c.open_gate.new.disk)
+    (c.open_gate.ensures.any_moment (end_of c.self.inside.ends) (spans_of batches) c.self.inside.batch.pieces.items)
+
+pub returns-in-Err-Failed-clause-any_moment : goal.returns-in-Err-Failed-clause-any_moment
+returns-in-Err-Failed-clause-any_moment g c hash history batches rs mid =
+    open_leaves g.D.Disk.told hash history batches rs _ c.args.self.now c.self.view_is mid c.requires.sealed (g.D.Disk.told c.open_gate.new.disk)
+    (c.open_gate.ensures.any_moment (end_of c.self.inside.ends) (spans_of batches) c.self.inside.batch.pieces.items)
+
+pub returns-in-Err-Memory-clause-any_moment : goal.returns-in-Err-Memory-clause-any_moment
+returns-in-Err-Memory-clause-any_moment g c hash history batches rs mid =
+    open_leaves g.D.Disk.told hash history batches rs _ c.args.self.now c.self.view_is mid c.requires.sealed (g.D.Disk.told c.open_gate.new.disk)
+    (c.open_gate.ensures.any_moment (end_of c.self.inside.ends) (spans_of batches) c.self.inside.batch.pieces.items)
+
+pub open_gate-requires-clause-end : goal.open_gate-requires-clause-end
+open_gate-requires-clause-end g c =
+    let m = c.requires.mid in
+    let room : end_of c.self.inside.ends 1 < 2 ^ 61 = subst (λ (e : List ℕ). end_of e 1 < 2 ^ 61) (sym (ap (λ j. j.ends) c.self.view_is)) (mid_room g.D.Disk.told m.0 m.1 m.2 m.3 c.args.self.now m.4 1) in
+    omega (arith, room)

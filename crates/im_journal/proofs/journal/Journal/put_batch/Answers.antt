@@ -1,0 +1,20 @@
+use Rattle.std.proofs.Common.{length}
+use Rattle.im_format.specs.Batches.{gate_of, spans_of}
+use Rattle.im_journal.specs.Pieces.{end_of}
+use Rattle.im_journal.proofs.Mids.{put_leaves}
+use Rattle.im_journal.proofs.journal.Journal.put_batch.Goals as goal
+
+pub returns-in-Ok-clause-any_moment : goal.returns-in-Ok-clause-any_moment
+returns-in-Ok-clause-any_moment g c hash history batches rs mid =
+    put_leaves g.D.Disk.told hash history batches rs _ c.args.self.now c.self.view_is mid c.requires.staging c.as_slice.result.now c.as_slice.ensures.value (g.D.Disk.told c.put_pieces.new.disk)
+    (c.put_pieces.ensures.any_moment (end_of c.self.inside.ends) (spans_of batches) (gate_of (length batches)))
+
+pub returns-in-Err-Failed-clause-any_moment : goal.returns-in-Err-Failed-clause-any_moment
+returns-in-Err-Failed-clause-any_moment g c hash history batches rs mid =
+    put_leaves g.D.Disk.told hash history batches rs _ c.args.self.now c.self.view_is mid c.requires.staging c.as_slice.result.now c.as_slice.ensures.value (g.D.Disk.told c.put_pieces.new.disk)
+    (c.put_pieces.ensures.any_moment (end_of c.self.inside.ends) (spans_of batches) (gate_of (length batches)))
+
+pub returns-in-Err-Memory-clause-any_moment : goal.returns-in-Err-Memory-clause-any_moment
+returns-in-Err-Memory-clause-any_moment g c hash history batches rs mid =
+    put_leaves g.D.Disk.told hash history batches rs _ c.args.self.now c.self.view_is mid c.requires.staging c.as_slice.result.now c.as_slice.ensures.value (g.D.Disk.told c.put_pieces.new.disk)
+    (c.put_pieces.ensures.any_moment (end_of c.self.inside.ends) (spans_of batches) (gate_of (length batches)))

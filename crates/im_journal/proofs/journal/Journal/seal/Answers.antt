@@ -1,0 +1,40 @@
+use Rattle.std.proofs.Common.{arith, true, refl, ◌≡◌, ◌∙◌, length, sym, ap, subst}
+use Rattle.im_disk.specs.Moments.{Leaves}
+use Rattle.im_journal.specs.Kept.{HasSealed, HasStaged, StandsBy}
+use Rattle.im_journal.specs.declared.batches.Step.{Step}
+use Rattle.im_journal.specs.declared.errors.JournalError.TheVariants.{DiskFault, Memory, Stopped}
+use Rattle.im_journal.proofs.Mids.{err_then, ok_isnt, sealed_left, stays}
+use Rattle.im_journal.proofs.journal.Journal.seal.Goals as goal
+
+pub returns-in_err-go-clause-any_moment : goal.returns-in_err-go-clause-any_moment
+returns-in_err-go-clause-any_moment g c hash history batches rs mid = stays g.D.Disk.told hash history batches rs c.args.self.now mid
+
+pub returns-in-Staged-clause-again : goal.returns-in-Staged-clause-again
+returns-in-Staged-clause-again g c hash history batches rs mid memory =
+    let same = err_then c.seal_batch.result Memory (c.seal_batch.new.self.batch ≡ c.args.self.now.batch) c.seal_batch.ensures.err memory in (
+      c.seal_batch.ensures.memory hash history batches rs mid memory,
+      subst HasStaged (sym (ap (λ b. b.step) same ∙ sym (ap (λ k. k.batch.step) c.self.view_is) ∙ c.in-Staged.is)) tt,
+    )
+
+pub returns-in-Staged-clause-any_moment : goal.returns-in-Staged-clause-any_moment
+returns-in-Staged-clause-any_moment g c hash history batches rs mid =
+    subst (λ (s : Step). Leaves (StandsBy s hash history c.args.self.now.durable (length rs)) (g.D.Disk.told c.args.self.now.disk) (g.D.Disk.told c.seal_batch.new.self.disk))
+    (sym (sym (ap (λ k. k.batch.step) c.self.view_is) ∙ c.in-Staged.is)) (c.seal_batch.ensures.any_moment hash history batches rs mid)
+
+pub returns-in_default : goal.returns-in_default
+returns-in_default g c =
+    let zero : c.args.self.now.failures ≡ 0 = c.in_ok-go.ensures.going (refl {a = true}) in
+    record {
+      sealed = λ hash history batches rs mid.
+          (mid, sealed_left c.args.self.now.batch.step (c.requires.staged zero) (λ e. c.in_default.not-Staged (ap (λ k. k.batch.step) c.self.view_is ∙ e)));
+      again = λ hash history batches rs mid e. absurd (ok_isnt tt Memory e);
+      any_moment = λ hash history batches rs mid. stays g.D.Disk.told hash history batches rs c.args.self.now mid;
+      kept = (refl, refl);
+      counted = record { rose = λ e. absurd (ok_isnt tt DiskFault e); more = λ e. absurd (ok_isnt tt DiskFault e); faults = λ n. refl; failures = λ n. refl };
+      stopped = λ lt. absurd (omega (arith, zero, lt));
+      nothing = λ none has. (refl, refl);
+      going = λ faults e. absurd (ok_isnt tt (Stopped faults) e);
+    }
+
+pub returns-in-Staged-clause-nothing : goal.returns-in-Staged-clause-nothing
+returns-in-Staged-clause-nothing g c zero has = absurd (subst HasSealed (sym (ap (λ k. k.batch.step) c.self.view_is) ∙ c.in-Staged.is) has)

@@ -1,0 +1,20 @@
+use Rattle.std.proofs.Common.{length}
+use Rattle.im_format.specs.Batches.{gate_of, spans_of}
+use Rattle.im_journal.specs.Pieces.{end_of}
+use Rattle.im_journal.proofs.Mids.{seal_leaves}
+use Rattle.im_journal.proofs.journal.Journal.seal_batch.Goals as goal
+
+pub returns-in-Ok-clause-any_moment : goal.returns-in-Ok-clause-any_moment
+returns-in-Ok-clause-any_moment g c hash history batches rs mid =
+    seal_leaves g.D.Disk.told hash history batches rs _ c.args.self.now c.self.view_is mid c.requires.staged (g.D.Disk.told c.seal_pieces.new.disk)
+    (c.seal_pieces.ensures.any_moment (end_of c.self.inside.ends) (spans_of batches) (gate_of (length batches)) c.self.inside.batch.pieces.items)
+
+pub returns-in-Err-Failed-clause-any_moment : goal.returns-in-Err-Failed-clause-any_moment
+returns-in-Err-Failed-clause-any_moment g c hash history batches rs mid =
+    seal_leaves g.D.Disk.told hash history batches rs _ c.args.self.now c.self.view_is mid c.requires.staged (g.D.Disk.told c.seal_pieces.new.disk)
+    (c.seal_pieces.ensures.any_moment (end_of c.self.inside.ends) (spans_of batches) (gate_of (length batches)) c.self.inside.batch.pieces.items)
+
+pub returns-in-Err-Memory-clause-any_moment : goal.returns-in-Err-Memory-clause-any_moment
+returns-in-Err-Memory-clause-any_moment g c hash history batches rs mid =
+    seal_leaves g.D.Disk.told hash history batches rs _ c.args.self.now c.self.view_is mid c.requires.staged (g.D.Disk.told c.seal_pieces.new.disk)
+    (c.seal_pieces.ensures.any_moment (end_of c.self.inside.ends) (spans_of batches) (gate_of (length batches)) c.self.inside.batch.pieces.items)

@@ -1,0 +1,85 @@
+use Rattle.std.proofs.Common.{arith, true, ℕ, refl, ◌≡◌, ◌∙◌, ◌+◌, ◌∷◌, ◌++◌, [], length, sym, ap, subst}
+use Rattle.im_disk.specs.Moments.{Leaves}
+use Rattle.im_disk.proofs.Leaving.{leaves_both}
+use Rattle.std.specs.Prelude.{OnOk}
+use Rattle.im_journal.specs.Kept.{HasSealed, IsAtRest, StandsBy}
+use Rattle.im_journal.specs.declared.batches.Step.TheVariants.{Gated}
+use Rattle.im_journal.specs.declared.errors.JournalError.TheVariants.{Memory}
+use Rattle.im_journal.proofs.Mids.{durable_now, err_then, gated_left, on_err, settled_now, stays_at_last}
+use Rattle.im_journal.proofs.journal.Journal.settle.Goals as goal
+
+pub returns-in_err-go-clause-any_moment : goal.returns-in_err-go-clause-any_moment
+returns-in_err-go-clause-any_moment g c hash history batches rs mid = stays_at_last g.D.Disk.told hash history batches rs c.args.self.now mid
+
+pub settle_batch-requires-clause-mid : goal.settle_batch-requires-clause-mid
+settle_batch-requires-clause-mid g c =
+    let m = c.requires.mid (c.in_ok-go.ensures.going refl) in
+    (m.0, m.1, m.2, m.3, c.in-Ok.ensures.ok m.0 m.1 m.2 m.3 m.4)
+
+pub returns-in-Ok-clause-settled : goal.returns-in-Ok-clause-settled
+returns-in-Ok-clause-settled g c hash history batches rs mid =
+    let now = c.args.self.now in
+    let k = c.open_batch.new.self in
+    let kept = c.open_batch.ensures.kept in
+    subst (λ (n : ℕ). OnOk c.settle_batch.result (IsAtRest g.D.Disk.told hash history (batches ++ rs ∷ []) c.settle_batch.new.self × (c.settle_batch.new.self.durable ≡ n + length rs))) kept.1
+    (settled_now g.D.Disk.told hash history batches rs k c.settle_batch.new.self c.settle_batch.result (kept.3 ∙ mid.count)
+    (c.settle_batch.ensures.ok hash history batches rs (c.in-Ok.ensures.ok hash history batches rs mid)) c.settle_batch.ensures.moved)
+
+pub returns-in-Ok-clause-durable : goal.returns-in-Ok-clause-durable
+returns-in-Ok-clause-durable g c hash history batches rs mid =
+    durable_now g.D.Disk.told hash history (batches ++ rs ∷ []) c.settle_batch.new.self c.settle_batch.result
+    (c.settle_batch.ensures.ok hash history batches rs (c.in-Ok.ensures.ok hash history batches rs mid))
+
+pub returns-in-Ok-clause-again : goal.returns-in-Ok-clause-again
+returns-in-Ok-clause-again g c hash history batches rs mid memory =
+    let k = c.open_batch.new.self in
+    let new = c.settle_batch.new.self in
+    let err = err_then c.settle_batch.result Memory ((new.ends ≡ k.ends) × (new.durable ≡ k.durable) × (new.batch ≡ k.batch)) c.settle_batch.ensures.err memory in (
+      c.settle_batch.ensures.memory hash history batches rs (c.in-Ok.ensures.ok hash history batches rs mid) memory,
+      subst HasSealed (sym (ap (λ b. b.step) err.2 ∙ c.in-Ok.ensures.step)) tt,
+    )
+
+pub returns-in-Ok-clause-any_moment : goal.returns-in-Ok-clause-any_moment
+returns-in-Ok-clause-any_moment g c hash history batches rs mid =
+    let told = g.D.Disk.told in
+    let now = c.args.self.now in
+    let k = c.open_batch.new.self in
+    let new = c.settle_batch.new.self in
+    let P = StandsBy Gated hash history now.durable (length rs) in
+    let first = c.open_batch.ensures.any_moment hash history batches rs mid in
+    let second = subst (λ (n : ℕ). Leaves (StandsBy Gated hash history n (length rs)) (told k.disk) (told new.disk)) c.open_batch.ensures.kept.1
+    (c.settle_batch.ensures.any_moment hash history batches rs (c.in-Ok.ensures.ok hash history batches rs mid)) in
+    leaves_both P (told now.disk) (told k.disk) (told new.disk) first second
+
+pub returns-in-Err-clause-again : goal.returns-in-Err-clause-again
+returns-in-Err-clause-again g c hash history batches rs mid e =
+    let now = c.args.self.now in
+    let k = c.open_batch.new.self in
+    let memory = c.in-Err.is ∙ e in
+    let same = err_then c.open_batch.result Memory (k.batch ≡ now.batch) c.open_batch.ensures.err memory in (
+      c.open_batch.ensures.memory hash history batches rs mid memory,
+      subst HasSealed (sym (ap (λ b. b.step) same ∙ sym (ap (λ j. j.batch.step) c.self.view_is) ∙ c.in-Sealed.is)) tt,
+    )
+
+pub returns-in_default : goal.returns-in_default
+returns-in_default g c =
+    let now = c.args.self.now in
+    let call = c.settle_batch-in_default in
+    let new = call.new.self in
+    let zero : now.failures ≡ 0 = c.in_ok-go.ensures.going (refl {a = true}) in
+    let gated : now.batch.step ≡ Gated = gated_left now.batch.step (c.requires.sealed zero) (λ e. c.in_default.not-Sealed (ap (λ k. k.batch.step) c.self.view_is ∙ e)) in
+    record {
+      settled = λ hash history batches rs mid.
+          settled_now g.D.Disk.told hash history batches rs now new call.result mid.count (call.ensures.ok hash history batches rs mid) call.ensures.moved;
+      durable = λ hash history batches rs mid. durable_now g.D.Disk.told hash history (batches ++ rs ∷ []) new call.result (call.ensures.ok hash history batches rs mid);
+      moved = call.ensures.moved;
+      again = λ hash history batches rs mid memory. (
+        call.ensures.memory hash history batches rs mid memory,
+        subst HasSealed (sym (ap (λ b. b.step) (err_then call.result Memory ((new.ends ≡ now.ends) × (new.durable ≡ now.durable) × (new.batch ≡ now.batch)) call.ensures.err memory).2 ∙ gated)) tt,
+      );
+      any_moment = λ hash history batches rs mid. call.ensures.any_moment hash history batches rs mid;
+      kept = on_err call.result ((new.ends ≡ now.ends) × (new.durable ≡ now.durable) × (new.batch ≡ now.batch)) ((new.ends ≡ now.ends) × (new.durable ≡ now.durable)) call.ensures.err (λ h. (h.0, h.1));
+      counted = call.ensures.counted;
+      stopped = λ lt. absurd (omega (arith, zero, lt));
+      going = λ faults e. absurd (call.ensures.going faults e);
+    }

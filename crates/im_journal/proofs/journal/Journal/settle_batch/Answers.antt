@@ -1,0 +1,34 @@
+use Rattle.std.proofs.Common.{length, refl, sym, ◌∙◌, ap, subst}
+use Rattle.im_format.specs.Batches.{gate_of, spans_of}
+use Rattle.im_journal.specs.Kept.{IsInBatch}
+use Rattle.im_journal.specs.Pieces.{end_of}
+use Rattle.im_journal.specs.declared.batches.Step.TheVariants.{Gated}
+use Rattle.im_journal.proofs.Mids.{at_step, done_first, done_rests, settle_leaves}
+use Rattle.im_journal.proofs.journal.Journal.settle_batch.Goals as goal
+
+pub returns-in-Ok-clause-any_moment : goal.returns-in-Ok-clause-any_moment
+returns-in-Ok-clause-any_moment g c hash history batches rs mid =
+    settle_leaves g.D.Disk.told hash history batches rs _ c.args.self.now c.self.view_is mid c.requires.gated (g.D.Disk.told c.settle_gate.new.disk)
+    (c.settle_gate.ensures.any_moment (end_of c.self.inside.ends) (spans_of batches) (gate_of (length batches)) c.self.inside.batch.pieces.items)
+
+pub returns-in-Err-Failed-clause-any_moment : goal.returns-in-Err-Failed-clause-any_moment
+returns-in-Err-Failed-clause-any_moment g c hash history batches rs mid =
+    settle_leaves g.D.Disk.told hash history batches rs _ c.args.self.now c.self.view_is mid c.requires.gated (g.D.Disk.told c.settle_gate.new.disk)
+    (c.settle_gate.ensures.any_moment (end_of c.self.inside.ends) (spans_of batches) (gate_of (length batches)) c.self.inside.batch.pieces.items)
+
+pub returns-in-Err-Memory-clause-any_moment : goal.returns-in-Err-Memory-clause-any_moment
+returns-in-Err-Memory-clause-any_moment g c hash history batches rs mid =
+    settle_leaves g.D.Disk.told hash history batches rs _ c.args.self.now c.self.view_is mid c.requires.gated (g.D.Disk.told c.settle_gate.new.disk)
+    (c.settle_gate.ensures.any_moment (end_of c.self.inside.ends) (spans_of batches) (gate_of (length batches)) c.self.inside.batch.pieces.items)
+
+pub returns-in-Ok-clause-ok : goal.returns-in-Ok-clause-ok
+returns-in-Ok-clause-ok g c hash history batches rs mid =
+    let told = g.D.Disk.told in
+    let m = subst (λ k. IsInBatch told hash history batches rs k) (sym c.self.view_is) mid in
+    let gated = at_step told hash history batches rs _ m Gated (ap (λ k. k.batch.step) c.self.view_is ∙ c.requires.gated) in
+    record {
+      idle = refl;
+      first = done_first told hash history batches rs _ m;
+      resting = done_rests told hash history batches rs _ m (told c.settle_gate.new.disk)
+          (c.in-Ok.ensures.ok (end_of c.self.inside.ends) (spans_of batches) (gate_of (length batches)) c.self.inside.batch.pieces.items gated);
+    }

@@ -1,0 +1,41 @@
+use Rattle.std.proofs.Common.{rules, ◌+◌, List, take, drop, subst}
+use Rattle.std.specs.Prelude.{IfSome}
+use Rattle.im_disk.proofs.Leaving.{leaves_both}
+use Rattle.im_format.specs.declared.spans.Span.{Span}
+use Rattle.im_journal.specs.Phases.{IsSafe, IsStaging}
+use Rattle.im_journal.proofs.Calls.{next_left, next_taken, next_within}
+use Rattle.im_journal.proofs.steps.put_pieces.Goals as goal
+
+pub put_piece-requires-clause-within : goal.put_piece-requires-clause-within
+put_piece-requires-clause-within g c =
+    let s = c.requires.staging in
+    next_within _ s.0 s.1 s.2 c.args.pieces.now c.loop-written.written c.index-pieces-written.result c.loop-written-test.true c.index-pieces-written.is
+    (c.loop-written.invariant.staging s.0 s.1 s.2 s.3).0
+
+pub returns-in-Err-clause-any_moment : goal.returns-in-Err-clause-any_moment
+returns-in-Err-clause-any_moment g c ends spans gate h =
+    let ps = c.args.pieces.now in
+    let k = c.loop-written.written in
+    let p = c.index-pieces-written.result in
+    let now = c.loop-written.invariant.staging ends spans gate h in
+    let one = c.put_piece.ensures.any_moment ends spans gate (take k ps) (drop (k + 1) ps)
+    (subst (λ (l : List Span). IfSome (g.D.Disk.told c.loop-written.disk) (IsStaging ends spans gate (take k ps) l)) (next_left ps k p c.loop-written-test.true c.index-pieces-written.is) now.0) in
+    leaves_both (IsSafe ends spans gate) _ _ _ now.1 one
+
+pub loop-written-preserved : goal.loop-written-preserved
+loop-written-preserved g c = record {
+  forth = search rules;
+  within = search rules;
+  staging = λ ends spans gate h.
+      let ps = c.args.pieces.now in
+      let k = c.loop-written.written in
+      let p = c.index-pieces-written.result in
+      let now = c.loop-written.invariant.staging ends spans gate h in
+      let here = subst (λ (l : List Span). IfSome (g.D.Disk.told c.loop-written.disk) (IsStaging ends spans gate (take k ps) l)) (next_left ps k p c.loop-written-test.true c.index-pieces-written.is) now.0 in
+      let one = c.put_piece.ensures.any_moment ends spans gate (take k ps) (drop (k + 1) ps) here in (
+        subst (λ (l : List Span). IfSome (g.D.Disk.told c.put_piece.new.disk) (IsStaging ends spans gate l (drop (k + 1) ps))) (next_taken ps k p c.loop-written-test.true c.index-pieces-written.is)
+            (c.in-Ok.ensures.ok ends spans gate (take k ps) (drop (k + 1) ps) here),
+        leaves_both (IsSafe ends spans gate) _ _ _ now.1 one,
+      );
+  faults = search (rules, c.in-Ok.ensures.cause, c.loop-written.invariant.faults);
+}

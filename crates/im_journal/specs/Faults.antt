@@ -1,0 +1,13 @@
+-- What a writing call does to the count of failures.
+use Rattle.std.specs.Prelude.{◌≡◌, ◌+◌, ◌-◌, ◌^◌, ℕ, min, Result, IsErrOf}
+use Rattle.im_edge.specs.Counts.{Rose}
+use Rattle.im_journal.specs.declared.errors.JournalError.{JournalError}
+use Rattle.im_journal.specs.declared.errors.JournalError.TheVariants.{DiskFault}
+
+-- `DiskFault` comes only where the disk's count rose, and is one failure more, until their number stands at its
+-- end; every other answer leaves both counts as they were
+pub record IsCounted {T : Type 0} (before now failures_before failures_now : ℕ) (result : Result T JournalError) : Type 0 where
+  pub rose : IsErrOf result DiskFault → Rose before now
+  pub more : IsErrOf result DiskFault → failures_now ≡ min (failures_before + 1) (2 ^ 64 - 1)
+  pub faults : (IsErrOf result DiskFault → ⊥) → now ≡ before
+  pub failures : (IsErrOf result DiskFault → ⊥) → failures_now ≡ failures_before

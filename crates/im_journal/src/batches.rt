@@ -1,0 +1,34 @@
+use im_format::spans::Span;
+
+/// How far a batch is.
+///
+/// A crash before `Gated` leaves the disk without the batch; from `Gated` on, without it or with it, until the
+/// second sync is done and the journal is `Idle` again.
+#[derive(Clone, Copy, Debug, PartialEq, Eq)]
+pub enum Step {
+    /// No batch is in progress.
+    Idle,
+    /// Its pieces are being written, behind a closed gate.
+    Staging,
+    /// Its pieces are written.
+    Staged,
+    /// Its pieces are durable.
+    Sealed,
+    /// Its gate is open, which is not yet durable.
+    Gated,
+}
+
+/// The batch in progress, if any.
+#[derive(Drop)]
+pub(crate) struct Batch {
+    /// How far it is.
+    pub(crate) step: Step,
+    /// Its writes but for the gate's, in order.
+    pub(crate) pieces: Vec<Span>,
+    /// How many of them are done.
+    pub(crate) written: usize,
+    /// Where each file ends behind it.
+    pub(crate) ends: [u64; 6],
+    /// The number of its transactions.
+    pub(crate) count: u64,
+}

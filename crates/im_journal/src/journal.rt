@@ -1,0 +1,396 @@
+ghost use Rattle.std.specs.Prelude.{◌≡◌, ◌<◌, ◌≤◌, ◌+◌, ◌^◌, ◌++◌, ◌∷◌, [], ℕ, List, length, take, OnOk, OnErr, IfSome, IsErrOf, IsOk, Ok, Err};
+ghost use Rattle.im_digest.specs.Digests.{Hash};
+ghost use Rattle.im_disk.specs.Moments.{Leaves, LeavesNow};
+ghost use Rattle.im_model.specs.declared.transactions.Transaction.{Transaction};
+ghost use Rattle.im_format.specs.Standing.{Stands};
+ghost use Rattle.im_format.specs.declared.records.Record.{Record};
+ghost use Rattle.im_journal.specs.Faults.{IsCounted};
+ghost use Rattle.im_journal.specs.Holding.{AreFirst, AreNext, IsResting};
+ghost use Rattle.im_journal.specs.Kept.{CanStage, HasSealed, HasStaged, IsAtRest, IsInBatch, StandsBy};
+ghost use Rattle.im_journal.specs.declared.batches.Step.TheVariants.{Idle, Staging, Staged, Sealed, Gated};
+
+use crate::batches::{Batch, Step};
+use crate::errors::JournalError;
+use crate::pieces::plan_of;
+use crate::steps::{open_gate, put_pieces, seal_pieces, settle_gate};
+use im_disk::disk::{Disk, DiskError};
+use im_format::records::Record;
+use std::alloc::{AllocError, Global};
+use std::marker::Model;
+
+/// The journal of a store: the records of a history on a disk, in batches.
+#[derive(Drop)]
+pub struct Journal<D: Disk> {
+    disk: D,
+    ends: [u64; 6],
+    durable: u64,
+    batch: Batch,
+    failures: u64,
+}
+
+impl<D: Disk> Model for Journal<D> {
+    ghost use Rattle.std.specs.Prelude.{◌≡◌, ◌≤◌, length, All};
+    ghost use Rattle.im_journal.specs.Kept.{Batch, Kept};
+    ghost use Rattle.im_journal.specs.Phases.{FitsDisk};
+
+    ghost Value = { Kept D };
+
+    ghost view = { λ j. record {
+      disk = j.disk;
+      ends = j.ends;
+      durable = j.durable;
+      batch = record { step = j.batch.step; pieces = j.batch.pieces.items; written = j.batch.written; ends = j.batch.ends; count = j.batch.count };
+      failures = j.failures;
+    } };
+
+    ghost invariant = { λ j. All FitsDisk j.batch.pieces.items × (j.batch.written ≤ length j.batch.pieces.items) };
+}
+
+impl<D: Disk> Journal<D> {
+    /// A journal at rest over a disk that holds the first `durable` transactions of a history in some
+    /// batches, with a closed gate behind them, and nothing else that a crash could undo. The files end
+    /// there: the transaction log, the commit log at that gate, the value logs. It takes no memory.
+    pub fn resume(alloc: Global, disk: D, ends: [u64; 6], durable: u64) -> Self
+        requires first { (hash : Hash) × (history : List Transaction) × (batches : List (List Record))
+            × AreFirst hash history batches durable ends × IfSome (D.told disk) (IsResting batches ends) }
+        ensures rests { (hash : Hash) (history : List Transaction) (batches : List (List Record))
+            → AreFirst hash history batches durable ends → IfSome (D.told disk) (IsResting batches ends)
+            → IsAtRest D.told hash history batches result }
+        ensures given { (result.disk ≡ disk) × (result.ends ≡ ends) × (result.durable ≡ durable) }
+        ensures going { result.failures ≡ 0 }
+    {
+        Journal {
+            disk,
+            ends,
+            durable,
+            batch: Batch {
+                step: Step::Idle,
+                pieces: Vec::new(alloc),
+                written: 0,
+                ends,
+                count: 0,
+            },
+            failures: 0,
+        }
+    }
+
+    /// Writes the pieces of a batch: the values, the records, and the batch's octets behind its gate. With
+    /// no batch in progress it begins one with these records; else it goes on with what is left of the
+    /// batch in progress, and doesn't look at them. All memory of its own is taken before the first write.
+    /// A write for each value log that gets octets, and two more.
+    ///
+    /// # Errors
+    ///
+    /// After `Memory` the same call goes on where this one stopped.
+    pub fn stage(&mut self, alloc: Global, records: &[Record]) -> Result<(), JournalError>
+        requires next { self.old.failures ≡ 0 → (hash : Hash) × (history : List Transaction) × (batches : List (List Record)) × (rs : List Record)
+            × CanStage D.told hash history batches rs records.now self.old }
+        ensures staged { (hash : Hash) (history : List Transaction) (batches : List (List Record)) (rs : List Record)
+            → CanStage D.told hash history batches rs records.now self.old
+            → OnOk result (IsInBatch D.told hash history batches rs self.new × HasStaged self.new.batch.step) }
+        ensures again { (hash : Hash) (history : List Transaction) (batches : List (List Record)) (rs : List Record)
+            → CanStage D.told hash history batches rs records.now self.old → IsErrOf result JournalError.Memory
+            → CanStage D.told hash history batches rs records.now self.new }
+        ensures any_moment { (hash : Hash) (history : List Transaction) (batches : List (List Record)) (rs : List Record)
+            → CanStage D.told hash history batches rs records.now self.old
+            → Leaves (StandsBy self.old.batch.step hash history self.old.durable (length rs)) (D.told self.old.disk) (D.told self.new.disk) }
+        ensures kept { (self.new.ends ≡ self.old.ends) × (self.new.durable ≡ self.old.durable) }
+        ensures counted { IsCounted (D.faults self.old.disk) (D.faults self.new.disk) self.old.failures self.new.failures result }
+        ensures stopped { 0 < self.old.failures → (result ≡ Err (JournalError.Stopped self.old.failures)) × (self.new ≡ self.old) }
+        ensures nothing { self.old.failures ≡ 0 → HasStaged self.old.batch.step → (result ≡ Ok tt) × (self.new ≡ self.old) }
+        ensures going { (faults : ℕ) → IsErrOf result (JournalError.Stopped faults) → 0 < self.old.failures }
+    {
+        self.go()?;
+        match self.batch.step {
+            Step::Idle => {
+                self.begin(alloc, records)?;
+                self.put_batch()
+            }
+            Step::Staging => self.put_batch(),
+            _ => Ok(()),
+        }
+    }
+
+    /// Makes the pieces of the staged batch durable: one sync, if it isn't done. It takes no memory of
+    /// its own.
+    ///
+    /// # Errors
+    ///
+    /// After `Memory` the same call tries again.
+    pub fn seal(&mut self) -> Result<(), JournalError>
+        requires staged { self.old.failures ≡ 0 → HasStaged self.old.batch.step }
+        ensures sealed { (hash : Hash) (history : List Transaction) (batches : List (List Record)) (rs : List Record)
+            → IsInBatch D.told hash history batches rs self.old
+            → OnOk result (IsInBatch D.told hash history batches rs self.new × HasSealed self.new.batch.step) }
+        ensures again { (hash : Hash) (history : List Transaction) (batches : List (List Record)) (rs : List Record)
+            → IsInBatch D.told hash history batches rs self.old → IsErrOf result JournalError.Memory
+            → IsInBatch D.told hash history batches rs self.new × HasStaged self.new.batch.step }
+        ensures any_moment { (hash : Hash) (history : List Transaction) (batches : List (List Record)) (rs : List Record)
+            → IsInBatch D.told hash history batches rs self.old
+            → Leaves (StandsBy self.old.batch.step hash history self.old.durable (length rs)) (D.told self.old.disk) (D.told self.new.disk) }
+        ensures kept { (self.new.ends ≡ self.old.ends) × (self.new.durable ≡ self.old.durable) }
+        ensures counted { IsCounted (D.faults self.old.disk) (D.faults self.new.disk) self.old.failures self.new.failures result }
+        ensures stopped { 0 < self.old.failures → (result ≡ Err (JournalError.Stopped self.old.failures)) × (self.new ≡ self.old) }
+        ensures nothing { self.old.failures ≡ 0 → HasSealed self.old.batch.step → (result ≡ Ok tt) × (self.new ≡ self.old) }
+        ensures going { (faults : ℕ) → IsErrOf result (JournalError.Stopped faults) → 0 < self.old.failures }
+    {
+        self.go()?;
+        match self.batch.step {
+            Step::Staged => self.seal_batch(),
+            _ => Ok(()),
+        }
+    }
+
+    /// Opens the gate of the sealed batch, if it isn't open, and makes that durable: one write and one
+    /// sync. From then on its transactions are durable, and the journal is at rest. It takes no memory of
+    /// its own.
+    ///
+    /// # Errors
+    ///
+    /// After `Memory` the same call goes on where this one stopped.
+    pub fn settle(&mut self) -> Result<(), JournalError>
+        requires sealed { self.old.failures ≡ 0 → HasSealed self.old.batch.step }
+        requires mid { self.old.failures ≡ 0 → (hash : Hash) × (history : List Transaction) × (batches : List (List Record)) × (rs : List Record)
+            × IsInBatch D.told hash history batches rs self.old }
+        ensures settled { (hash : Hash) (history : List Transaction) (batches : List (List Record)) (rs : List Record)
+            → IsInBatch D.told hash history batches rs self.old
+            → OnOk result (IsAtRest D.told hash history (batches ++ rs ∷ []) self.new × (self.new.durable ≡ self.old.durable + length rs)) }
+        ensures durable { (hash : Hash) (history : List Transaction) (batches : List (List Record)) (rs : List Record)
+            → IsInBatch D.told hash history batches rs self.old
+            → OnOk result (LeavesNow (λ image. Stands hash image (take self.new.durable history)) (D.told self.new.disk)) }
+        ensures moved { OnOk result ((self.new.durable ≡ self.old.durable + self.old.batch.count) × (self.new.ends ≡ self.old.batch.ends)) }
+        ensures again { (hash : Hash) (history : List Transaction) (batches : List (List Record)) (rs : List Record)
+            → IsInBatch D.told hash history batches rs self.old → IsErrOf result JournalError.Memory
+            → IsInBatch D.told hash history batches rs self.new × HasSealed self.new.batch.step }
+        ensures any_moment { (hash : Hash) (history : List Transaction) (batches : List (List Record)) (rs : List Record)
+            → IsInBatch D.told hash history batches rs self.old
+            → Leaves (StandsBy Gated hash history self.old.durable (length rs)) (D.told self.old.disk) (D.told self.new.disk) }
+        ensures kept { OnErr result ((self.new.ends ≡ self.old.ends) × (self.new.durable ≡ self.old.durable)) }
+        ensures counted { IsCounted (D.faults self.old.disk) (D.faults self.new.disk) self.old.failures self.new.failures result }
+        ensures stopped { 0 < self.old.failures → (result ≡ Err (JournalError.Stopped self.old.failures)) × (self.new ≡ self.old) }
+        ensures going { (faults : ℕ) → IsErrOf result (JournalError.Stopped faults) → 0 < self.old.failures }
+    {
+        self.go()?;
+        match self.batch.step {
+            Step::Sealed => match self.open_batch() {
+                Ok(()) => self.settle_batch(),
+                Err(error) => Err(error),
+            },
+            _ => self.settle_batch(),
+        }
+    }
+
+    /// The number of transactions that are durable.
+    pub fn durable(&self) -> u64
+        ensures { result ≡ self.now.durable }
+    {
+        self.durable
+    }
+
+    /// Where each file ends behind what is durable: the transaction log, the commit log at the gate
+    /// behind its last batch, the value logs. The values of the next transactions are put there.
+    pub fn ends(&self) -> &[u64; 6]
+        ensures { result.now ≡ self.now.ends }
+    {
+        &self.ends
+    }
+
+    /// How far the batch in progress is.
+    pub fn step(&self) -> Step
+        ensures { result ≡ self.now.batch.step }
+    {
+        self.batch.step
+    }
+
+    /// How many calls of the disk have failed since opening, at most 2^64 - 1.
+    pub fn failures(&self) -> u64
+        ensures { result ≡ self.now.failures }
+    {
+        self.failures
+    }
+
+    /// Hands the disk back.
+    pub fn into_disk(self) -> D
+        ensures { result ≡ self.disk }
+    {
+        let Journal {
+            disk,
+            ends: _,
+            durable: _,
+            batch: _,
+            failures: _,
+        } = self;
+        disk
+    }
+
+    // Refuses where a call of the disk has failed.
+    fn go(&self) -> Result<(), JournalError>
+        ensures going { IsOk result → self.now.failures ≡ 0 }
+        ensures stopped { OnErr result ((0 < self.now.failures) × (result ≡ Err (JournalError.Stopped self.now.failures))) }
+    {
+        if self.failures > 0 {
+            return Err(JournalError::Stopped {
+                faults: self.failures,
+            });
+        }
+        Ok(())
+    }
+
+    // Begins a batch.
+    fn begin(&mut self, alloc: Global, records: &[Record]) -> Result<(), AllocError>
+        requires idle { self.old.batch.step ≡ Idle }
+        requires next { (hash : Hash) × (history : List Transaction) × (batches : List (List Record))
+            × IsAtRest D.told hash history batches self.old × AreNext hash history batches self.old.durable records.now }
+        ensures ok { (hash : Hash) (history : List Transaction) (batches : List (List Record))
+            → IsAtRest D.told hash history batches self.old → AreNext hash history batches self.old.durable records.now
+            → OnOk result (IsInBatch D.told hash history batches records.now self.new) }
+        ensures step { OnOk result (self.new.batch.step ≡ Staging) }
+        ensures disk { self.new.disk ≡ self.old.disk }
+        ensures kept { (self.new.ends ≡ self.old.ends) × (self.new.durable ≡ self.old.durable) × (self.new.failures ≡ self.old.failures) }
+        ensures err { OnErr result (self.new ≡ self.old) }
+    {
+        let plan = plan_of(alloc, &self.ends, self.durable + 1, records)?;
+        let ends = plan.ends;
+        self.batch = Batch {
+            step: Step::Staging,
+            pieces: plan.pieces,
+            written: 0,
+            ends,
+            count: records.len() as u64,
+        };
+        Ok(())
+    }
+
+    // Writes what is left of the pieces of the batch.
+    fn put_batch(&mut self) -> Result<(), JournalError>
+        requires staging { self.old.batch.step ≡ Staging }
+        requires mid { (hash : Hash) × (history : List Transaction) × (batches : List (List Record)) × (rs : List Record)
+            × IsInBatch D.told hash history batches rs self.old }
+        ensures ok { (hash : Hash) (history : List Transaction) (batches : List (List Record)) (rs : List Record)
+            → IsInBatch D.told hash history batches rs self.old → OnOk result (IsInBatch D.told hash history batches rs self.new) }
+        ensures step { OnOk result (self.new.batch.step ≡ Staged) }
+        ensures memory { (hash : Hash) (history : List Transaction) (batches : List (List Record)) (rs : List Record)
+            → IsInBatch D.told hash history batches rs self.old → IsErrOf result JournalError.Memory
+            → IsInBatch D.told hash history batches rs self.new }
+        ensures any_moment { (hash : Hash) (history : List Transaction) (batches : List (List Record)) (rs : List Record)
+            → IsInBatch D.told hash history batches rs self.old
+            → Leaves (λ image. Stands hash image (take self.old.durable history)) (D.told self.old.disk) (D.told self.new.disk) }
+        ensures kept { (self.new.ends ≡ self.old.ends) × (self.new.durable ≡ self.old.durable) }
+        ensures counted { IsCounted (D.faults self.old.disk) (D.faults self.new.disk) self.old.failures self.new.failures result }
+        ensures going { (faults : ℕ) → IsErrOf result (JournalError.Stopped faults) → ⊥ }
+    {
+        match put_pieces(
+            &mut self.disk,
+            self.batch.pieces.as_slice(),
+            &mut self.batch.written,
+        ) {
+            Ok(()) => {
+                self.batch.step = Step::Staged;
+                Ok(())
+            }
+            Err(DiskError::Failed) => {
+                self.failures = self.failures.saturating_add(1);
+                Err(JournalError::DiskFault)
+            }
+            Err(DiskError::Memory) => Err(JournalError::Memory),
+        }
+    }
+
+    // Makes the pieces of the batch durable.
+    fn seal_batch(&mut self) -> Result<(), JournalError>
+        requires staged { self.old.batch.step ≡ Staged }
+        ensures ok { (hash : Hash) (history : List Transaction) (batches : List (List Record)) (rs : List Record)
+            → IsInBatch D.told hash history batches rs self.old → OnOk result (IsInBatch D.told hash history batches rs self.new) }
+        ensures step { OnOk result (self.new.batch.step ≡ Sealed) }
+        ensures memory { (hash : Hash) (history : List Transaction) (batches : List (List Record)) (rs : List Record)
+            → IsInBatch D.told hash history batches rs self.old → IsErrOf result JournalError.Memory
+            → IsInBatch D.told hash history batches rs self.new }
+        ensures any_moment { (hash : Hash) (history : List Transaction) (batches : List (List Record)) (rs : List Record)
+            → IsInBatch D.told hash history batches rs self.old
+            → Leaves (λ image. Stands hash image (take self.old.durable history)) (D.told self.old.disk) (D.told self.new.disk) }
+        ensures kept { (self.new.ends ≡ self.old.ends) × (self.new.durable ≡ self.old.durable) }
+        ensures err { OnErr result (self.new.batch ≡ self.old.batch) }
+        ensures counted { IsCounted (D.faults self.old.disk) (D.faults self.new.disk) self.old.failures self.new.failures result }
+        ensures going { (faults : ℕ) → IsErrOf result (JournalError.Stopped faults) → ⊥ }
+    {
+        match seal_pieces(&mut self.disk) {
+            Ok(()) => {
+                self.batch.step = Step::Sealed;
+                Ok(())
+            }
+            Err(DiskError::Failed) => {
+                self.failures = self.failures.saturating_add(1);
+                Err(JournalError::DiskFault)
+            }
+            Err(DiskError::Memory) => Err(JournalError::Memory),
+        }
+    }
+
+    // Opens the gate of the batch.
+    fn open_batch(&mut self) -> Result<(), JournalError>
+        requires sealed { self.old.batch.step ≡ Sealed }
+        requires mid { (hash : Hash) × (history : List Transaction) × (batches : List (List Record)) × (rs : List Record)
+            × IsInBatch D.told hash history batches rs self.old }
+        ensures ok { (hash : Hash) (history : List Transaction) (batches : List (List Record)) (rs : List Record)
+            → IsInBatch D.told hash history batches rs self.old → OnOk result (IsInBatch D.told hash history batches rs self.new) }
+        ensures step { OnOk result (self.new.batch.step ≡ Gated) }
+        ensures memory { (hash : Hash) (history : List Transaction) (batches : List (List Record)) (rs : List Record)
+            → IsInBatch D.told hash history batches rs self.old → IsErrOf result JournalError.Memory
+            → IsInBatch D.told hash history batches rs self.new }
+        ensures any_moment { (hash : Hash) (history : List Transaction) (batches : List (List Record)) (rs : List Record)
+            → IsInBatch D.told hash history batches rs self.old
+            → Leaves (StandsBy Gated hash history self.old.durable (length rs)) (D.told self.old.disk) (D.told self.new.disk) }
+        ensures kept { (self.new.ends ≡ self.old.ends) × (self.new.durable ≡ self.old.durable)
+            × (self.new.batch.ends ≡ self.old.batch.ends) × (self.new.batch.count ≡ self.old.batch.count) }
+        ensures err { OnErr result (self.new.batch ≡ self.old.batch) }
+        ensures counted { IsCounted (D.faults self.old.disk) (D.faults self.new.disk) self.old.failures self.new.failures result }
+        ensures going { (faults : ℕ) → IsErrOf result (JournalError.Stopped faults) → ⊥ }
+    {
+        match open_gate(&mut self.disk, self.ends[1]) {
+            Ok(()) => {
+                self.batch.step = Step::Gated;
+                Ok(())
+            }
+            Err(DiskError::Failed) => {
+                self.failures = self.failures.saturating_add(1);
+                Err(JournalError::DiskFault)
+            }
+            Err(DiskError::Memory) => Err(JournalError::Memory),
+        }
+    }
+
+    // Makes the gate of the batch durable, and with it the batch.
+    fn settle_batch(&mut self) -> Result<(), JournalError>
+        requires gated { self.old.batch.step ≡ Gated }
+        requires mid { (hash : Hash) × (history : List Transaction) × (batches : List (List Record)) × (rs : List Record)
+            × IsInBatch D.told hash history batches rs self.old }
+        ensures ok { (hash : Hash) (history : List Transaction) (batches : List (List Record)) (rs : List Record)
+            → IsInBatch D.told hash history batches rs self.old
+            → OnOk result (IsAtRest D.told hash history (batches ++ rs ∷ []) self.new) }
+        ensures moved { OnOk result ((self.new.durable ≡ self.old.durable + self.old.batch.count) × (self.new.ends ≡ self.old.batch.ends)) }
+        ensures memory { (hash : Hash) (history : List Transaction) (batches : List (List Record)) (rs : List Record)
+            → IsInBatch D.told hash history batches rs self.old → IsErrOf result JournalError.Memory
+            → IsInBatch D.told hash history batches rs self.new }
+        ensures any_moment { (hash : Hash) (history : List Transaction) (batches : List (List Record)) (rs : List Record)
+            → IsInBatch D.told hash history batches rs self.old
+            → Leaves (StandsBy Gated hash history self.old.durable (length rs)) (D.told self.old.disk) (D.told self.new.disk) }
+        ensures err { OnErr result ((self.new.ends ≡ self.old.ends) × (self.new.durable ≡ self.old.durable) × (self.new.batch ≡ self.old.batch)) }
+        ensures counted { IsCounted (D.faults self.old.disk) (D.faults self.new.disk) self.old.failures self.new.failures result }
+        ensures going { (faults : ℕ) → IsErrOf result (JournalError.Stopped faults) → ⊥ }
+    {
+        match settle_gate(&mut self.disk) {
+            Ok(()) => {
+                let ends = self.batch.ends;
+                self.ends = ends;
+                self.durable += self.batch.count;
+                self.batch.step = Step::Idle;
+                Ok(())
+            }
+            Err(DiskError::Failed) => {
+                self.failures = self.failures.saturating_add(1);
+                Err(JournalError::DiskFault)
+            }
+            Err(DiskError::Memory) => Err(JournalError::Memory),
+        }
+    }
+}

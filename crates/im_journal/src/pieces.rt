@@ -1,0 +1,105 @@
+// The writes of a batch.
+ghost use Rattle.std.specs.Prelude.{◌≡◌, ◌<◌, ◌≤◌, ◌+◌, ◌^◌, ◌++◌, ℕ, IfOk, OnOk, length, All};
+ghost use Rattle.im_format.specs.Records.{records_octets};
+ghost use Rattle.im_record.specs.Writing.{IsWhole};
+ghost use Rattle.im_journal.specs.Pieces.{end_of, ends_after, log_pieces, pieces_of, value_piece};
+
+use im_clog::batches::batch_octets;
+use im_format::records::Record;
+use im_format::spans::Span;
+use im_octet::octets::Octets;
+use im_record::writing::records_octets;
+use im_vlog::octets::log_values;
+use std::alloc::{AllocError, Global};
+
+/// The writes of a batch, and where each file ends behind it: the transaction log, the commit log at
+/// its last gate, the value logs.
+#[derive(Drop)]
+pub(crate) struct Plan {
+    pub(crate) pieces: Vec<Span>,
+    pub(crate) ends: [u64; 6],
+}
+
+/// The writes of a batch of these records, of which the first has this ID, behind these ends.
+pub(crate) fn plan_of(
+    alloc: Global,
+    ends: &[u64; 6],
+    id: u64,
+    records: &[Record],
+) -> Result<Plan, AllocError>
+    requires whole { All IsWhole records.now }
+    requires few { id + length records.now < 2 ^ 63 }
+    requires room { (k : ℕ) → end_of ends.now k < 2 ^ 61 }
+    ensures pieces { IfOk result (λ plan. plan.pieces.items ≡ pieces_of ends.now id records.now) }
+    ensures ends { IfOk result (λ plan. plan.ends ≡ ends_after ends.now id records.now) }
+{
+    let mut pieces = Vec::new(alloc);
+    let first = push_value_piece(&mut pieces, 2, ends[2], log_values(alloc, 0, records)?)?;
+    let second = push_value_piece(&mut pieces, 3, ends[3], log_values(alloc, 1, records)?)?;
+    let third = push_value_piece(&mut pieces, 4, ends[4], log_values(alloc, 2, records)?)?;
+    let fourth = push_value_piece(&mut pieces, 5, ends[5], log_values(alloc, 3, records)?)?;
+    let end = push_log_pieces(alloc, &mut pieces, ends, id, records)?;
+    Ok(Plan {
+        pieces,
+        ends: [end, ends[1] + 25, first, second, third, fourth],
+    })
+}
+
+// Adds the write of a value log, where it gets octets, and gives the log's end behind it.
+fn push_value_piece(
+    pieces: &mut Vec<Span>,
+    file: u8,
+    at: u64,
+    octets: Vec<u8>,
+) -> Result<u64, AllocError>
+    requires { at < 2 ^ 61 }
+    ensures piece { OnOk result (pieces.new.items ≡ pieces.old.items ++ value_piece file at octets.items) }
+    ensures end { IfOk result (λ end. end ≡ at + length octets.items) }
+{
+    let end = at + octets.len() as u64;
+    if !octets.is_empty() {
+        let octets = Octets::from_vec(octets);
+        pieces
+            .push(Span { file, at, octets })
+            .map_err(AllocError::from)?;
+    }
+    Ok(end)
+}
+
+// Adds the writes of the transaction log and of the commit log, and gives the transaction log's end
+// behind them.
+fn push_log_pieces(
+    alloc: Global,
+    pieces: &mut Vec<Span>,
+    ends: &[u64; 6],
+    id: u64,
+    records: &[Record],
+) -> Result<u64, AllocError>
+    requires whole { All IsWhole records.now }
+    requires few { id + length records.now < 2 ^ 63 }
+    requires log { end_of ends.now 0 < 2 ^ 61 }
+    requires gate { end_of ends.now 1 < 2 ^ 61 }
+    ensures pieces { OnOk result (pieces.new.items ≡ pieces.old.items ++ log_pieces ends.now id records.now) }
+    ensures end { IfOk result (λ end. end ≡ end_of ends.now 0 + length (records_octets id records.now)) }
+{
+    let octets = records_octets(alloc, id, records)?;
+    let end = ends[0] + octets.len() as u64;
+    let fields = batch_octets(id, records.len() as u64, end);
+    let fields = Octets::from_slice(alloc, &fields)?;
+    let octets = Octets::from_vec(octets);
+    pieces
+        .push(Span {
+            file: 0,
+            at: ends[0],
+            octets,
+        })
+        .map_err(AllocError::from)?;
+    pieces
+        .push(Span {
+            file: 1,
+            at: ends[1] + 1,
+            octets: fields,
+        })
+        .map_err(AllocError::from)?;
+    Ok(end)
+}
