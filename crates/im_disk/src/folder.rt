@@ -1,9 +1,9 @@
-ghost use Rattle.std.specs.Prelude.{◌≡◌, ◌<◌, ◌≤◌, ◌+◌, ◌↔◌, true, IsTrue, IsOk, IsErr, IfErr, OnOk, IsFalse, slice_set, slice_index_or, replicate, false};
+ghost use Rattle.std.specs.Prelude.{◌≡◌, ◌<◌, ◌≤◌, ◌+◌, ◌↔◌, true, IsTrue, IsOk, IsErr, IfErr, OnErr, OnOk, IsFalse, slice_set, slice_index_or, replicate, false};
 ghost use Rattle.std.specs.IoError.{error_kind};
 ghost use Rattle.std.specs.declared.io.ErrorKind.TheVariants.{OutOfMemory};
 ghost use Rattle.im_disk.specs.declared.disk.DiskError.TheVariants.{Failed, Memory};
 ghost use Rattle.im_disk.specs.Causes.{HasCause};
-ghost use Rattle.im_disk.specs.Brought.{AllBrought};
+ghost use Rattle.im_disk.specs.Brought.{AllBrought, Stays};
 
 use crate::disk::{Disk, DiskError};
 use im_edge::sink::{Writing, write_all};
@@ -106,7 +106,8 @@ impl<'a, R: Files> FolderDisk<'a, R> {
     fn put(&mut self, file: u8, at: u64, piece: &[u8]) -> Result<(), DiskError>
         requires { file < 16 }
         ensures failures { self.new.failures ≡ self.old.failures }
-        ensures unsynced { slice_index_or self.new.unsynced.files file false ≡ true }
+        ensures unsynced { self.new.unsynced.files ≡ slice_set self.old.unsynced.files file true }
+        ensures stays { Stays self.old.unsynced self.new.unsynced }
     {
         self.unsynced.files[file as usize] = true;
         let mut opened = match self.opened(OpenOptions::new().write(true), file)? {
@@ -126,6 +127,7 @@ impl<'a, R: Files> FolderDisk<'a, R> {
         ensures failures { self.new.failures ≡ self.old.failures }
         ensures files { self.new.unsynced.files ≡ self.old.unsynced.files }
         ensures names { OnOk result (IsTrue self.new.unsynced.names) }
+        ensures stays { Stays self.old.unsynced self.new.unsynced }
     {
         let path = self.path_of(file)?;
         if !fs::exists(self.rt, self.folder)? {
@@ -143,6 +145,7 @@ impl<'a, R: Files> FolderDisk<'a, R> {
         ensures failures { self.new.failures ≡ self.old.failures }
         ensures lost { IsTrue self.old.unsynced.lost → IsErr result }
         ensures all { OnOk result (AllBrought self.new.unsynced) }
+        ensures still { IsTrue self.old.unsynced.lost → IsTrue self.new.unsynced.lost }
     {
         if self.unsynced.lost {
             return Err(DiskError::Failed);
@@ -159,6 +162,8 @@ impl<'a, R: Files> FolderDisk<'a, R> {
         ensures failures { self.new.failures ≡ self.old.failures }
         ensures files { OnOk result
             (self.new.unsynced.files ≡ slice_set self.old.unsynced.files file false) }
+        ensures kept { OnErr result (self.new.unsynced.files ≡ self.old.unsynced.files) }
+        ensures still { IsTrue self.old.unsynced.lost → IsTrue self.new.unsynced.lost }
     {
         if self.unsynced.files[file as usize] {
             if let Some(opened) = self.opened(OpenOptions::new().read(true), file)? {
@@ -176,6 +181,7 @@ impl<'a, R: Files> FolderDisk<'a, R> {
         ensures files { self.new.unsynced.files ≡ self.old.unsynced.files }
         ensures names { OnOk result (IsFalse self.new.unsynced.names) }
         ensures folder { OnOk result (IsFalse self.new.unsynced.folder) }
+        ensures still { IsTrue self.old.unsynced.lost → IsTrue self.new.unsynced.lost }
     {
         if self.unsynced.names {
             self.bring_folder(self.folder)?;
@@ -193,6 +199,7 @@ impl<'a, R: Files> FolderDisk<'a, R> {
         ensures failures { self.new.failures ≡ self.old.failures }
         ensures files { self.new.unsynced.files ≡ self.old.unsynced.files }
         ensures names { self.new.unsynced.names ≡ self.old.unsynced.names }
+        ensures still { IsTrue self.old.unsynced.lost → IsTrue self.new.unsynced.lost }
     {
         match fs::open(self.rt, folder) {
             Ok(opened) => {
@@ -212,6 +219,7 @@ impl<'a, R: Files> FolderDisk<'a, R> {
         ensures names { self.new.unsynced.names ≡ self.old.unsynced.names }
         ensures ok { IsOk result ↔ IsOk answer }
         ensures lost { IsErr answer → IsTrue self.new.unsynced.lost }
+        ensures still { IsTrue self.old.unsynced.lost → IsTrue self.new.unsynced.lost }
     {
         match answer {
             Ok(()) => Ok(()),
@@ -230,19 +238,28 @@ impl<R: Files> Disk for FolderDisk<'_, R> {
 
     ghost faults = { λ disk. disk.failures };
 
-    fn len(&mut self, file: u8) -> Result<u64, DiskError> {
+    fn len(&mut self, file: u8) -> Result<u64, DiskError>
+        requires { file < 16 }
+        ensures unsynced { self.new.unsynced ≡ self.old.unsynced }
+        ensures cause { HasCause self.old.failures self.new.failures result }
+    {
         let answer = self.length_of(file);
         counted(&mut self.failures, answer)
     }
 
-    fn read(&mut self, file: u8, at: u64, buffer: &mut [u8]) -> Result<(), DiskError> {
+    fn read(&mut self, file: u8, at: u64, buffer: &mut [u8]) -> Result<(), DiskError>
+        requires { file < 16 }
+        ensures unsynced { self.new.unsynced ≡ self.old.unsynced }
+        ensures cause { HasCause self.old.failures self.new.failures result }
+    {
         let answer = self.fill_from(file, at, buffer);
         counted(&mut self.failures, answer)
     }
 
     fn write_at(&mut self, file: u8, at: u64, piece: &[u8]) -> Result<(), DiskError>
         requires { file < 16 }
-        ensures unsynced { slice_index_or self.new.unsynced.files file false ≡ true }
+        ensures unsynced { self.new.unsynced.files ≡ slice_set self.old.unsynced.files file true }
+        ensures stays { Stays self.old.unsynced self.new.unsynced }
         ensures cause { HasCause self.old.failures self.new.failures result }
     {
         let answer = self.put(file, at, piece);
@@ -252,6 +269,7 @@ impl<R: Files> Disk for FolderDisk<'_, R> {
     fn sync(&mut self) -> Result<(), DiskError>
         ensures lost { IsTrue self.old.unsynced.lost → IsErr result }
         ensures all { OnOk result (AllBrought self.new.unsynced) }
+        ensures still { IsTrue self.old.unsynced.lost → IsTrue self.new.unsynced.lost }
         ensures cause { HasCause self.old.failures self.new.failures result }
     {
         let answer = self.bring_all();

@@ -19,7 +19,7 @@ pub fn a_sync_is_durable()
     ensures seen { (t : Told) (file : ℕ) → seen (after Synced t) file ≡ seen t file }
 {}
 
-/// The images of the moments since now are those of now, and none lie in the future.
+/// The images of the moments since now are those of now.
 pub fn moments_end_now()
     ensures { (t : Told) (image : Files) → ImagesSince t (time t) image ↔ Images t image }
 {}

@@ -125,25 +125,31 @@ fn calls_that_are_to_fail(rt: HostRuntime) -> Result<(), Fail> {
     Ok(())
 }
 
+// The answer of a changing call behind a fuse that passes so many: done, where it is one of these.
+fn answered(calls: u64, number: u64) -> Result<(), DiskError> {
+    if number <= calls {
+        Ok(())
+    } else {
+        Err(DiskError::Failed)
+    }
+}
+
 #[test]
 fn a_disk_that_burns_through(rt: HostRuntime) -> Result<(), Fail> {
     for (calls, want) in [
         (0, b"".as_slice()),
         (1, b"abc".as_slice()),
         (2, b"abc".as_slice()),
-        (3, b"aXc".as_slice()),
-        (9, b"aXc".as_slice()),
+        (3, b"Xbc".as_slice()),
+        (9, b"Xbc".as_slice()),
     ] {
         let inner = MemDisk::new(rt.alloc(), Vec::new(rt.alloc()))?;
         let mut fuse = Fuse::new(rt.alloc(), inner, calls);
-        assert_eq!(rt;
-            put(&mut fuse, 2, 0, b"abc").is_ok(),
-            calls >= 1,
-            "at {calls}"
-        );
-        assert_eq!(rt; fuse.sync().is_ok(), calls >= 2, "at {calls}");
-        let third = put(&mut fuse, 2, 1, b"X");
-        assert_eq!(rt; third.is_ok(), calls >= 3, "at {calls}");
+        let first = put(&mut fuse, 2, 0, b"abc");
+        assert_eq!(rt; first, answered(calls, 1), "at {calls}");
+        assert_eq!(rt; fuse.sync(), answered(calls, 2), "at {calls}");
+        let third = put(&mut fuse, 2, 0, b"X");
+        assert_eq!(rt; third, answered(calls, 3), "at {calls}");
         assert_eq!(rt; fuse.len(2), Ok(want.len() as u64), "at {calls}");
         if calls > 0 {
             assert_eq!(rt; three(&mut fuse, 2, 0)?.as_slice(), want, "at {calls}");

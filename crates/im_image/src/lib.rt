@@ -1,6 +1,8 @@
 //! What a crash may leave of a disk, decided by comparing.
 #![tactic(auto)]
 
+#[cfg(test)]
+mod disk_tests;
 pub mod images;
 pub mod laws;
 mod ranges;

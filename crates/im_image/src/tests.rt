@@ -12,7 +12,7 @@ pub type Pair = (&'static str, &'static str);
 const FIRST: Pair = ("abcd", "xy");
 
 // A disk's sixteen files.
-fn files(alloc: Global, (zero, one): Pair) -> Result<Vec<Octets>, AllocError> {
+pub fn files(alloc: Global, (zero, one): Pair) -> Result<Vec<Octets>, AllocError> {
     let mut files = Vec::new(alloc);
     files.push(Octets::from_slice(alloc, zero.as_bytes())?)?;
     files.push(Octets::from_slice(alloc, one.as_bytes())?)?;
