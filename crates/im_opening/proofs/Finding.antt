@@ -1,0 +1,57 @@
+-- The first check that fails, of lists that are put together.
+use Rattle.std.proofs.Common.{◌≡◌, ℕ, List, [], ◌∷◌, ◌++◌, refl, ap, sym, ◌∙◌, subst, append_assoc, Bool, true, false, if◌then◌else◌, Result, Ok, Err, Option, Some, None}
+use Rattle.std.specs.Prelude.{IfSome, IsErrAnd}
+use Rattle.im_disk.specs.Disk.{Told}
+use Rattle.im_mtree.specs.Checks.{Check, first_fail}
+use Rattle.im_format.specs.declared.damages.Damage.{Damage}
+use Rattle.im_opening.specs.Answers.{HasOpenCause, Judges, Tells}
+use Rattle.im_opening.specs.declared.errors.OpenError.{OpenError}
+use Rattle.im_opening.specs.declared.errors.OpenError.TheVariants.{DiskFault, Damaged, Memory}
+use Rattle.im_record.proofs.FailLemmas.{then_check, fail_both}
+
+-- where the first hold, what is found by the others
+pub find-behind : {F : Type 0} → (a b : List (Check F)) → first_fail a ≡ Ok tt → first_fail (a ++ b) ≡ first_fail b
+find-behind a b e = fail_both a b ∙ ap (λ r. then_check r (first_fail b)) e
+
+-- where one of the first fails, that one
+pub find-first : {F : Type 0} → (a b : List (Check F)) (f : F) → first_fail a ≡ Err f → first_fail (a ++ b) ≡ Err f
+find-first a b f e = fail_both a b ∙ ap (λ r. then_check r (first_fail b)) e
+
+-- others behind, of which the same is found
+pub find-same : {F : Type 0} → (a b c : List (Check F)) → first_fail b ≡ first_fail c → first_fail (a ++ b) ≡ first_fail (a ++ c)
+find-same a b c e = fail_both a b ∙ ap (λ r. then_check (first_fail a) r) e ∙ sym (fail_both a c)
+
+-- what stands behind a check that doesn't hold isn't looked at
+pub find-stop : {F : Type 0} → (a : List (Check F)) (c : Check F) (b : List (Check F)) → c.0 ≡ false → first_fail (a ++ (c ∷ b)) ≡ first_fail (a ++ (c ∷ []))
+find-stop a c b e =
+    find-same a (c ∷ b) (c ∷ [])
+    (ap (λ t. if t then first_fail b else Err c.1) e ∙ sym (ap (λ t. if t then Ok tt else Err c.1) e))
+
+-- what holds where a disk tells, and what was told
+pub at-told : (P : Told → Type 0) (o : Option Told) (t : Told) → IfSome o P → o ≡ Some t → P t
+at-told P o t h is = subst (λ (x : Option Told). IfSome x P) is h
+
+pub if-told : (P : Told → Type 0) (o : Option Told) → ((t : Told) → o ≡ Some t → P t) → IfSome o P
+if-told P None f = tt
+if-told P (Some t) f = f t refl
+
+-- an error that is passed on
+pub judge-err : {T : Type 0} (checks : List (Check Damage)) (r : Result T OpenError) (x : OpenError) → IsErrAnd r (λ e. e ≡ x) → Tells checks x → Judges checks r
+judge-err checks (Ok y) x h tells = absurd h
+judge-err checks (Err e) x h tells = record { is = subst (Tells checks) (sym h) tells }
+
+-- a call that is answered leaves the count of faults
+pub ok-leaves : {T : Type 0} (before now : ℕ) (x : T) → HasOpenCause before now (Ok x) → now ≡ before
+ok-leaves before now x h = h.others (λ e. absurd (cc))
+
+-- what an error tells of the first checks, it tells of all
+pub tells-first : (a b : List (Check Damage)) (e : OpenError) → Tells a e → Tells (a ++ b) e
+tells-first a b DiskFault h = tt
+tells-first a b (Damaged d) h = find-first a b d h
+tells-first a b Memory h = tt
+
+-- and so with what it tells of the others, where the first hold
+pub tells-behind : (a b : List (Check Damage)) (e : OpenError) → first_fail a ≡ Ok tt → Tells b e → Tells (a ++ b) e
+tells-behind a b DiskFault fine h = tt
+tells-behind a b (Damaged d) fine h = find-behind a b fine ∙ h
+tells-behind a b Memory fine h = tt

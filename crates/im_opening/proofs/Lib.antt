@@ -1,0 +1,13 @@
+pub mod Finding
+pub mod SlotFinds
+pub mod EntriesLeft
+pub mod RecordGrows
+pub mod RecordFinds
+pub mod RecordsLeft
+pub mod BatchFinds
+pub mod BatchesLeft
+pub mod EndLemmas
+pub mod HistoryReads
+pub mod GateLemmas
+pub mod LeaveLemmas
+pub mod OpenLemmas

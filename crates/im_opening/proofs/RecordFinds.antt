@@ -1,0 +1,65 @@
+-- The checks of a record as those of its parts.
+use Rattle.std.proofs.Common.{◌≡◌, ℕ, ◌+◌, List, [], ◌∷◌, ◌++◌, length, refl, ap, sym, ◌∙◌, subst, append_assoc, Ok}
+use Rattle.im_digest.specs.Digests.{Hash}
+use Rattle.im_disk.specs.Disk.{Files}
+use Rattle.im_format.specs.Damages.{Reached, alh_checks, head_checks, next_alh, next_id, record_checks, slots_checks}
+use Rattle.im_format.specs.Reading.{alh_place, count_at, transaction_in}
+use Rattle.im_format.specs.declared.damages.Damage.{Damage}
+use Rattle.im_model.specs.Headers.{alh}
+use Rattle.im_model.specs.History.{next_header}
+use Rattle.im_model.specs.declared.headers.Header.{Header}
+use Rattle.im_model.specs.declared.transactions.Transaction.{Transaction}
+use Rattle.im_mtree.specs.Checks.{Check, first_fail}
+use Rattle.im_opening.specs.Answers.{Tells}
+use Rattle.im_opening.specs.Parts.{transaction_checks}
+use Rattle.im_opening.specs.declared.errors.OpenError.{OpenError}
+use Rattle.im_opening.specs.declared.errors.OpenError.TheVariants.{Damaged}
+use Rattle.im_opening.proofs.Finding.{find-behind, tells-behind, tells-first}
+
+-- the Alh that was computed and its place
+pub record IsDigest (hash : Hash) (image : Files) (r : Reached) (log : List ℕ) (end : ℕ) (digest : List ℕ) : Type 0 where
+  pub log_is : log ≡ image 0
+  pub end_is : end ≡ alh_place image r.place
+  pub digest_is : digest ≡ next_alh hash image r
+
+pub digest-made : (hash : Hash) (image : Files) (r : Reached) (log : List ℕ) (end : ℕ) (digest : List ℕ) (header : Header) (tx : Transaction)
+    → log ≡ image 0 → end ≡ alh_place image r.place → digest ≡ alh hash header → header ≡ next_header hash r.alhs tx
+    → tx ≡ transaction_in image r.place → IsDigest hash image r log end digest
+digest-made hash image r log end digest header tx a b made of is = record {
+  log_is = a;
+  end_is = b;
+  digest_is = made ∙ ap (alh hash) of ∙ ap (λ (x : Transaction). alh hash (next_header hash r.alhs x)) is;
+}
+
+digest-checks : (hash : Hash) (image : Files) (r : Reached) (log : List ℕ) (end : ℕ) (digest : List ℕ) → IsDigest hash image r log end digest
+    → alh_checks log end digest ≡ alh_checks (image 0) (alh_place image r.place) (next_alh hash image r)
+digest-checks hash image r log end digest is =
+    let C : Type 0 = List (Check Damage) in
+    let A : List ℕ → C = λ l. alh_checks l end digest in
+    let B : ℕ → C = λ k. alh_checks (image 0) k digest in
+    let D : List ℕ → C = λ d. alh_checks (image 0) (alh_place image r.place) d in
+    ap A is.log_is ∙ ap B is.end_is ∙ ap D is.digest_is
+
+parts : (hash : Hash) (image : Files) (r : Reached)
+    → transaction_checks hash image (next_id r) r.bl r.place ++ alh_checks (image 0) (alh_place image r.place) (next_alh hash image r) ≡ record_checks hash image r
+parts hash image r =
+    append_assoc (head_checks (image 0) (next_id r) r.bl r.place)
+    (slots_checks hash image (next_id r) [] (r.place + 28) (count_at (image 0) r.place))
+    (alh_checks (image 0) (alh_place image r.place) (next_alh hash image r))
+
+-- what is told of the transaction is told of the record
+pub record-tells : (hash : Hash) (image : Files) (r : Reached) (e : OpenError)
+    → Tells (transaction_checks hash image (next_id r) r.bl r.place) e → Tells (record_checks hash image r) e
+record-tells hash image r e h =
+    let P : List (Check Damage) → Type 0 = λ l. Tells l e in
+    subst P (parts hash image r)
+    (tells-first (transaction_checks hash image (next_id r) r.bl r.place) (alh_checks (image 0) (alh_place image r.place) (next_alh hash image r)) e h)
+
+-- where the transaction's checks hold: what is found of the Alh
+pub record-finds : (hash : Hash) (image : Files) (r : Reached) (log : List ℕ) (end : ℕ) (digest : List ℕ) → IsDigest hash image r log end digest
+    → first_fail (transaction_checks hash image (next_id r) r.bl r.place) ≡ Ok tt
+    → first_fail (record_checks hash image r) ≡ first_fail (alh_checks log end digest)
+record-finds hash image r log end digest is fine =
+    ap first_fail (sym (parts hash image r))
+    ∙ find-behind (transaction_checks hash image (next_id r) r.bl r.place) (alh_checks (image 0) (alh_place image r.place) (next_alh hash image r)) fine
+    ∙ ap first_fail (sym (digest-checks hash image r log end digest is))

@@ -1,0 +1,83 @@
+use Rattle.std.proofs.Common.{rules, arith, ◌≡◌, ◌+◌, ◌-◌, ◌<◌, ◌≤◌, ◌∷◌, ◌++◌, [], ℕ, List, length, map, refl, sym, ◌∙◌, ap, subst, Ok}
+use Rattle.im_disk.specs.Disk.{Told, seen}
+use Rattle.im_format.specs.Damages.{Reached}
+use Rattle.im_format.specs.Records.{AreReferences}
+use Rattle.im_format.specs.declared.records.Record.{Record}
+use Rattle.im_format.specs.declared.references.ValueRef.{ValueRef}
+use Rattle.im_model.specs.Headers.{alh}
+use Rattle.im_model.specs.History.{IsTransaction}
+use Rattle.im_model.specs.declared.headers.Header.{Header}
+use Rattle.im_mtree.specs.Checks.{first_fail}
+use Rattle.im_opening.specs.Answers.{Judges, Tells}
+use Rattle.im_opening.specs.Parts.{Shows, transaction_checks}
+use Rattle.im_opening.specs.Reach.{IsConsistent, reached_of}
+use Rattle.im_opening.specs.declared.errors.OpenError.TheVariants.{Damaged}
+use Rattle.im_opening.proofs.Finding.{at-told, judge-err}
+use Rattle.im_opening.proofs.RecordFinds.{digest-made, record-finds, record-tells}
+use Rattle.im_opening.proofs.RecordGrows.{consistent-next, root-next}
+use Rattle.im_opening.proofs.records.read_record.Goals as goal
+
+pub returns-in_err-read-clause-first : goal.returns-in_err-read-clause-first
+returns-in_err-read-clause-first g c t is =
+    let hash = g.H.Hash32.digest c.args.hash.now in
+    let p = c.args.progress.now in
+    let same : c.len.result ≡ length p.alhs.items = omega (arith, c.len.ensures, p.alhs.ok) in
+    let e = c.in_err-read.field-0.0 in
+    let P : ℕ → Type 0 = λ n. Tells (transaction_checks hash (seen t) (n + 1) p.bl p.place) e in
+    judge-err _ _ e c.from_residual.ensures.1
+    (record-tells hash (seen t) (reached_of p) e (subst P same (c.in_err-read.ensures.first t is).is))
+
+pub returns-in_err-place-clause-first : goal.returns-in_err-place-clause-first
+returns-in_err-place-clause-first g c t is =
+    let hash = g.H.Hash32.digest c.args.hash.now in
+    let p = c.args.progress.now in
+    let same : c.len.result ≡ length p.alhs.items = omega (arith, c.len.ensures, p.alhs.ok) in
+    let d = c.in_err-place.field-0.0 in
+    let log = c.args.source.now.log.now in
+    let shows = at-told (λ t. Shows (seen t) log c.args.source.now.lens) (g.D.Disk.told c.args.disk.now) t c.requires.shows is in
+    let there = c.in_ok-read.ensures.read t is in
+    let made = digest-made hash (seen t) (reached_of p) log c.in_ok-read.read.end c.alh-digest.result c.next_header-header.result c.in_ok-read.read.tx
+    shows.log_is there.end_is c.alh-digest.ensures c.next_header-header.ensures there.tx_is
+    in
+    let P : ℕ → Type 0 = λ n. first_fail (transaction_checks hash (seen t) (n + 1) p.bl p.place) ≡ Ok tt in
+    judge-err _ _ (Damaged d) c.from_residual-in_err-place.ensures.1
+    (record-finds hash (seen t) (reached_of p) log c.in_ok-read.read.end c.alh-digest.result made (subst P same (c.in_ok-read.ensures.first t is).is)
+    ∙ c.in_err-place.ensures.first)
+
+pub returns-clause-first : goal.returns-clause-first
+returns-clause-first g c t is =
+    let hash = g.H.Hash32.digest c.args.hash.now in
+    let p = c.args.progress.now in
+    let same : c.len.result ≡ length p.alhs.items = omega (arith, c.len.ensures, p.alhs.ok) in
+    let log = c.args.source.now.log.now in
+    let shows = at-told (λ t. Shows (seen t) log c.args.source.now.lens) (g.D.Disk.told c.args.disk.now) t c.requires.shows is in
+    let there = c.in_ok-read.ensures.read t is in
+    let made = digest-made hash (seen t) (reached_of p) log c.in_ok-read.read.end c.alh-digest.result c.next_header-header.result c.in_ok-read.read.tx
+    shows.log_is there.end_is c.alh-digest.ensures c.next_header-header.ensures there.tx_is
+    in
+    let P : ℕ → Type 0 = λ n. first_fail (transaction_checks hash (seen t) (n + 1) p.bl p.place) ≡ Ok tt in
+    record {
+      is =
+          record-finds hash (seen t) (reached_of p) log c.in_ok-read.read.end c.alh-digest.result made (subst P same (c.in_ok-read.ensures.first t is).is)
+          ∙ c.in_ok-place.ensures.first;
+    }
+
+pub returns-clause-fits : goal.returns-clause-fits
+returns-clause-fits g c =
+    let hash = g.H.Hash32.digest c.args.hash.now in
+    let p = c.args.progress.now in
+    let same : c.len.result ≡ length p.alhs.items = omega (arith, c.len.ensures, p.alhs.ok) in
+    let read = c.in_ok-read.read in
+    let r : Record = record { tx = read.tx; refs = c.from_vec-refs.result; alh = c.alh-digest.result } in
+    let A : ℕ → Type 0 = λ n. IsTransaction n read.tx in
+    let B : ℕ → Type 0 = λ n. AreReferences hash (n + 1) read.tx.entries read.refs.items in
+    let R : List ValueRef → Type 0 = λ rs. AreReferences hash (length p.alhs.items + 1) read.tx.entries rs in
+    let D : Header → List ℕ = λ h. h.bl_root in
+    let is = subst A {x = c.len.result + 1 - 1} (omega (arith, same)) c.in_ok-read.ensures.is in
+    let refer = subst R (sym c.from_vec-refs.ensures) (subst B same c.in_ok-read.ensures.refer) in
+    let X : List Record → Type 0 = λ rs. IsConsistent hash rs c.push.new.self.items read.tx.bl c.next_header-header.result.bl_root in
+    let Y : List (List ℕ) → Type 0 = λ ds. IsConsistent hash (p.records.items ++ r ∷ []) ds read.tx.bl c.next_header-header.result.bl_root in
+    subst X (sym c.in_ok-push-2.ensures.items) (subst Y (sym c.in_ok-push.ensures.items)
+    (consistent-next hash p.records.items p.alhs.items p.bl p.bl_root r c.next_header-header.result.bl_root c.requires.fits c.requires.few is
+    c.in_ok-read.ensures.rises refer (c.alh-digest.ensures ∙ ap (alh hash) c.next_header-header.ensures)
+    (ap D c.next_header-header.ensures ∙ root-next hash p.alhs.items read.tx)))

@@ -1,0 +1,43 @@
+use Rattle.std.proofs.Common.{rules, arith, ◌≡◌, ◌+◌, ◌≤◌, ℕ, List, [], ◌∷◌, length, sym, subst, Option}
+use Rattle.std.specs.Prelude.{IfSome}
+use Rattle.im_disk.specs.Disk.{Files, Told, Images, after, seen}
+use Rattle.im_format.specs.Spans.{Reads, octet_span}
+use Rattle.im_disk.specs.declared.calls.Call.TheVariants.{Wrote, Tore, Synced, Missed}
+use Rattle.im_disk.proofs.Leaving.{leaves_weaker}
+use Rattle.im_opening.proofs.LeaveLemmas.{leave-both}
+use Rattle.im_format.specs.Standing.{Stands}
+use Rattle.im_alog.proofs.Outcomes.{HasAnswer, if_mapped, if_some, leaves_of_sync, leaves_of_write, on_ok, reads_of_write, seen_of_write}
+use Rattle.im_opening.specs.Cut.{IsCut, IsShut}
+use Rattle.im_opening.proofs.GateLemmas.{cut-kept, same-torn}
+use Rattle.im_opening.proofs.repair.shut_gate.Goals as goal
+
+pub returns-in_err-write_at-clause-leaves : goal.returns-in_err-write_at-clause-leaves
+returns-in_err-write_at-clause-leaves g c hash history before here =
+    let P = IsCut hash history c.args.gate in
+    leaves_weaker P (λ image. Stands hash image history) (λ image cut. cut.stands) _ _
+    (leaves_of_write P 1 c.args.gate (0 ∷ []) _ _ c.write_at.result
+    (record { ok = c.write_at.ensures.ok; failed = c.write_at.ensures.failed; memory = c.write_at.ensures.memory })
+    (cut-kept hash history c.args.gate) before)
+
+pub returns-clause-leaves : goal.returns-clause-leaves
+returns-clause-leaves g c hash history before here =
+    let P = IsCut hash history c.args.gate in
+    let a : HasAnswer (Wrote 1 c.args.gate (0 ∷ [])) (Tore 1 c.args.gate 1) _ _ c.write_at.result =
+    record { ok = c.write_at.ensures.ok; failed = c.write_at.ensures.failed; memory = c.write_at.ensures.memory } in
+    let one = leaves_of_write P 1 c.args.gate (0 ∷ []) _ _ c.write_at.result a (cut-kept hash history c.args.gate) before in
+    let now = seen_of_write P 1 c.args.gate (0 ∷ []) _ _ c.write_at.result a c.requires.within (cut-kept hash history c.args.gate) here in
+    leaves_weaker P (λ image. Stands hash image history) (λ image cut. cut.stands) _ _
+    (leave-both P (g.D.Disk.told c.args.disk.now) (g.D.Disk.told c.write_at.new.self) (g.D.Disk.told c.sync.new.self) one
+    (leaves_of_sync P (g.D.Disk.told c.write_at.new.self) (g.D.Disk.told c.sync.new.self) c.sync.result
+    (record { ok = c.sync.ensures.ok; failed = c.sync.ensures.failed; memory = c.sync.ensures.memory }) one.1
+    (if_some (λ t. P (seen t)) (λ t. (image : Files) → ((k : ℕ) → image k ≡ seen t k) → P image) (λ t cut image same. cut-kept hash history c.args.gate (seen t) image (same-torn 1 c.args.gate 1 (seen t) image same) cut) _ now)))
+
+pub returns-clause-shut : goal.returns-clause-shut
+returns-clause-shut g c =
+    let o = g.D.Disk.told c.args.disk.now in
+    let Q : Told → Type 0 = λ t. IsShut (seen t) c.args.gate in
+    on_ok (λ m. IfSome m Q) (g.D.Disk.told c.sync.new.self) _ c.sync.result c.sync.ensures.ok
+    (if_mapped Q Q (after Synced) (λ t h. h) (g.D.Disk.told c.write_at.new.self)
+    (subst (λ (m : Option Told). IfSome m Q) (sym c.in_ok-write_at.ensures.ok)
+    (if_some (λ t. Reads (seen t) (octet_span 1 c.args.gate 0)) Q (λ t r. record { octet = 0; closed = λ e. omega (arith, e); reads = r }) _
+    (reads_of_write 1 c.args.gate (0 ∷ []) o c.requires.within))))

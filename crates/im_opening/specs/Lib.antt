@@ -1,0 +1,5 @@
+pub mod Answers
+pub mod Cut
+pub mod Opening
+pub mod Parts
+pub mod Reach

@@ -1,0 +1,89 @@
+ghost use Rattle.std.specs.Prelude.{◌≡◌, List, Some, IfOk, IfErr, IfSome, OnOk, IsErrOf};
+ghost use Rattle.im_disk.specs.Disk.{Told, after, seen};
+ghost use Rattle.im_disk.specs.Moments.{Leaves};
+ghost use Rattle.im_edge.specs.Counts.{Rose};
+ghost use Rattle.im_disk.specs.declared.calls.Call.TheVariants.{Synced};
+ghost use Rattle.im_format.specs.Batches.{gate_of};
+ghost use Rattle.im_format.specs.Damages.{image_checks};
+ghost use Rattle.im_format.specs.Records.{AreRecords};
+ghost use Rattle.im_format.specs.Standing.{Stands};
+ghost use Rattle.im_format.specs.declared.damages.Damage.{Damage};
+ghost use Rattle.im_model.specs.History.{IsHistory};
+ghost use Rattle.im_model.specs.declared.transactions.Transaction.{Transaction};
+ghost use Rattle.im_opening.specs.Answers.{HasOpenCause, Judges, Tells};
+ghost use Rattle.im_opening.specs.Cut.{IsShut, WasOpened};
+ghost use Rattle.im_opening.specs.Opening.{HasEnds, IsRead};
+ghost use Rattle.im_opening.specs.Reach.{txs_of};
+
+use crate::errors::OpenError;
+use crate::reading::{Opened, read_files};
+use crate::repair::repair;
+use im_digest::Hash32;
+use im_disk::disk::Disk;
+use std::alloc::Global;
+
+/// Opens the files of a store: makes them durable, reads and checks them, and closes the gate behind the batches
+/// that count where that is needed.
+///
+/// # Errors
+///
+/// As `read_files`. Of files that are damaged nothing is written.
+pub fn open_files<D: Disk, H: Hash32>(
+    alloc: Global,
+    hash: &H,
+    disk: &mut D,
+) -> Result<Opened, OpenError>
+    ensures history { IfOk result (λ opened. IsHistory (txs_of opened.records.items)) }
+    ensures records { IfOk result (λ opened. AreRecords (H.digest hash.now) (txs_of opened.records.items) 1 opened.records.items) }
+    ensures ends { IfOk result (λ opened. HasEnds opened) }
+    ensures read { (t : Told) → D.told disk.old ≡ Some t → IfOk result (λ opened. IsRead (H.digest hash.now) (seen t) opened) }
+    ensures first { (t : Told) → D.told disk.old ≡ Some t → Judges (image_checks (H.digest hash.now) (seen t)) result }
+    ensures opened { (t : Told) (history : List Transaction) → D.told disk.old ≡ Some t → Stands (H.digest hash.now) (seen t) history
+        → OnOk result (Leaves (λ image. Stands (H.digest hash.now) image history) (Some (after Synced t)) (D.told disk.new)) }
+    ensures moments { (t : Told) (history : List Transaction) → D.told disk.old ≡ Some t → Stands (H.digest hash.now) (seen t) history
+        → WasOpened (H.digest hash.now) history t (D.told disk.new) }
+    ensures shut { (t : Told) → D.told disk.old ≡ Some t
+        → IfOk result (λ opened. IfSome (D.told disk.new) (λ t. IsShut (seen t) (gate_of opened.batches))) }
+    ensures damaged { (t : Told) (d : Damage) → D.told disk.old ≡ Some t → IsErrOf result (OpenError.Damaged d)
+        → D.told disk.new ≡ Some (after Synced t) }
+    ensures cause { HasOpenCause (D.faults disk.old) (D.faults disk.new) result }
+{
+    disk.sync()?;
+    let opened = read_files(alloc, hash, disk)?;
+    repair(disk, &opened)?;
+    Ok(opened)
+}
+
+/// A disk that isn't opened, with the reason.
+#[derive(Drop)]
+pub struct OpenFailed<D: Drop> {
+    pub disk: D,
+    pub error: OpenError,
+}
+
+/// Opens a disk, as `open_files` does. A disk that isn't opened is handed back.
+pub fn open_disk<D: Disk, H: Hash32>(
+    alloc: Global,
+    hash: &H,
+    mut disk: D,
+) -> Result<(D, Opened), OpenFailed<D>>
+    ensures history { IfOk result (λ r. IsHistory (txs_of r.1.records.items)) }
+    ensures records { IfOk result (λ r. AreRecords (H.digest hash.now) (txs_of r.1.records.items) 1 r.1.records.items) }
+    ensures ends { IfOk result (λ r. HasEnds r.1) }
+    ensures read { (t : Told) → D.told disk ≡ Some t → IfOk result (λ r. IsRead (H.digest hash.now) (seen t) r.1) }
+    ensures first { (t : Told) → D.told disk ≡ Some t
+        → IfErr result (λ failed. Tells (image_checks (H.digest hash.now) (seen t)) failed.error) }
+    ensures opened { (t : Told) (history : List Transaction) → D.told disk ≡ Some t → Stands (H.digest hash.now) (seen t) history
+        → IfOk result (λ r. Leaves (λ image. Stands (H.digest hash.now) image history) (Some (after Synced t)) (D.told r.0)) }
+    ensures moments { (t : Told) (history : List Transaction) → D.told disk ≡ Some t → Stands (H.digest hash.now) (seen t) history
+        → IfErr result (λ failed. WasOpened (H.digest hash.now) history t (D.told failed.disk)) }
+    ensures shut { (t : Told) → D.told disk ≡ Some t
+        → IfOk result (λ r. IfSome (D.told r.0) (λ t. IsShut (seen t) (gate_of r.1.batches))) }
+    ensures faults { IfOk result (λ r. D.faults r.0 ≡ D.faults disk) }
+    ensures cause { IfErr result (λ failed. (failed.error ≡ OpenError.DiskFault) → Rose (D.faults disk) (D.faults failed.disk)) }
+{
+    match open_files(alloc, hash, &mut disk) {
+        Ok(opened) => Ok((disk, opened)),
+        Err(error) => Err(OpenFailed { disk, error }),
+    }
+}

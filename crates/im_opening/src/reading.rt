@@ -1,0 +1,182 @@
+ghost use Rattle.std.specs.Prelude.{◌≡◌, ◌≤◌, ◌*◌, length, Some, IfOk, IfSome};
+ghost use Rattle.im_clog.specs.Marks.{Lacks};
+ghost use Rattle.im_disk.specs.Disk.{Told, seen};
+ghost use Rattle.im_format.specs.Damages.{image_checks};
+ghost use Rattle.im_opening.specs.Answers.{HasOpenCause, Judges};
+ghost use Rattle.im_opening.specs.Opening.{AreBatches, HasEnds, IsRead};
+ghost use Rattle.im_disk.specs.Causes.{HasCause};
+ghost use Rattle.im_format.specs.Records.{AreRecords};
+ghost use Rattle.im_model.specs.History.{IsHistory};
+ghost use Rattle.im_record.specs.Slots.{HaveLengths};
+ghost use Rattle.im_opening.specs.Parts.{Shows};
+ghost use Rattle.im_opening.specs.Reach.{Fits, txs_of};
+
+use crate::batches::read_batch;
+use crate::ends::end_of;
+use crate::errors::OpenError;
+use crate::records::Progress;
+use crate::source::Source;
+use im_alog::reading::read_all;
+use im_clog::marks::{Mark, Uncounted, batch_at};
+use im_digest::{D32, Hash32};
+use im_disk::disk::{Disk, DiskError};
+use im_format::records::Record;
+use std::alloc::Global;
+
+// The number of octets from a gate to the next one.
+const BATCH: usize = 25;
+
+/// The files as they were read: the records of the batches that count, in order, and where these end.
+#[derive(Drop)]
+pub struct Opened {
+    pub records: Vec<Record>,
+    /// The number of batches that count.
+    pub batches: u64,
+    /// Where the files end: the transaction log, the commit log at the gate behind the batches that count, and
+    /// the value logs 0 to 3.
+    pub ends: [u64; 6],
+    /// Why no batch counts at that gate.
+    pub behind: Uncounted,
+}
+
+// The batches that count, by their records, and why none counts behind them.
+#[derive(Drop)]
+struct BatchesRead {
+    progress: Progress,
+    gate: usize,
+    batches: u64,
+    behind: Uncounted,
+}
+
+// Reads the batches that count, from the first one on.
+fn read_batches<D: Disk, H: Hash32>(
+    alloc: Global,
+    hash: &H,
+    disk: &mut D,
+    commits: &[u8],
+    source: &Source,
+) -> Result<BatchesRead, OpenError>
+    requires shows { IfSome (D.told disk.old) (λ t. Shows (seen t) source.now.log.now source.now.lens) }
+    requires commits { IfSome (D.told disk.old) (λ t. commits.now ≡ seen t 1) }
+    ensures fits { IfOk result (λ read. Fits (H.digest hash.now) read.progress) }
+    ensures gate { IfOk result (λ read. read.gate ≡ 25 * read.batches) }
+    ensures few { IfOk result (λ read. read.batches ≤ 1048576) }
+    ensures reaches { IfOk result (λ read. read.gate ≤ length commits.now) }
+    ensures within { IfOk result (λ read. read.progress.place ≤ length source.now.log.now) }
+    ensures behind { IfOk result (λ read. Lacks commits.now read.gate read.behind) }
+    ensures read { (t : Told) → D.told disk.old ≡ Some t
+        → IfOk result (λ read. AreBatches (seen t) read.progress.records.items read.batches read.progress.place) }
+    ensures first { (t : Told) → D.told disk.old ≡ Some t
+        → Judges (image_checks (H.digest hash.now) (seen t)) result }
+    ensures told { D.told disk.new ≡ D.told disk.old }
+    ensures cause { HasOpenCause (D.faults disk.old) (D.faults disk.new) result }
+{
+    let mut progress = Progress {
+        records: Vec::new(alloc),
+        alhs: Vec::new(alloc),
+        bl: 0,
+        bl_root: [0; 32],
+        place: 0,
+    };
+    let mut gate = 0;
+    let mut batches = 0;
+    'batches: loop {
+        match batch_at(commits, gate) {
+            Ok(mark) => {
+                read_batch(alloc, hash, disk, source, &mark, gate as u64, &mut progress)?;
+                gate += BATCH;
+                batches += 1;
+            }
+            Err(behind) => {
+                return Ok(BatchesRead {
+                    progress,
+                    gate,
+                    batches,
+                    behind,
+                });
+            }
+        }
+    }
+}
+
+// The lengths of the value logs.
+fn lengths<D: Disk>(disk: &mut D) -> Result<[u64; 4], DiskError>
+    ensures lens { (t : Told) → D.told disk.old ≡ Some t → IfOk result (HaveLengths (seen t)) }
+    ensures told { D.told disk.new ≡ D.told disk.old }
+    ensures cause { HasCause (D.faults disk.old) (D.faults disk.new) result }
+{
+    let first = disk.len(2)?;
+    let second = disk.len(3)?;
+    let third = disk.len(4)?;
+    let fourth = disk.len(5)?;
+    Ok([first, second, third, fourth])
+}
+
+// Reads the batches that count, of these octets of the two logs.
+fn read_logs<D: Disk, H: Hash32>(
+    alloc: Global,
+    hash: &H,
+    disk: &mut D,
+    commits: &[u8],
+    log: &[u8],
+) -> Result<Opened, OpenError>
+    requires commits { IfSome (D.told disk.old) (λ t. commits.now ≡ seen t 1) }
+    requires log { IfSome (D.told disk.old) (λ t. log.now ≡ seen t 0) }
+    ensures history { IfOk result (λ opened. IsHistory (txs_of opened.records.items)) }
+    ensures records { IfOk result (λ opened. AreRecords (H.digest hash.now) (txs_of opened.records.items) 1 opened.records.items) }
+    ensures ends { IfOk result (λ opened. HasEnds opened) }
+    ensures read { (t : Told) → D.told disk.old ≡ Some t → IfOk result (λ opened. IsRead (H.digest hash.now) (seen t) opened) }
+    ensures first { (t : Told) → D.told disk.old ≡ Some t → Judges (image_checks (H.digest hash.now) (seen t)) result }
+    ensures told { D.told disk.new ≡ D.told disk.old }
+    ensures cause { HasOpenCause (D.faults disk.old) (D.faults disk.new) result }
+{
+    let lens = lengths(disk)?;
+    let source = Source { log, lens };
+    let read = read_batches(alloc, hash, disk, commits, &source)?;
+    let BatchesRead {
+        progress,
+        gate,
+        batches,
+        behind,
+    } = read;
+    let records = progress.records;
+    let ends = [
+        progress.place,
+        gate as u64,
+        end_of(0, records.as_slice()),
+        end_of(1, records.as_slice()),
+        end_of(2, records.as_slice()),
+        end_of(3, records.as_slice()),
+    ];
+    Ok(Opened {
+        records,
+        batches,
+        ends,
+        behind,
+    })
+}
+
+/// Reads the files and checks them: the transaction log and the commit log by one read each, each value by one.
+/// Nothing is written.
+///
+/// # Errors
+///
+/// `Damaged` tells the first place that doesn't hold what it should, in reading order. `DiskFault` comes only
+/// where the disk failed.
+pub fn read_files<D: Disk, H: Hash32>(
+    alloc: Global,
+    hash: &H,
+    disk: &mut D,
+) -> Result<Opened, OpenError>
+    ensures history { IfOk result (λ opened. IsHistory (txs_of opened.records.items)) }
+    ensures records { IfOk result (λ opened. AreRecords (H.digest hash.now) (txs_of opened.records.items) 1 opened.records.items) }
+    ensures ends { IfOk result (λ opened. HasEnds opened) }
+    ensures read { (t : Told) → D.told disk.old ≡ Some t → IfOk result (λ opened. IsRead (H.digest hash.now) (seen t) opened) }
+    ensures first { (t : Told) → D.told disk.old ≡ Some t → Judges (image_checks (H.digest hash.now) (seen t)) result }
+    ensures told { D.told disk.new ≡ D.told disk.old }
+    ensures cause { HasOpenCause (D.faults disk.old) (D.faults disk.new) result }
+{
+    let commits = read_all(alloc, disk, 1)?;
+    let log = read_all(alloc, disk, 0)?;
+    read_logs(alloc, hash, disk, commits.as_slice(), log.as_slice())
+}

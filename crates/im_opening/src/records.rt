@@ -1,0 +1,156 @@
+ghost use Rattle.std.specs.Prelude.{◌≡◌, ◌≤◌, ◌<◌, ◌+◌, length, map, Some, OnOk, IfSome};
+ghost use Rattle.im_disk.specs.Disk.{Told, seen};
+ghost use Rattle.im_format.specs.Damages.{record_checks, records_checks};
+ghost use Rattle.im_model.specs.Entries.{entry_digest};
+ghost use Rattle.im_model.specs.History.{IsTransaction, bl_root_of, next_header};
+ghost use Rattle.im_opening.specs.Answers.{HasOpenCause, Judges};
+ghost use Rattle.im_opening.specs.Parts.{Shows};
+ghost use Rattle.im_opening.specs.Reach.{AreMore, Fits, IsOneMore, reached_of};
+
+use crate::errors::OpenError;
+use crate::source::Source;
+use crate::transactions::{TransactionRead, read_transaction};
+use im_digest::{D32, Hash32};
+use im_disk::disk::Disk;
+use im_format::records::Record;
+use im_format::references::Refs;
+use im_header::alh;
+use im_model::headers::Header;
+use im_model::limits::Metadata;
+use im_model::transactions::Transaction;
+use im_mtree::roots::root;
+use im_octet::octets::Octets;
+use im_record::alhs::read_alh;
+use std::alloc::Global;
+
+/// How far the files were read: the records so far, their Alh, the size of the last one's tree and its root, and
+/// the place where the last one ends in the transaction log.
+#[derive(Drop)]
+pub(crate) struct Progress {
+    pub records: Vec<Record>,
+    pub alhs: Vec<D32>,
+    pub bl: u64,
+    pub bl_root: D32,
+    pub place: u64,
+}
+
+// The root over the first Alh. Where the tree hasn't grown, it is the root as it was.
+fn root_over<H: Hash32>(hash: &H, progress: &Progress, bl: u64) -> D32
+    requires fits { Fits (H.digest hash.now) progress.now }
+    requires rises { progress.now.bl ≤ bl }
+    requires linked { bl ≤ length progress.now.alhs.items }
+    ensures { result ≡ bl_root_of (H.digest hash.now) progress.now.alhs.items bl }
+{
+    if bl == progress.bl {
+        progress.bl_root
+    } else {
+        root(hash, &progress.alhs[..bl as usize])
+    }
+}
+
+// The header of the next transaction, whose entries have these digests.
+#[tactic(auto, unfolding(im_model::specs::History::next_header))]
+fn next_header<H: Hash32>(
+    alloc: Global,
+    hash: &H,
+    progress: &Progress,
+    tx: &Transaction,
+    digests: &[D32],
+) -> Header
+    requires fits { Fits (H.digest hash.now) progress.now }
+    requires few { length progress.now.alhs.items < 1048576 }
+    requires tx { IsTransaction (length progress.now.alhs.items) tx.now }
+    requires rises { progress.now.bl ≤ tx.now.bl }
+    requires digests { digests.now ≡ map (entry_digest (H.digest hash.now)) tx.now.entries }
+    ensures { result ≡ next_header (H.digest hash.now) progress.now.alhs.items tx.now }
+{
+    Header {
+        id: progress.alhs.len() as u64 + 1,
+        ts: tx.ts,
+        bl_tx_id: tx.bl,
+        bl_root: root_over(hash, progress, tx.bl),
+        prev_alh: match progress.alhs.last() {
+            Some(alh) => *alh,
+            None => hash.hash(&[], &[], &[]),
+        },
+        version: 1,
+        md: Metadata::new(Octets::new(alloc)),
+        nentries: tx.entries.as_slice().len() as u32,
+        eh: root(hash, digests),
+    }
+}
+
+/// Reads the next record, with the values of its transaction.
+pub(crate) fn read_record<D: Disk, H: Hash32>(
+    alloc: Global,
+    hash: &H,
+    disk: &mut D,
+    source: &Source,
+    progress: &mut Progress,
+) -> Result<(), OpenError>
+    requires shows { IfSome (D.told disk.old) (λ t. Shows (seen t) source.now.log.now source.now.lens) }
+    requires place { progress.old.place ≤ length source.now.log.now }
+    requires few { length progress.old.alhs.items < 1048576 }
+    requires fits { Fits (H.digest hash.now) progress.old }
+    ensures within { OnOk result (progress.new.place ≤ length source.now.log.now) }
+    ensures more { OnOk result (length progress.new.alhs.items ≡ length progress.old.alhs.items + 1) }
+    ensures fits { OnOk result (Fits (H.digest hash.now) progress.new) }
+    ensures read { (t : Told) → D.told disk.old ≡ Some t
+        → OnOk result (IsOneMore (H.digest hash.now) (seen t) progress.old progress.new) }
+    ensures first { (t : Told) → D.told disk.old ≡ Some t
+        → Judges (record_checks (H.digest hash.now) (seen t) (reached_of progress.old)) result }
+    ensures told { D.told disk.new ≡ D.told disk.old }
+    ensures cause { HasOpenCause (D.faults disk.old) (D.faults disk.new) result }
+{
+    let id = progress.alhs.len() as u64 + 1;
+    let read = read_transaction(alloc, hash, disk, source, id, progress.place, progress.bl)?;
+    let TransactionRead {
+        tx,
+        digests,
+        refs,
+        end,
+    } = read;
+    let header = next_header(alloc, hash, progress, &tx, digests.as_slice());
+    let digest = alh(hash, &header);
+    let place = read_alh(source.log, end, &digest)?;
+    progress.alhs.push(digest)?;
+    progress.bl = tx.bl;
+    progress.bl_root = header.bl_root;
+    progress.place = place;
+    let refs = Refs::from_vec(refs);
+    progress.records.push(Record {
+        tx,
+        refs,
+        alh: digest,
+    })?;
+    Ok(())
+}
+
+/// Reads so many records that follow each other.
+pub(crate) fn read_records<D: Disk, H: Hash32>(
+    alloc: Global,
+    hash: &H,
+    disk: &mut D,
+    source: &Source,
+    count: u64,
+    progress: &mut Progress,
+) -> Result<(), OpenError>
+    requires shows { IfSome (D.told disk.old) (λ t. Shows (seen t) source.now.log.now source.now.lens) }
+    requires place { progress.old.place ≤ length source.now.log.now }
+    requires few { length progress.old.alhs.items + count ≤ 1048576 }
+    requires fits { Fits (H.digest hash.now) progress.old }
+    ensures within { OnOk result (progress.new.place ≤ length source.now.log.now) }
+    ensures more { OnOk result (length progress.new.alhs.items ≡ length progress.old.alhs.items + count) }
+    ensures fits { OnOk result (Fits (H.digest hash.now) progress.new) }
+    ensures read { (t : Told) → D.told disk.old ≡ Some t
+        → OnOk result (AreMore (H.digest hash.now) (seen t) count progress.old progress.new) }
+    ensures first { (t : Told) → D.told disk.old ≡ Some t
+        → Judges (records_checks (H.digest hash.now) (seen t) count (reached_of progress.old)) result }
+    ensures told { D.told disk.new ≡ D.told disk.old }
+    ensures cause { HasOpenCause (D.faults disk.old) (D.faults disk.new) result }
+{
+    for _i in 0..count {
+        read_record(alloc, hash, disk, source, progress)?;
+    }
+    Ok(())
+}

@@ -1,0 +1,48 @@
+ghost use Rattle.std.specs.Prelude.{◌≡◌, ◌≤◌, ◌<◌, ◌^◌, length, List, Some, OnOk, IfSome};
+ghost use Rattle.im_digest.specs.Digests.{Hash};
+ghost use Rattle.im_disk.specs.Causes.{HasCause};
+ghost use Rattle.im_alog.specs.Holding.{IsDurable};
+ghost use Rattle.im_disk.specs.Disk.{LiesWithin, Told, seen};
+ghost use Rattle.im_format.specs.Batches.{gate_of};
+ghost use Rattle.im_format.specs.Reading.{history_in};
+ghost use Rattle.im_opening.specs.Opening.{HasEnds, IsRead};
+ghost use Rattle.im_disk.specs.Moments.{Leaves, LeavesNow};
+ghost use Rattle.im_format.specs.Standing.{Stands};
+ghost use Rattle.im_model.specs.declared.transactions.Transaction.{Transaction};
+ghost use Rattle.im_opening.specs.Cut.{IsCut, IsShut};
+
+use crate::reading::Opened;
+use im_clog::marks::Uncounted;
+use im_disk::disk::{Disk, DiskError};
+
+/// Closes the gate behind the batches that count, where the commit log ends before the next gate, and makes it
+/// stay: one write and one sync.
+pub(crate) fn shut_gate<D: Disk>(disk: &mut D, gate: u64) -> Result<(), DiskError>
+    requires within { LiesWithin (D.told disk.old) 1 gate 0 }
+    requires end { gate < 2 ^ 62 }
+    ensures leaves { (hash : Hash) (history : List Transaction)
+        → LeavesNow (IsCut hash history gate) (D.told disk.old) → IfSome (D.told disk.old) (λ t. IsCut hash history gate (seen t))
+        → Leaves (λ image. Stands hash image history) (D.told disk.old) (D.told disk.new) }
+    ensures shut { OnOk result (IfSome (D.told disk.new) (λ t. IsShut (seen t) gate)) }
+    ensures cause { HasCause (D.faults disk.old) (D.faults disk.new) result }
+{
+    disk.write_at(1, gate, &[0])?;
+    disk.sync()
+}
+
+/// Closes the gate behind the batches that count, where no octet stands at it, or it is open and octets up to the
+/// next gate are missing. Else nothing is done.
+pub fn repair<D: Disk>(disk: &mut D, opened: &Opened) -> Result<(), DiskError>
+    requires within { IfSome (D.told disk.old) (λ t. gate_of opened.now.batches ≤ length (seen t 1)) }
+    requires ends { HasEnds opened.now }
+    ensures leaves { (hash : Hash) (t : Told) → D.told disk.old ≡ Some t → IsDurable t → IsRead hash (seen t) opened.now
+        → Leaves (λ image. Stands hash image (history_in (seen t))) (D.told disk.old) (D.told disk.new) }
+    ensures shut { (hash : Hash) (t : Told) → D.told disk.old ≡ Some t → IsRead hash (seen t) opened.now
+        → OnOk result (IfSome (D.told disk.new) (λ t. IsShut (seen t) (gate_of opened.now.batches))) }
+    ensures cause { HasCause (D.faults disk.old) (D.faults disk.new) result }
+{
+    match opened.behind {
+        Uncounted::Closed { .. } => Ok(()),
+        Uncounted::Missing | Uncounted::Short { .. } => shut_gate(disk, opened.ends[1]),
+    }
+}

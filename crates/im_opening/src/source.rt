@@ -1,0 +1,8 @@
+/// What records are read from: the octets of the transaction log, and the lengths of the value logs.
+#[derive(Clone, Copy)]
+pub struct Source<'a> {
+    /// The octets of the transaction log.
+    pub log: &'a [u8],
+    /// The lengths of the value logs 0 to 3, in octets.
+    pub lens: [u64; 4],
+}
