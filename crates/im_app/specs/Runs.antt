@@ -17,8 +17,9 @@ pub record IsGiven (script : List ℕ) (lines : List Line) : Type 0 where
   pub read : IsScript script lines
 
 -- These octets are the report of a run on a script, at the clock's time where it tells one. Cut at each LF
--- they are its answered lines. Each of these that is a message is accepted by the clients that it is for, those
--- that keep the header from which it leads on or at which it ends; every other one is passed over.
+-- they are its answered lines. Each of these that is a message is accepted by every client that it is for: a
+-- state by one that keeps none or that very header, an advance by one that keeps its source, a dual proof and an
+-- item by one that keeps its target. Behind an advance that client keeps its target. Every other line is passed over.
 pub record IsReport (hash : Hash) (constant : Option ℤ) (script octets : List ℕ) : Type 0 where
   pub lines : List Line
   pub given : IsGiven script lines
