@@ -59,10 +59,17 @@ fn digests(file: u8, at: u64, want: u8, got: u8) -> OpenError {
     OpenError::Damaged(Damage { file, at, found })
 }
 
+// Puts another octet at a place.
+fn spoil(octets: &mut [u8], at: usize, octet: u8) {
+    if at < octets.len() {
+        octets[at] = octet;
+    }
+}
+
 // What opening says of the disk of one transaction with one octet of the transaction log spoilt.
 fn spoilt(alloc: Global, at: usize, octet: u8) -> Result<Option<OpenError>, Fail> {
     let mut log = record();
-    log[at] = octet;
+    spoil(&mut log, at, octet);
     let mut disk = disk_of(alloc, &log, &batch(), b"abc")?;
     Ok(read_files(alloc, &Sum, &mut disk).err())
 }
@@ -70,7 +77,7 @@ fn spoilt(alloc: Global, at: usize, octet: u8) -> Result<Option<OpenError>, Fail
 // The same of the commit log.
 fn misled(alloc: Global, at: usize, octet: u8) -> Result<Option<OpenError>, Fail> {
     let mut commits = batch();
-    commits[at] = octet;
+    spoil(&mut commits, at, octet);
     let mut disk = disk_of(alloc, &record(), &commits, b"abc")?;
     Ok(read_files(alloc, &Sum, &mut disk).err())
 }
@@ -111,7 +118,11 @@ fn an_empty_disk_gets_its_first_gate(rt: HostRuntime) -> Result<(), Fail> {
 #[test]
 fn a_commit_log_cut_short_is_closed(rt: HostRuntime) -> Result<(), Fail> {
     let alloc = rt.alloc();
-    let mut disk = disk_of(alloc, &record(), &batch()[..25], b"abc")?;
+    let commits = batch();
+    let Some((_, commits)) = commits.split_last() else {
+        return Err(Fail::from("a batch"));
+    };
+    let mut disk = disk_of(alloc, &record(), commits, b"abc")?;
     let Ok(opened) = read_files(alloc, &Sum, &mut disk) else {
         return Err(Fail::from("a log cut short"));
     };
@@ -120,7 +131,7 @@ fn a_commit_log_cut_short_is_closed(rt: HostRuntime) -> Result<(), Fail> {
     assert_eq!(rt; disk.time(), 0);
     assert_eq!(rt; repair(&mut disk, &opened), Ok(()));
     assert_eq!(rt; disk.time(), 2);
-    assert_eq!(rt; disk.file(1)[0], 0);
+    assert_eq!(rt; disk.file(1).first().copied(), Some(0));
     Ok(())
 }
 
