@@ -1,11 +1,13 @@
 pub mod Calls
 pub mod Clear
 pub mod Limits
+pub mod Making
 pub mod Mids
 pub mod Parts
 pub mod Placing
 pub mod Prefixes
 pub mod SampleLemmas
+pub mod Shown
 pub mod Torn
 pub mod Turns
 pub mod Whole

@@ -89,11 +89,11 @@ blank_safe image is = record {
   closed = record { octet = 0; shut = λ e. omega (arith, e); reads = record { reads = ap (λ (l : List ℕ). take 1 (drop 0 l)) is } };
 }
 
--- a disk with a closed gate and nothing else
-pub sample_blank : (failing : List ℕ) → IsResting [] no_ends (told_by (unchanged ([] ∷ (0 ∷ []) ∷ []) failing))
-sample_blank failing = record {
+-- a disk with a closed gate, and with octets in a value log that no batch put there
+pub sample_blank : (log failing : List ℕ) → IsResting [] no_ends (told_by (unchanged ([] ∷ (0 ∷ []) ∷ log ∷ []) failing))
+sample_blank log failing = record {
   safe = λ image now. blank_safe image (now 1);
-  here = blank_safe (seen (told_by (unchanged ([] ∷ (0 ∷ []) ∷ []) failing))) refl;
+  here = blank_safe (seen (told_by (unchanged ([] ∷ (0 ∷ []) ∷ log ∷ []) failing))) refl;
 }
 
 pub sample_can : {D : Type 0} (told : D → Option Told) (k : Kept D) (handed : List Record) → handed ≡ sample_record ∷ [] → k.batch.step ≡ Idle → (k.durable ≡ 0) × (k.ends ≡ no_ends)

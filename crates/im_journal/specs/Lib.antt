@@ -1,6 +1,8 @@
 pub mod Faults
 pub mod Holding
 pub mod Kept
+pub mod Made
 pub mod Phases
 pub mod Pieces
 pub mod Sample
+pub mod Values

@@ -1,13 +1,18 @@
-ghost use Rattle.std.specs.Prelude.{◌≡◌, ◌<◌, ◌≤◌, ◌+◌, ◌^◌, ◌++◌, ◌∷◌, [], ℕ, List, length, take, OnOk, OnErr, IfSome, IsErrOf, IsOk, Ok, Err};
+ghost use Rattle.std.specs.Prelude.{◌≡◌, ◌<◌, ◌≤◌, ◌+◌, ◌^◌, ◌++◌, ◌∷◌, [], ℕ, List, length, take, drop, OnOk, OnErr, IfSome, IsErrOf, IsOk, Ok, Err};
 ghost use Rattle.im_digest.specs.Digests.{Hash};
 ghost use Rattle.im_disk.specs.Moments.{Leaves, LeavesNow};
+ghost use Rattle.im_disk.specs.declared.calls.Call.TheVariants.{Wrote, Synced};
 ghost use Rattle.im_model.specs.declared.transactions.Transaction.{Transaction};
 ghost use Rattle.im_format.specs.Standing.{Stands};
 ghost use Rattle.im_format.specs.declared.records.Record.{Record};
 ghost use Rattle.im_journal.specs.Faults.{IsCounted};
 ghost use Rattle.im_journal.specs.Holding.{AreFirst, AreNext, IsResting};
 ghost use Rattle.im_journal.specs.Kept.{CanStage, HasSealed, HasStaged, IsAtRest, IsInBatch, StandsBy};
+ghost use Rattle.im_journal.specs.Made.{Makes, calls_to_seal, calls_to_settle, calls_to_stage, writes_of};
+ghost use Rattle.im_journal.specs.Pieces.{end_of, pieces_of};
 ghost use Rattle.im_journal.specs.declared.batches.Step.TheVariants.{Idle, Staging, Staged, Sealed, Gated};
+
+mod reading;
 
 use crate::batches::{Batch, Step};
 use crate::errors::JournalError;
@@ -95,6 +100,7 @@ impl<D: Disk> Journal<D> {
             → CanStage D.told hash history batches rs records.now self.old
             → Leaves (StandsBy self.old.batch.step hash history self.old.durable (length rs)) (D.told self.old.disk) (D.told self.new.disk) }
         ensures kept { (self.new.ends ≡ self.old.ends) × (self.new.durable ≡ self.old.durable) }
+        ensures calls { Makes JournalError.DiskFault JournalError.Memory (calls_to_stage self.old records.now) (D.told self.old.disk) (D.told self.new.disk) result }
         ensures counted { IsCounted (D.faults self.old.disk) (D.faults self.new.disk) self.old.failures self.new.failures result }
         ensures stopped { 0 < self.old.failures → (result ≡ Err (JournalError.Stopped self.old.failures)) × (self.new ≡ self.old) }
         ensures nothing { self.old.failures ≡ 0 → HasStaged self.old.batch.step → (result ≡ Ok tt) × (self.new ≡ self.old) }
@@ -129,6 +135,7 @@ impl<D: Disk> Journal<D> {
             → IsInBatch D.told hash history batches rs self.old
             → Leaves (StandsBy self.old.batch.step hash history self.old.durable (length rs)) (D.told self.old.disk) (D.told self.new.disk) }
         ensures kept { (self.new.ends ≡ self.old.ends) × (self.new.durable ≡ self.old.durable) }
+        ensures calls { Makes JournalError.DiskFault JournalError.Memory (calls_to_seal self.old.batch.step) (D.told self.old.disk) (D.told self.new.disk) result }
         ensures counted { IsCounted (D.faults self.old.disk) (D.faults self.new.disk) self.old.failures self.new.failures result }
         ensures stopped { 0 < self.old.failures → (result ≡ Err (JournalError.Stopped self.old.failures)) × (self.new ≡ self.old) }
         ensures nothing { self.old.failures ≡ 0 → HasSealed self.old.batch.step → (result ≡ Ok tt) × (self.new ≡ self.old) }
@@ -166,6 +173,7 @@ impl<D: Disk> Journal<D> {
             → IsInBatch D.told hash history batches rs self.old
             → Leaves (StandsBy Gated hash history self.old.durable (length rs)) (D.told self.old.disk) (D.told self.new.disk) }
         ensures kept { OnErr result ((self.new.ends ≡ self.old.ends) × (self.new.durable ≡ self.old.durable)) }
+        ensures calls { Makes JournalError.DiskFault JournalError.Memory (calls_to_settle self.old.batch.step (end_of self.old.ends 1)) (D.told self.old.disk) (D.told self.new.disk) result }
         ensures counted { IsCounted (D.faults self.old.disk) (D.faults self.new.disk) self.old.failures self.new.failures result }
         ensures stopped { 0 < self.old.failures → (result ≡ Err (JournalError.Stopped self.old.failures)) × (self.new ≡ self.old) }
         ensures going { (faults : ℕ) → IsErrOf result (JournalError.Stopped faults) → 0 < self.old.failures }
@@ -178,35 +186,6 @@ impl<D: Disk> Journal<D> {
             },
             _ => self.settle_batch(),
         }
-    }
-
-    /// The number of transactions that are durable.
-    pub fn durable(&self) -> u64
-        ensures { result ≡ self.now.durable }
-    {
-        self.durable
-    }
-
-    /// Where each file ends behind what is durable: the transaction log, the commit log at the gate
-    /// behind its last batch, the value logs. The values of the next transactions are put there.
-    pub fn ends(&self) -> &[u64; 6]
-        ensures { result.now ≡ self.now.ends }
-    {
-        &self.ends
-    }
-
-    /// How far the batch in progress is.
-    pub fn step(&self) -> Step
-        ensures { result ≡ self.now.batch.step }
-    {
-        self.batch.step
-    }
-
-    /// How many calls of the disk have failed since opening, at most 2^64 - 1.
-    pub fn failures(&self) -> u64
-        ensures { result ≡ self.now.failures }
-    {
-        self.failures
     }
 
     /// Hands the disk back.
@@ -245,6 +224,7 @@ impl<D: Disk> Journal<D> {
             → IsAtRest D.told hash history batches self.old → AreNext hash history batches self.old.durable records.now
             → OnOk result (IsInBatch D.told hash history batches records.now self.new) }
         ensures step { OnOk result (self.new.batch.step ≡ Staging) }
+        ensures pieces { OnOk result ((self.new.batch.pieces ≡ pieces_of self.old.ends (self.old.durable + 1) records.now) × (self.new.batch.written ≡ 0)) }
         ensures disk { self.new.disk ≡ self.old.disk }
         ensures kept { (self.new.ends ≡ self.old.ends) × (self.new.durable ≡ self.old.durable) × (self.new.failures ≡ self.old.failures) }
         ensures err { OnErr result (self.new ≡ self.old) }
@@ -276,6 +256,7 @@ impl<D: Disk> Journal<D> {
             → IsInBatch D.told hash history batches rs self.old
             → Leaves (λ image. Stands hash image (take self.old.durable history)) (D.told self.old.disk) (D.told self.new.disk) }
         ensures kept { (self.new.ends ≡ self.old.ends) × (self.new.durable ≡ self.old.durable) }
+        ensures calls { Makes JournalError.DiskFault JournalError.Memory (writes_of (drop self.old.batch.written self.old.batch.pieces)) (D.told self.old.disk) (D.told self.new.disk) result }
         ensures counted { IsCounted (D.faults self.old.disk) (D.faults self.new.disk) self.old.failures self.new.failures result }
         ensures going { (faults : ℕ) → IsErrOf result (JournalError.Stopped faults) → ⊥ }
     {
@@ -310,6 +291,7 @@ impl<D: Disk> Journal<D> {
             → Leaves (λ image. Stands hash image (take self.old.durable history)) (D.told self.old.disk) (D.told self.new.disk) }
         ensures kept { (self.new.ends ≡ self.old.ends) × (self.new.durable ≡ self.old.durable) }
         ensures err { OnErr result (self.new.batch ≡ self.old.batch) }
+        ensures calls { Makes JournalError.DiskFault JournalError.Memory (Synced ∷ []) (D.told self.old.disk) (D.told self.new.disk) result }
         ensures counted { IsCounted (D.faults self.old.disk) (D.faults self.new.disk) self.old.failures self.new.failures result }
         ensures going { (faults : ℕ) → IsErrOf result (JournalError.Stopped faults) → ⊥ }
     {
@@ -343,6 +325,7 @@ impl<D: Disk> Journal<D> {
         ensures kept { (self.new.ends ≡ self.old.ends) × (self.new.durable ≡ self.old.durable)
             × (self.new.batch.ends ≡ self.old.batch.ends) × (self.new.batch.count ≡ self.old.batch.count) }
         ensures err { OnErr result (self.new.batch ≡ self.old.batch) }
+        ensures calls { Makes JournalError.DiskFault JournalError.Memory (Wrote 1 (end_of self.old.ends 1) (1 ∷ []) ∷ []) (D.told self.old.disk) (D.told self.new.disk) result }
         ensures counted { IsCounted (D.faults self.old.disk) (D.faults self.new.disk) self.old.failures self.new.failures result }
         ensures going { (faults : ℕ) → IsErrOf result (JournalError.Stopped faults) → ⊥ }
     {
@@ -375,6 +358,7 @@ impl<D: Disk> Journal<D> {
             → IsInBatch D.told hash history batches rs self.old
             → Leaves (StandsBy Gated hash history self.old.durable (length rs)) (D.told self.old.disk) (D.told self.new.disk) }
         ensures err { OnErr result ((self.new.ends ≡ self.old.ends) × (self.new.durable ≡ self.old.durable) × (self.new.batch ≡ self.old.batch)) }
+        ensures calls { Makes JournalError.DiskFault JournalError.Memory (Synced ∷ []) (D.told self.old.disk) (D.told self.new.disk) result }
         ensures counted { IsCounted (D.faults self.old.disk) (D.faults self.new.disk) self.old.failures self.new.failures result }
         ensures going { (faults : ℕ) → IsErrOf result (JournalError.Stopped faults) → ⊥ }
     {

@@ -4,6 +4,8 @@ ghost use Rattle.im_disk.specs.Disk.{LiesWithin};
 ghost use Rattle.im_disk.specs.Causes.{HasCause};
 ghost use Rattle.im_disk.specs.Moments.{Leaves};
 ghost use Rattle.im_format.specs.declared.spans.Span.{Span};
+ghost use Rattle.im_disk.specs.declared.calls.Call.TheVariants.{Wrote, Synced};
+ghost use Rattle.im_journal.specs.Made.{Makes, writes_of};
 ghost use Rattle.im_journal.specs.Phases.{FitsDisk, IsSafe, IsStaging, IsSealed, IsEither, IsGated, IsDone};
 
 use im_disk::disk::{Disk, DiskError};
@@ -21,6 +23,7 @@ fn put_piece<D: Disk>(disk: &mut D, piece: &Span) -> Result<(), DiskError>
         → IfSome (D.told disk.old) (IsStaging ends spans gate pieces (piece.now ∷ left))
         → Leaves (IsSafe ends spans gate) (D.told disk.old) (D.told disk.new) }
     ensures memory { IsErrOf result DiskError.Memory → D.told disk.new ≡ D.told disk.old }
+    ensures calls { Makes DiskError.Failed DiskError.Memory (writes_of (piece.now ∷ [])) (D.told disk.old) (D.told disk.new) result }
     ensures cause { HasCause (D.faults disk.old) (D.faults disk.new) result }
 {
     disk.write_at(piece.file, piece.at, piece.octets.as_slice())
@@ -49,6 +52,7 @@ pub(crate) fn put_pieces<D: Disk>(
     ensures forth { written.old ≤ written.new }
     ensures within { written.new ≤ length pieces.now }
     ensures all { OnOk result (written.new ≡ length pieces.now) }
+    ensures calls { Makes DiskError.Failed DiskError.Memory (writes_of (drop written.old pieces.now)) (D.told disk.old) (D.told disk.new) result }
     ensures cause { HasCause (D.faults disk.old) (D.faults disk.new) result }
 {
     while *written < pieces.len() {
@@ -70,6 +74,7 @@ pub(crate) fn seal_pieces<D: Disk>(disk: &mut D) -> Result<(), DiskError>
         → IfSome (D.told disk.old) (IsStaging ends spans gate pieces [])
         → Leaves (IsSafe ends spans gate) (D.told disk.old) (D.told disk.new) }
     ensures memory { IsErrOf result DiskError.Memory → D.told disk.new ≡ D.told disk.old }
+    ensures calls { Makes DiskError.Failed DiskError.Memory (Synced ∷ []) (D.told disk.old) (D.told disk.new) result }
     ensures cause { HasCause (D.faults disk.old) (D.faults disk.new) result }
 {
     disk.sync()
@@ -86,6 +91,7 @@ pub(crate) fn open_gate<D: Disk>(disk: &mut D, gate: u64) -> Result<(), DiskErro
         → IfSome (D.told disk.old) (IsSealed ends spans gate pieces)
         → Leaves (IsEither ends spans gate pieces) (D.told disk.old) (D.told disk.new) }
     ensures memory { IsErrOf result DiskError.Memory → D.told disk.new ≡ D.told disk.old }
+    ensures calls { Makes DiskError.Failed DiskError.Memory (Wrote 1 gate (1 ∷ []) ∷ []) (D.told disk.old) (D.told disk.new) result }
     ensures cause { HasCause (D.faults disk.old) (D.faults disk.new) result }
 {
     disk.write_at(1, gate, &[1])
@@ -100,6 +106,7 @@ pub(crate) fn settle_gate<D: Disk>(disk: &mut D) -> Result<(), DiskError>
         → IfSome (D.told disk.old) (IsGated ends spans gate pieces)
         → Leaves (IsEither ends spans gate pieces) (D.told disk.old) (D.told disk.new) }
     ensures memory { IsErrOf result DiskError.Memory → D.told disk.new ≡ D.told disk.old }
+    ensures calls { Makes DiskError.Failed DiskError.Memory (Synced ∷ []) (D.told disk.old) (D.told disk.new) result }
     ensures cause { HasCause (D.faults disk.old) (D.faults disk.new) result }
 {
     disk.sync()

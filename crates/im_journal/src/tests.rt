@@ -7,8 +7,8 @@ ghost use Rattle.im_journal.specs.declared.batches.Step.TheVariants.{Idle};
 use crate::batches::Step;
 use crate::errors::JournalError;
 use crate::journal::Journal;
-use im_digest::D32;
-use im_disk::disk::Disk;
+use im_digest::{D32, Sum};
+use im_disk::disk::{Disk, DiskError};
 use im_disk::memory::MemDisk;
 use im_format::records::Record;
 use im_format::references::{Refs, ValueRef};
@@ -16,6 +16,7 @@ use im_model::entries::{Entries, Entry};
 use im_model::limits::{EntryValue, Key, Metadata};
 use im_model::transactions::Transaction;
 use im_octet::octets::Octets;
+use im_vlog::showing::ReadError;
 use std::alloc::{AllocError, Global};
 use std::process::Abort;
 use std::test::Fail;
@@ -32,12 +33,13 @@ const ALH: D32 = [
     0x95,
 ];
 
-// A disk with a closed gate, and nothing else.
-fn fresh(alloc: Global, failing: Vec<u64>) -> Result<MemDisk, AllocError>
-    ensures { IfOk result (λ disk. disk ≡ unchanged ([] ∷ (0 ∷ []) ∷ []) failing.items) }
+// A disk with a closed gate, and these octets in value log 0.
+fn fresh(alloc: Global, log: &[u8], failing: Vec<u64>) -> Result<MemDisk, AllocError>
+    ensures { IfOk result (λ disk. disk ≡ unchanged ([] ∷ (0 ∷ []) ∷ log.now ∷ []) failing.items) }
 {
     let gate = Octets::from_slice(alloc, &[0])?;
-    let files = vec![in alloc; Octets::new(alloc), gate]?;
+    let log = Octets::from_slice(alloc, log)?;
+    let files = vec![in alloc; Octets::new(alloc), gate, log]?;
     MemDisk::from_files(alloc, files, failing)
 }
 
@@ -100,7 +102,7 @@ fn commit<D: Disk>(
 #[test]
 fn a_batch_is_written_as_its_octets(rt: HostRuntime) -> Result<(), Fail> {
     let alloc = rt.alloc();
-    let disk = fresh(alloc, Vec::new(alloc))?;
+    let disk = fresh(alloc, b"", Vec::new(alloc))?;
     let mut journal = Journal::resume(alloc, disk, [0; 6], 0);
     let records = first(alloc)?;
     let result = commit(&mut journal, alloc, records.as_slice());
@@ -109,6 +111,9 @@ fn a_batch_is_written_as_its_octets(rt: HostRuntime) -> Result<(), Fail> {
     assert_eq!(rt; *journal.ends(), [110, 25, 3, 0, 0, 0]);
     assert_eq!(rt; journal.failures(), 0);
     assert_eq!(rt; journal.step(), Step::Idle);
+    let value = journal.read_value(alloc, &Sum, &shown_with(0x26, 3, 0))?;
+    assert_eq!(rt; value.as_slice(), b"abc".as_slice());
+    assert_eq!(rt; journal.failures(), 0);
     let disk = journal.into_disk();
     assert_eq!(rt; disk.file(0), RECORD);
     assert_eq!(rt; disk.file(1), BATCH);
@@ -119,7 +124,7 @@ fn a_batch_is_written_as_its_octets(rt: HostRuntime) -> Result<(), Fail> {
 
 // Commits the sample twice over a disk whose call of this number fails, and gives the disk back.
 fn commit_failing(rt: &impl Abort, alloc: Global, call: u64) -> Result<MemDisk, AllocError> {
-    let disk = fresh(alloc, vec![in alloc; call]?)?;
+    let disk = fresh(alloc, b"", vec![in alloc; call]?)?;
     let mut journal = Journal::resume(alloc, disk, [0; 6], 0);
     let records = first(alloc)?;
     let Err(JournalError::DiskFault) = commit(&mut journal, alloc, records.as_slice()) else {
@@ -146,5 +151,110 @@ fn a_gate_that_is_not_synced_is_seen_open(rt: HostRuntime) -> Result<(), Fail> {
     let disk = commit_failing(&rt, rt.alloc(), 6)?;
     assert_eq!(rt; disk.file(1), BATCH);
     assert_eq!(rt; disk.time(), 6);
+    Ok(())
+}
+
+// A reference to the front of a value log, whose digest is 31 zero octets and this one.
+fn shown_with(last: u8, len: u32, log: u8) -> ValueRef {
+    ValueRef {
+        hval: sum_is(last),
+        len,
+        log,
+        at: 0,
+    }
+}
+
+// The digest under the sum of octets that add up to this.
+fn sum_is(total: u8) -> D32 {
+    let mut digest = [0; 32];
+    digest[31] = total;
+    digest
+}
+
+// abc adds up to 26 modulo 256 (hex), and abd to 27.
+#[test]
+fn a_changed_octet_is_corrupt(rt: HostRuntime) -> Result<(), Fail> {
+    let alloc = rt.alloc();
+    let disk = fresh(alloc, b"abd", Vec::new(alloc))?;
+    let mut journal = Journal::resume(alloc, disk, [0; 6], 0);
+    let changed = ReadError::Corrupt {
+        want: sum_is(0x26),
+        got: sum_is(0x27),
+    };
+    let read = journal.read_value(alloc, &Sum, &shown_with(0x26, 3, 0));
+    assert!(rt; read.err() == Some(changed));
+    let read = journal.read_value(alloc, &Sum, &shown_with(0x27, 3, 0))?;
+    assert_eq!(rt; read.as_slice(), b"abd".as_slice());
+    Ok(())
+}
+
+#[test]
+fn there_is_no_fifth_value_log(rt: HostRuntime) -> Result<(), Fail> {
+    let alloc = rt.alloc();
+    let disk = fresh(alloc, b"abc", Vec::new(alloc))?;
+    let mut journal = Journal::resume(alloc, disk, [0; 6], 0);
+    let none = ReadError::Corrupt {
+        want: sum_is(0x26),
+        got: sum_is(0),
+    };
+    assert!(rt;
+        journal
+            .read_value(alloc, &Sum, &shown_with(0x26, 0, 4))
+            .err()
+            == Some(none)
+    );
+    assert!(rt;
+        journal
+            .read_value(alloc, &Sum, &shown_with(0, 0, 4))?
+            .is_empty()
+    );
+    assert_eq!(rt; journal.failures(), 0);
+    Ok(())
+}
+
+// A disk that tells nothing, and fails at each read.
+#[derive(Drop)]
+struct Unread {
+    failures: u64,
+}
+
+impl Disk for Unread {
+    ghost use Rattle.std.specs.Prelude.{None};
+
+    ghost told = { λ _. None };
+
+    ghost faults = { λ disk. disk.failures };
+
+    fn len(&mut self, _file: u8) -> Result<u64, DiskError> {
+        Ok(3)
+    }
+
+    fn read(&mut self, _file: u8, _at: u64, _buffer: &mut [u8]) -> Result<(), DiskError> {
+        self.failures = self.failures.saturating_add(1);
+        Err(DiskError::Failed)
+    }
+
+    fn write_at(&mut self, _file: u8, _at: u64, _piece: &[u8]) -> Result<(), DiskError> {
+        Ok(())
+    }
+
+    fn sync(&mut self) -> Result<(), DiskError> {
+        Ok(())
+    }
+}
+
+#[test]
+fn after_a_read_that_failed_nothing_is_written(rt: HostRuntime) -> Result<(), Fail> {
+    let alloc = rt.alloc();
+    let mut journal = Journal::resume(alloc, Unread { failures: 0 }, [0; 6], 0);
+    let read = journal.read_value(alloc, &Sum, &shown_with(0x26, 3, 0));
+    assert!(rt; read.err() == Some(ReadError::DiskFault));
+    let again = journal.read_value(alloc, &Sum, &shown_with(0x26, 3, 0));
+    assert!(rt; again.err() == Some(ReadError::DiskFault));
+    assert_eq!(rt; journal.failures(), 2);
+    let records = first(alloc)?;
+    let result = journal.stage(alloc, records.as_slice());
+    assert_eq!(rt; result, Err(JournalError::Stopped { faults: 2 }));
+    assert_eq!(rt; journal.step(), Step::Idle);
     Ok(())
 }

@@ -3,6 +3,7 @@ use Rattle.std.specs.Prelude.{IfSome}
 use Rattle.im_disk.specs.declared.calls.Call.TheVariants.{Wrote, Tore}
 use Rattle.im_journal.specs.Phases.{IsEither, IsGated}
 use Rattle.im_journal.proofs.Calls.{leaves_by_result, on_ok, if_mapped, if_some, gated, torn_gate, safe_front}
+use Rattle.im_journal.proofs.Making.{one_makes}
 use Rattle.im_journal.proofs.steps.open_gate.Goals as goal
 
 pub returns-clause-ok : goal.returns-clause-ok
@@ -15,3 +16,6 @@ returns-clause-any_moment g c ends spans pieces s =
     let torn = if_some _ (λ t. _) (λ t h image from. torn_gate ends spans c.args.gate pieces t h from.0 image from.1 from.2) told s in
     leaves_by_result (IsEither ends spans c.args.gate pieces) (Wrote 1 c.args.gate (1 ∷ [])) (Tore 1 c.args.gate 1) _ _ c.write_at.result c.write_at.ensures.ok c.write_at.ensures.failed c.write_at.ensures.memory
     (if_some _ _ (λ t h image now. inl (safe_front ends spans pieces c.args.gate image (h.safe image now))) told s) torn torn
+
+pub returns-clause-calls : goal.returns-clause-calls
+returns-clause-calls g c = one_makes (Wrote 1 c.args.gate (1 ∷ [])) _ _ c.write_at.result c.write_at.ensures.ok c.write_at.ensures.failed c.write_at.ensures.memory

@@ -6,6 +6,7 @@ use Rattle.im_disk.specs.declared.disk.DiskError.TheVariants.{Failed}
 use Rattle.im_disk.specs.declared.calls.Call.TheVariants.{Wrote, Tore}
 use Rattle.im_journal.specs.Phases.{IsSafe, IsStaging}
 use Rattle.im_journal.proofs.Calls.{leaves_by_result, on_ok, if_mapped, if_some, wrote, torn_safe}
+use Rattle.im_journal.proofs.Making.{one_makes}
 use Rattle.im_journal.proofs.steps.put_piece.Goals as goal
 
 pub returns-clause-ok : goal.returns-clause-ok
@@ -26,3 +27,12 @@ returns-clause-any_moment g c ends spans gate pieces left s =
     let failed = subst (λ (x : List ℕ). IsErrOf c.write_at.result Failed → n ≡ option_map (after (Tore p.file p.at (length x))) o) c.as_slice.ensures c.write_at.ensures.failed in
     leaves_by_result (IsSafe ends spans gate) (Wrote p.file p.at p.octets) (Tore p.file p.at (length p.octets)) _ _ c.write_at.result ok failed c.write_at.ensures.memory
     (if_some _ _ (λ t h. h.safe) o s) torn torn
+
+pub returns-clause-calls : goal.returns-clause-calls
+returns-clause-calls g c =
+    let p = c.args.piece.now in
+    let o = g.D.Disk.told c.args.disk.now in
+    let n = g.D.Disk.told c.write_at.new.self in
+    let ok = subst (λ (x : List ℕ). OnOk c.write_at.result (n ≡ option_map (after (Wrote p.file p.at x)) o)) c.as_slice.ensures c.write_at.ensures.ok in
+    let failed = subst (λ (x : List ℕ). IsErrOf c.write_at.result Failed → n ≡ option_map (after (Tore p.file p.at (length x))) o) c.as_slice.ensures c.write_at.ensures.failed in
+    one_makes (Wrote p.file p.at p.octets) o n c.write_at.result ok failed c.write_at.ensures.memory

@@ -4,6 +4,11 @@ use Rattle.im_disk.proofs.Leaving.{leaves_both}
 use Rattle.im_format.specs.declared.spans.Span.{Span}
 use Rattle.im_journal.specs.Phases.{IsSafe, IsStaging}
 use Rattle.im_journal.proofs.Calls.{next_left, next_taken, next_within}
+use Rattle.im_disk.specs.declared.calls.Call.TheVariants.{Wrote}
+use Rattle.im_disk.specs.declared.disk.DiskError.TheVariants as Disk
+use Rattle.im_journal.specs.Made.{MadeUpTo, writes_of}
+use Rattle.std.proofs.lemmas.List.{drop_all}
+use Rattle.im_journal.proofs.Making.{all_made, next_made, none_made, ok_isnt_err, stops_makes}
 use Rattle.im_journal.proofs.steps.put_pieces.Goals as goal
 
 pub put_piece-requires-clause-within : goal.put_piece-requires-clause-within
@@ -37,5 +42,31 @@ loop-written-preserved g c = record {
             (c.in-Ok.ensures.ok ends spans gate (take k ps) (drop (k + 1) ps) here),
         leaves_both (IsSafe ends spans gate) _ _ _ now.1 one,
       );
+  made =
+      let ps = c.args.pieces.now in
+      let k = c.loop-written.written in
+      let p = c.index-pieces-written.result in
+      next_made (writes_of (drop c.args.written.now ps)) (Wrote p.file p.at p.octets) (writes_of (drop (k + 1) ps)) _ _ _
+      (subst (λ (l : List Span). MadeUpTo (writes_of (drop c.args.written.now ps)) (writes_of l) (g.D.Disk.told c.args.disk.now) (g.D.Disk.told c.loop-written.disk)) (next_left ps k p c.loop-written-test.true c.index-pieces-written.is) c.loop-written.invariant.made)
+      c.in-Ok.ensures.calls.ok;
   faults = search (rules, c.in-Ok.ensures.cause, c.loop-written.invariant.faults);
 }
+
+pub returns-in-Err-clause-calls : goal.returns-in-Err-clause-calls
+returns-in-Err-clause-calls g c =
+    let ps = c.args.pieces.now in
+    let k = c.loop-written.written in
+    let p = c.index-pieces-written.result in
+    stops_makes _ (writes_of (drop c.args.written.now ps)) (Wrote p.file p.at p.octets) (writes_of (drop (k + 1) ps)) _ _ _ _
+    (subst (λ (l : List Span). MadeUpTo (writes_of (drop c.args.written.now ps)) (writes_of l) (g.D.Disk.told c.args.disk.now) (g.D.Disk.told c.loop-written.disk)) (next_left ps k p c.loop-written-test.true c.index-pieces-written.is) c.loop-written.invariant.made)
+    c.in-Err.ensures.calls
+
+pub returns-clause-calls : goal.returns-clause-calls
+returns-clause-calls g c =
+    let ps = c.args.pieces.now in
+    let calls = writes_of (drop c.args.written.now ps) in record {
+      ok = all_made calls _ _
+          (subst (λ (l : List Span). MadeUpTo calls (writes_of l) (g.D.Disk.told c.args.disk.now) (g.D.Disk.told c.loop-written.disk)) (drop_all c.loop-written.written ps c.loop-written-test.false) c.loop-written.invariant.made);
+      failed = λ e. absurd (ok_isnt_err tt Disk.Failed e);
+      ran_out = λ e. absurd (ok_isnt_err tt Disk.Memory e);
+    }

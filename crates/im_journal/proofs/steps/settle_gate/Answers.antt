@@ -3,6 +3,7 @@ use Rattle.std.specs.Prelude.{IfSome}
 use Rattle.im_disk.specs.declared.calls.Call.TheVariants.{Synced, Missed}
 use Rattle.im_journal.specs.Phases.{IsEither, IsDone}
 use Rattle.im_journal.proofs.Calls.{leaves_by_result, on_ok, if_mapped, if_some, done_now}
+use Rattle.im_journal.proofs.Making.{one_makes}
 use Rattle.im_journal.proofs.steps.settle_gate.Goals as goal
 
 pub returns-clause-ok : goal.returns-clause-ok
@@ -16,3 +17,6 @@ returns-clause-any_moment g c ends spans gate pieces s =
     (if_some _ _ (λ t h. h.either) told s)
     (if_some _ _ (λ t h image now. inr ((done_now ends spans gate pieces t h).opened image now)) told s)
     (if_some _ _ (λ t h. h.either) told s)
+
+pub returns-clause-calls : goal.returns-clause-calls
+returns-clause-calls g c = one_makes Synced _ _ c.sync.result c.sync.ensures.ok c.sync.ensures.failed c.sync.ensures.memory

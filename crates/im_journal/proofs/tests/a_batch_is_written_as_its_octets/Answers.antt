@@ -12,16 +12,16 @@ resume-journal-requires g c = record {
     sample_transaction ∷ [],
     [],
     sample_first,
-    subst (λ (d : Recorded). IsResting [] no_ends (told_by d)) (sym c.in_ok-disk.ensures) (sample_blank c.new.result.items),
+    subst (λ (d : Recorded). IsResting [] no_ends (told_by d)) (sym c.in_ok-disk.ensures) (sample_blank [] c.new.result.items),
   );
 }
 
 pub commit-result-requires-clause-idle : goal.commit-result-requires-clause-idle
 commit-result-requires-clause-idle g c zero =
-    let blank = subst (λ (d : Recorded). IsResting [] no_ends (told_by d)) (sym c.in_ok-disk.ensures) (sample_blank c.new.result.items) in
+    let blank = subst (λ (d : Recorded). IsResting [] no_ends (told_by d)) (sym c.in_ok-disk.ensures) (sample_blank [] c.new.result.items) in
     (c.resume-journal.ensures.rests sample_hash (sample_transaction ∷ []) [] sample_first blank).idle
 
 pub commit-result-requires-clause-blank : goal.commit-result-requires-clause-blank
 commit-result-requires-clause-blank g c zero =
-    let blank = subst (λ (d : Recorded). IsResting [] no_ends (told_by d)) (sym c.in_ok-disk.ensures) (sample_blank c.new.result.items) in
+    let blank = subst (λ (d : Recorded). IsResting [] no_ends (told_by d)) (sym c.in_ok-disk.ensures) (sample_blank [] c.new.result.items) in
     subst (λ (d : Recorded). IsResting [] no_ends (told_by d)) (sym c.resume-journal.ensures.given.0) blank

@@ -12,16 +12,16 @@ resume-journal-requires g c = record {
     sample_transaction ∷ [],
     [],
     sample_first,
-    subst (λ (d : Recorded). IsResting [] no_ends (told_by d)) (sym c.in_ok-disk.ensures) (sample_blank c.in_ok-vec.field-0.items),
+    subst (λ (d : Recorded). IsResting [] no_ends (told_by d)) (sym c.in_ok-disk.ensures) (sample_blank [] c.in_ok-vec.field-0.items),
   );
 }
 
 pub commit-requires-clause-idle : goal.commit-requires-clause-idle
 commit-requires-clause-idle g c zero =
-    let blank = subst (λ (d : Recorded). IsResting [] no_ends (told_by d)) (sym c.in_ok-disk.ensures) (sample_blank c.in_ok-vec.field-0.items) in
+    let blank = subst (λ (d : Recorded). IsResting [] no_ends (told_by d)) (sym c.in_ok-disk.ensures) (sample_blank [] c.in_ok-vec.field-0.items) in
     (c.resume-journal.ensures.rests sample_hash (sample_transaction ∷ []) [] sample_first blank).idle
 
 pub commit-requires-clause-blank : goal.commit-requires-clause-blank
 commit-requires-clause-blank g c zero =
-    let blank = subst (λ (d : Recorded). IsResting [] no_ends (told_by d)) (sym c.in_ok-disk.ensures) (sample_blank c.in_ok-vec.field-0.items) in
+    let blank = subst (λ (d : Recorded). IsResting [] no_ends (told_by d)) (sym c.in_ok-disk.ensures) (sample_blank [] c.in_ok-vec.field-0.items) in
     subst (λ (d : Recorded). IsResting [] no_ends (told_by d)) (sym c.resume-journal.ensures.given.0) blank

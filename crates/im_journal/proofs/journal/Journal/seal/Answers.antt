@@ -1,9 +1,12 @@
-use Rattle.std.proofs.Common.{arith, true, refl, ◌≡◌, ◌∙◌, length, sym, ap, subst}
+use Rattle.std.proofs.Common.{arith, true, refl, ◌≡◌, ◌∙◌, length, sym, ap, subst, List, Ok}
 use Rattle.im_disk.specs.Moments.{Leaves}
 use Rattle.im_journal.specs.Kept.{HasSealed, HasStaged, StandsBy}
 use Rattle.im_journal.specs.declared.batches.Step.{Step}
 use Rattle.im_journal.specs.declared.errors.JournalError.TheVariants.{DiskFault, Memory, Stopped}
 use Rattle.im_journal.proofs.Mids.{err_then, ok_isnt, sealed_left, stays}
+use Rattle.im_disk.specs.declared.calls.Call.{Call}
+use Rattle.im_journal.specs.Made.{Makes, calls_to_seal}
+use Rattle.im_journal.proofs.Making.{none_makes, seal_none}
 use Rattle.im_journal.proofs.journal.Journal.seal.Goals as goal
 
 pub returns-in_err-go-clause-any_moment : goal.returns-in_err-go-clause-any_moment
@@ -30,6 +33,8 @@ returns-in_default g c =
       again = λ hash history batches rs mid e. absurd (ok_isnt tt Memory e);
       any_moment = λ hash history batches rs mid. stays g.D.Disk.told hash history batches rs c.args.self.now mid;
       kept = (refl, refl);
+      calls = subst (λ (l : List Call). Makes DiskFault Memory l (g.D.Disk.told c.args.self.now.disk) (g.D.Disk.told c.args.self.now.disk) (Ok tt))
+          (sym (seal_none c.args.self.now.batch.step (λ e. c.in_default.not-Staged (ap (λ k. k.batch.step) c.self.view_is ∙ e)))) (none_makes tt (g.D.Disk.told c.args.self.now.disk));
       counted = record { rose = λ e. absurd (ok_isnt tt DiskFault e); more = λ e. absurd (ok_isnt tt DiskFault e); faults = λ n. refl; failures = λ n. refl };
       stopped = λ lt. absurd (omega (arith, zero, lt));
       nothing = λ none has. (refl, refl);
@@ -38,3 +43,8 @@ returns-in_default g c =
 
 pub returns-in-Staged-clause-nothing : goal.returns-in-Staged-clause-nothing
 returns-in-Staged-clause-nothing g c zero has = absurd (subst HasSealed (sym (ap (λ k. k.batch.step) c.self.view_is) ∙ c.in-Staged.is) has)
+
+pub returns-in-Staged-clause-calls : goal.returns-in-Staged-clause-calls
+returns-in-Staged-clause-calls g c =
+    subst (λ (s : Step). Makes DiskFault Memory (calls_to_seal s) (g.D.Disk.told c.args.self.now.disk) (g.D.Disk.told c.seal_batch.new.self.disk) c.seal_batch.result)
+    (sym (sym (ap (λ k. k.batch.step) c.self.view_is) ∙ c.in-Staged.is)) c.seal_batch.ensures.calls

@@ -1,11 +1,17 @@
-use Rattle.std.proofs.Common.{arith, true, ℕ, refl, ◌≡◌, ◌∙◌, ◌+◌, ◌∷◌, ◌++◌, [], length, sym, ap, subst}
+use Rattle.std.proofs.Common.{arith, true, ℕ, refl, ◌≡◌, ◌∙◌, ◌+◌, ◌∷◌, ◌++◌, [], length, sym, ap, subst, List, Err}
 use Rattle.im_disk.specs.Moments.{Leaves}
 use Rattle.im_disk.proofs.Leaving.{leaves_both}
 use Rattle.std.specs.Prelude.{OnOk}
 use Rattle.im_journal.specs.Kept.{HasSealed, IsAtRest, StandsBy}
-use Rattle.im_journal.specs.declared.batches.Step.TheVariants.{Gated}
-use Rattle.im_journal.specs.declared.errors.JournalError.TheVariants.{Memory}
+use Rattle.im_journal.specs.declared.batches.Step.TheVariants.{Sealed, Gated}
+use Rattle.im_journal.specs.declared.errors.JournalError.TheVariants.{DiskFault, Memory}
 use Rattle.im_journal.proofs.Mids.{durable_now, err_then, gated_left, on_err, settled_now, stays_at_last}
+use Rattle.im_disk.specs.declared.calls.Call.{Call}
+use Rattle.im_disk.specs.declared.calls.Call.TheVariants.{Wrote, Synced}
+use Rattle.im_journal.specs.Made.{Makes, calls_to_settle}
+use Rattle.im_journal.specs.Pieces.{end_of}
+use Rattle.im_journal.specs.declared.batches.Step.{Step}
+use Rattle.im_journal.proofs.Making.{makes_before, makes_then}
 use Rattle.im_journal.proofs.journal.Journal.settle.Goals as goal
 
 pub returns-in_err-go-clause-any_moment : goal.returns-in_err-go-clause-any_moment
@@ -79,7 +85,26 @@ returns-in_default g c =
       );
       any_moment = λ hash history batches rs mid. call.ensures.any_moment hash history batches rs mid;
       kept = on_err call.result ((new.ends ≡ now.ends) × (new.durable ≡ now.durable) × (new.batch ≡ now.batch)) ((new.ends ≡ now.ends) × (new.durable ≡ now.durable)) call.ensures.err (λ h. (h.0, h.1));
+      calls = subst (λ (s : Step). Makes DiskFault Memory (calls_to_settle s (end_of now.ends 1)) (g.D.Disk.told now.disk) (g.D.Disk.told new.disk) call.result) (sym gated) call.ensures.calls;
       counted = call.ensures.counted;
       stopped = λ lt. absurd (omega (arith, zero, lt));
       going = λ faults e. absurd (call.ensures.going faults e);
     }
+
+pub returns-in-Ok-clause-calls : goal.returns-in-Ok-clause-calls
+returns-in-Ok-clause-calls g c =
+    let told = g.D.Disk.told in
+    let now = c.args.self.now in
+    let gate : List Call = Wrote 1 (end_of now.ends 1) (1 ∷ []) ∷ [] in
+    let sealed : now.batch.step ≡ Sealed = sym (ap (λ k. k.batch.step) c.self.view_is) ∙ c.in-Sealed.is in
+    subst (λ (s : Step). Makes DiskFault Memory (calls_to_settle s (end_of now.ends 1)) (told now.disk) (told c.settle_batch.new.self.disk) c.settle_batch.result) (sym sealed)
+    (makes_then gate (Synced ∷ []) (told now.disk) (told c.open_batch.new.self.disk) (told c.settle_batch.new.self.disk) c.settle_batch.result c.in-Ok.ensures.calls.ok c.settle_batch.ensures.calls)
+
+pub returns-in-Err-clause-calls : goal.returns-in-Err-clause-calls
+returns-in-Err-clause-calls g c =
+    let told = g.D.Disk.told in
+    let now = c.args.self.now in
+    let gate : List Call = Wrote 1 (end_of now.ends 1) (1 ∷ []) ∷ [] in
+    let sealed : now.batch.step ≡ Sealed = sym (ap (λ k. k.batch.step) c.self.view_is) ∙ c.in-Sealed.is in
+    subst (λ (s : Step). Makes DiskFault Memory (calls_to_settle s (end_of now.ends 1)) (told now.disk) (told c.open_batch.new.self.disk) (Err c.in-Err.error)) (sym sealed)
+    (makes_before _ gate (Synced ∷ []) (told now.disk) (told c.open_batch.new.self.disk) c.in-Err.error c.in-Err.ensures.calls)

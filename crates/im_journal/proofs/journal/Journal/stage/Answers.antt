@@ -1,4 +1,4 @@
-use Rattle.std.proofs.Common.{arith, true, ℕ, refl, ◌≡◌, ◌∙◌, length, take, sym, ap, subst}
+use Rattle.std.proofs.Common.{arith, true, ℕ, refl, ◌≡◌, ◌∙◌, length, take, sym, ap, subst, List, drop, Ok, Err, ◌+◌}
 use Rattle.im_disk.specs.Moments.{Leaves}
 use Rattle.im_format.specs.Standing.{Stands}
 use Rattle.im_journal.specs.Kept.{HasStaged, StandsBy}
@@ -6,6 +6,10 @@ use Rattle.im_journal.specs.declared.batches.Step.{Step}
 use Rattle.im_journal.specs.declared.batches.Step.TheVariants.{Idle, Staging}
 use Rattle.im_journal.specs.declared.errors.JournalError.TheVariants.{DiskFault, Memory, Stopped}
 use Rattle.im_journal.proofs.Mids.{can_stay, mid_of, ok_isnt, rest_of, staged_left}
+use Rattle.im_format.specs.declared.spans.Span.{Span}
+use Rattle.im_journal.specs.Made.{Makes, calls_to_stage, spans_to_stage, writes_of}
+use Rattle.im_journal.specs.Pieces.{pieces_of}
+use Rattle.im_journal.proofs.Making.{none_makes, stage_none, unbegun_makes}
 use Rattle.im_journal.proofs.journal.Journal.stage.Goals as goal
 
 pub returns-in_err-go-clause-any_moment : goal.returns-in_err-go-clause-any_moment
@@ -51,6 +55,8 @@ returns-in_default g c =
       again = λ hash history batches rs can e. absurd (ok_isnt tt Memory e);
       any_moment = λ hash history batches rs can. can_stay g.D.Disk.told hash history batches rs c.args.records.now now can;
       kept = (refl, refl);
+      calls = subst (λ (l : List Span). Makes DiskFault Memory (writes_of l) (g.D.Disk.told now.disk) (g.D.Disk.told now.disk) (Ok tt))
+          (sym (stage_none now.batch.step now c.args.records.now not_idle not_staging)) (none_makes tt (g.D.Disk.told now.disk));
       counted = record { rose = λ e. absurd (ok_isnt tt DiskFault e); more = λ e. absurd (ok_isnt tt DiskFault e); faults = λ n. refl; failures = λ n. refl };
       stopped = λ lt. absurd (omega (arith, zero, lt));
       nothing = λ none has. (refl, refl);
@@ -65,3 +71,32 @@ returns-in_ok-begin-in-Idle-clause-nothing g c zero has = absurd (subst HasStage
 
 pub returns-in-Staging-clause-nothing : goal.returns-in-Staging-clause-nothing
 returns-in-Staging-clause-nothing g c zero has = absurd (subst HasStaged (sym (ap (λ k. k.batch.step) c.self.view_is) ∙ c.in-Staging.is) has)
+
+pub returns-in_ok-begin-in-Idle-clause-calls : goal.returns-in_ok-begin-in-Idle-clause-calls
+returns-in_ok-begin-in-Idle-clause-calls g c =
+    let told = g.D.Disk.told in
+    let now = c.args.self.now in
+    let k = c.begin.new.self in
+    let end = told c.put_batch.new.self.disk in
+    let idle : now.batch.step ≡ Idle = sym (ap (λ k. k.batch.step) c.self.view_is) ∙ c.in-Idle.is in
+    let pieces = c.in_ok-begin-in-Idle.ensures.pieces in
+    let all : drop k.batch.written k.batch.pieces ≡ pieces_of now.ends (now.durable + 1) c.args.records.now = ap (λ (n : ℕ). drop n k.batch.pieces) pieces.1 ∙ pieces.0 in
+    let one = subst (λ (l : List Span). Makes DiskFault Memory (writes_of l) (told k.disk) end c.put_batch.result) all c.put_batch.ensures.calls in
+    let two = subst (λ d. Makes DiskFault Memory (writes_of (pieces_of now.ends (now.durable + 1) c.args.records.now)) (told d) end c.put_batch.result) c.begin.ensures.disk one in
+    subst (λ (s : Step). Makes DiskFault Memory (writes_of (spans_to_stage s now c.args.records.now)) (told now.disk) end c.put_batch.result) (sym idle) two
+
+pub returns-in-Staging-clause-calls : goal.returns-in-Staging-clause-calls
+returns-in-Staging-clause-calls g c =
+    let told = g.D.Disk.told in
+    let now = c.args.self.now in
+    let staging : now.batch.step ≡ Staging = sym (ap (λ k. k.batch.step) c.self.view_is) ∙ c.in-Staging.is in
+    subst (λ (s : Step). Makes DiskFault Memory (writes_of (spans_to_stage s now c.args.records.now)) (told now.disk) (told c.put_batch-in-Staging.new.self.disk) c.put_batch-in-Staging.result) (sym staging)
+    c.put_batch-in-Staging.ensures.calls
+
+pub returns-in_err-begin-in-Idle-clause-calls : goal.returns-in_err-begin-in-Idle-clause-calls
+returns-in_err-begin-in-Idle-clause-calls g c =
+    let told = g.D.Disk.told in
+    let now = c.args.self.now in
+    let result = c.from_residual-in_err-begin-in-Idle.result in
+    subst (λ d. Makes DiskFault Memory (calls_to_stage now c.args.records.now) (told now.disk) (told d) result) (sym c.begin.ensures.disk)
+    (unbegun_makes (calls_to_stage now c.args.records.now) (told now.disk) result c.from_residual-in_err-begin-in-Idle.ensures.1)

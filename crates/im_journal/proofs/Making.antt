@@ -1,0 +1,197 @@
+-- How the calls that a step makes follow each other.
+use Rattle.std.proofs.Common.{◌≡◌, ℕ, ◌+◌, ◌<◌, List, [], ◌∷◌, ◌++◌, drop, refl, sym, ◌∙◌, ap, subst, append_assoc}
+use Rattle.std.proofs.lemmas.List.{append-nil}
+use Rattle.std.specs.Prelude.{Option, Some, None, Result, Ok, Err, OnOk, IsErrAnd, IsErrOf}
+use Rattle.std.specs.Option.{option_map}
+use Rattle.im_disk.specs.Disk.{Told, after}
+use Rattle.im_disk.specs.declared.calls.Call.{Call}
+use Rattle.im_disk.specs.declared.disk.DiskError.{DiskError}
+use Rattle.im_disk.specs.declared.disk.DiskError.TheVariants as Disk
+use Rattle.im_journal.specs.Kept.{Kept}
+use Rattle.im_journal.specs.Made.{MadeUpTo, Makes, after_all, calls_to_seal, failed_call, spans_to_stage, writes_of}
+use Rattle.im_format.specs.declared.records.Record.{Record}
+use Rattle.im_format.specs.declared.spans.Span.{Span}
+use Rattle.im_journal.specs.declared.batches.Step.{Step}
+use Rattle.im_journal.specs.declared.batches.Step.TheVariants.{Idle, Staging, Staged, Sealed, Gated}
+use Rattle.im_journal.specs.declared.errors.JournalError.{JournalError}
+use Rattle.im_journal.specs.declared.errors.JournalError.TheVariants.{DiskFault, Memory, Stopped}
+use Rattle.im_journal.proofs.Calls.{on_ok}
+
+-- some calls, and then others
+after_both : (a b : List Call) (t : Told) → after_all (a ++ b) t ≡ after_all b (after_all a t)
+after_both [] b t = refl
+after_both (call ∷ a) b t = after_both a b (after call t)
+
+told_both : (a b : List Call) (o : Option Told) → option_map (after_all (a ++ b)) o ≡ option_map (after_all b) (option_map (after_all a) o)
+told_both a b None = refl
+told_both a b (Some t) = ap (λ (x : Told). Some x) (after_both a b t)
+
+told_none : (o : Option Told) → o ≡ option_map (after_all []) o
+told_none None = refl
+told_none (Some t) = refl
+
+told_one : (call : Call) (o : Option Told) → option_map (after call) o ≡ option_map (after_all (call ∷ [])) o
+told_one call None = refl
+told_one call (Some t) = refl
+
+-- nothing is made yet
+pub none_made : (calls : List Call) (o : Option Told) → MadeUpTo calls calls o o
+none_made calls o = record { made = []; split = refl; told = told_none o }
+
+-- the next one is made
+pub next_made : (calls : List Call) (call : Call) (left : List Call) (a b n : Option Told) → MadeUpTo calls (call ∷ left) a b → n ≡ option_map (after_all (call ∷ [])) b → MadeUpTo calls left a n
+next_made calls call left a b n m is = record {
+  made = m.made ++ call ∷ [];
+  split = m.split ∙ sym (append_assoc m.made (call ∷ []) left);
+  told = is ∙ ap (λ (o : Option Told). option_map (after_all (call ∷ [])) o) m.told ∙ sym (told_both m.made (call ∷ []) a);
+}
+
+-- all are made
+pub all_made : (calls : List Call) (a b : Option Told) → MadeUpTo calls [] a b → b ≡ option_map (after_all calls) a
+all_made calls a b m = m.told ∙ ap (λ (l : List Call). option_map (after_all l) a) (sym (m.split ∙ append-nil m.made))
+
+-- some of those that are left are made
+made_both : (calls first rest left : List Call) (o m n : Option Told) → MadeUpTo calls (first ++ left) o m → MadeUpTo first rest m n → MadeUpTo calls (rest ++ left) o n
+made_both calls first rest left o m n h g = record {
+  made = h.made ++ g.made;
+  split = h.split ∙ ap (λ (l : List Call). h.made ++ l) (ap (λ (l : List Call). l ++ left) g.split ∙ append_assoc g.made rest left) ∙ sym (append_assoc h.made g.made (rest ++ left));
+  told = g.told ∙ ap (λ (x : Option Told). option_map (after_all g.made) x) h.told ∙ sym (told_both h.made g.made o);
+}
+
+-- others before them
+longer : (first calls left : List Call) (o m n : Option Told) → m ≡ option_map (after_all first) o → MadeUpTo calls left m n → MadeUpTo (first ++ calls) left o n
+longer first calls left o m n is h = record {
+  made = first ++ h.made;
+  split = ap (λ (l : List Call). first ++ l) h.split ∙ sym (append_assoc first h.made left);
+  told = h.told ∙ ap (λ (x : Option Told). option_map (after_all h.made) x) is ∙ sym (told_both first h.made o);
+}
+
+-- others behind them
+wider : (calls left more : List Call) (o n : Option Told) → MadeUpTo calls left o n → MadeUpTo (calls ++ more) (left ++ more) o n
+wider calls left more o n h = record {
+  made = h.made;
+  split = ap (λ (l : List Call). l ++ more) h.split ∙ append_assoc h.made left more;
+  told = h.told;
+}
+
+-- a step of one call, by the disk's answer
+pub one_makes : {T : Type 0} (call : Call) (o n : Option Told) (r : Result T DiskError)
+    → OnOk r (n ≡ option_map (after call) o) → (IsErrOf r Disk.Failed → n ≡ option_map (after (failed_call call)) o) → (IsErrOf r Disk.Memory → n ≡ o)
+    → Makes Disk.Failed Disk.Memory (call ∷ []) o n r
+one_makes call o n r ok failed memory = record {
+  ok = on_ok (λ x. x ≡ option_map (after_all (call ∷ [])) o) n (option_map (after call) o) r ok (told_one call o);
+  failed = λ e. (call, [], o, none_made (call ∷ []) o, failed e);
+  ran_out = λ e. (call ∷ [], subst (λ (x : Option Told). MadeUpTo (call ∷ []) (call ∷ []) o x) (sym (memory e)) (none_made (call ∷ []) o));
+}
+
+-- the next step of one call failed
+pub stops_makes : (T : Type 0) (calls : List Call) (call : Call) (left : List Call) (o m n : Option Told) (e : DiskError) → MadeUpTo calls (call ∷ left) o m
+    → Makes {T = T} Disk.Failed Disk.Memory (call ∷ []) m n (Err e) → Makes {T = T} Disk.Failed Disk.Memory calls o n (Err e)
+stops_makes T calls call left o m n e h one = record {
+  ok = tt;
+  failed = λ is. let f = one.failed is in (f.0, f.1 ++ left, f.2, made_both calls (call ∷ []) (f.0 ∷ f.1) left o m f.2 h f.3, f.4);
+  ran_out = λ is. let b = one.ran_out is in (b.0 ++ left, made_both calls (call ∷ []) b.0 left o m n h b.1);
+}
+
+pub ok_isnt_err : {T E : Type 0} (x : T) (e : E) → IsErrOf {T = T} {E = E} (Ok x) e → ⊥
+ok_isnt_err x e is = cc
+
+fault_isnt_memory : (T : Type 0) → IsErrOf {T = T} (Err DiskFault) Memory → ⊥
+fault_isnt_memory T is = cc
+
+memory_isnt_fault : (T : Type 0) → IsErrOf {T = T} (Err Memory) DiskFault → ⊥
+memory_isnt_fault T is = cc
+
+stopped_isnt_fault : (T : Type 0) (faults : ℕ) → IsErrOf {T = T} (Err (Stopped faults)) DiskFault → ⊥
+stopped_isnt_fault T faults is = cc
+
+stopped_isnt_memory : (T : Type 0) (faults : ℕ) → IsErrOf {T = T} (Err (Stopped faults)) Memory → ⊥
+stopped_isnt_memory T faults is = cc
+
+-- the journal's answer to the disk's
+abbrev pub answer_of : {T : Type 0} → Result T DiskError → Result T JournalError
+answer_of (Ok x) = Ok x
+answer_of (Err Disk.Failed) = Err DiskFault
+answer_of (Err Disk.Memory) = Err Memory
+
+pub makes_on : {T : Type 0} (calls : List Call) (o n : Option Told) (r : Result T DiskError) → Makes Disk.Failed Disk.Memory calls o n r → Makes DiskFault Memory calls o n (answer_of r)
+makes_on {T} calls o n (Ok x) m = record {
+  ok = m.ok;
+  failed = λ e. absurd (ok_isnt_err x DiskFault e);
+  ran_out = λ e. absurd (ok_isnt_err x Memory e);
+}
+makes_on {T} calls o n (Err Disk.Failed) m = record {
+  ok = tt;
+  failed = λ e. m.failed refl;
+  ran_out = λ e. absurd (fault_isnt_memory T e);
+}
+makes_on {T} calls o n (Err Disk.Memory) m = record {
+  ok = tt;
+  failed = λ e. absurd (memory_isnt_fault T e);
+  ran_out = λ e. m.ran_out refl;
+}
+
+on_then : {T E : Type 0} (r : Result T E) (P Q : Type 0) → (P → Q) → OnOk r P → OnOk r Q
+on_then (Ok x) P Q f p = f p
+on_then (Err e) P Q f p = tt
+
+-- a step behind others
+pub makes_then : {T : Type 0} (first calls : List Call) (o m n : Option Told) (r : Result T JournalError) → m ≡ option_map (after_all first) o
+    → Makes DiskFault Memory calls m n r → Makes DiskFault Memory (first ++ calls) o n r
+makes_then first calls o m n r is h = record {
+  ok = on_then r (n ≡ option_map (after_all calls) m) (n ≡ option_map (after_all (first ++ calls)) o)
+      (λ p. p ∙ ap (λ (x : Option Told). option_map (after_all calls) x) is ∙ sym (told_both first calls o)) h.ok;
+  failed = λ e. let f = h.failed e in (f.0, f.1, f.2, longer first calls (f.0 ∷ f.1) o m f.2 is f.3, f.4);
+  ran_out = λ e. let b = h.ran_out e in (b.0, longer first calls b.0 o m n is b.1);
+}
+
+-- a step that stopped before others
+pub makes_before : (T : Type 0) (calls more : List Call) (o n : Option Told) (e : JournalError) → Makes {T = T} DiskFault Memory calls o n (Err e)
+    → Makes {T = T} DiskFault Memory (calls ++ more) o n (Err e)
+makes_before T calls more o n e h = record {
+  ok = tt;
+  failed = λ is. let f = h.failed is in (f.0, f.1 ++ more, f.2, wider calls (f.0 ∷ f.1) more o f.2 f.3, f.4);
+  ran_out = λ is. let b = h.ran_out is in (b.0 ++ more, wider calls b.0 more o n b.1);
+}
+
+-- a step with no calls
+pub none_makes : {T : Type 0} (x : T) (o : Option Told) → Makes DiskFault Memory [] o o (Ok x)
+none_makes x o = record { ok = told_none o; failed = λ e. absurd (ok_isnt_err x DiskFault e); ran_out = λ e. absurd (ok_isnt_err x Memory e) }
+
+-- a step that didn't begin
+pub stopped_makes : (T : Type 0) (faults : ℕ) (calls : List Call) (o n : Option Told) → Makes {T = T} DiskFault Memory calls o n (Err (Stopped faults))
+stopped_makes T faults calls o n = record { ok = tt; failed = λ e. absurd (stopped_isnt_fault T faults e); ran_out = λ e. absurd (stopped_isnt_memory T faults e) }
+
+unbegun : (T : Type 0) (calls : List Call) (o : Option Told) → Makes {T = T} DiskFault Memory calls o o (Err Memory)
+unbegun T calls o = record { ok = tt; failed = λ e. absurd (memory_isnt_fault T e); ran_out = λ e. (calls, none_made calls o) }
+
+pub unbegun_makes : {T : Type 0} (calls : List Call) (o : Option Told) (r : Result T JournalError) → IsErrAnd r (λ e. e ≡ Memory) → Makes DiskFault Memory calls o o r
+unbegun_makes {T} calls o (Ok x) memory = absurd memory
+unbegun_makes {T} calls o (Err e) memory = subst (λ (x : JournalError). Makes {T = T} DiskFault Memory calls o o (Err x)) (sym memory) (unbegun T calls o)
+
+-- what a journal's call of the disk makes, by what it keeps
+pub made_by : {D T : Type 0} (told : D → Option Told) (calls : Kept D → List Call) (k now : Kept D) → k ≡ now → (n : Option Told) (r : Result T DiskError)
+    → Makes Disk.Failed Disk.Memory (calls k) (told k.disk) n r → Makes DiskFault Memory (calls now) (told now.disk) n (answer_of r)
+made_by {D} {T} told calls k now is n r m = subst (λ (x : Kept D). Makes DiskFault Memory (calls x) (told x.disk) n (answer_of r)) is (makes_on (calls k) (told k.disk) n r m)
+
+-- what is left of a batch's pieces is written
+pub put_makes : {D T : Type 0} (told : D → Option Told) (k now : Kept D) → k ≡ now → (ps : List Span) → ps ≡ k.batch.pieces → (n : Option Told) (r : Result T DiskError)
+    → Makes Disk.Failed Disk.Memory (writes_of (drop k.batch.written ps)) (told k.disk) n r → Makes DiskFault Memory (writes_of (drop now.batch.written now.batch.pieces)) (told now.disk) n (answer_of r)
+put_makes {D} {T} told k now is ps same n r m =
+    made_by told (λ x. writes_of (drop x.batch.written x.batch.pieces)) k now is n r
+    (subst (λ (l : List Span). Makes Disk.Failed Disk.Memory (writes_of (drop k.batch.written l)) (told k.disk) n r) same m)
+
+-- where a batch is staged, or sealed, nothing is left to be done for that
+pub stage_none : {D : Type 0} (s : Step) (k : Kept D) (handed : List Record) → (s ≡ Idle → ⊥) → (s ≡ Staging → ⊥) → spans_to_stage s k handed ≡ []
+stage_none Idle k handed idle staging = absurd (idle refl)
+stage_none Staging k handed idle staging = absurd (staging refl)
+stage_none Staged k handed idle staging = refl
+stage_none Sealed k handed idle staging = refl
+stage_none Gated k handed idle staging = refl
+
+pub seal_none : (s : Step) → (s ≡ Staged → ⊥) → calls_to_seal s ≡ []
+seal_none Idle staged = refl
+seal_none Staging staged = refl
+seal_none Staged staged = absurd (staged refl)
+seal_none Sealed staged = refl
+seal_none Gated staged = refl
