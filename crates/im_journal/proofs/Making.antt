@@ -77,20 +77,20 @@ wider calls left more o n h = record {
 -- a step of one call, by the disk's answer
 pub one_makes : {T : Type 0} (call : Call) (o n : Option Told) (r : Result T DiskError)
     → OnOk r (n ≡ option_map (after call) o) → (IsErrOf r Disk.Failed → n ≡ option_map (after (failed_call call)) o) → (IsErrOf r Disk.Memory → n ≡ o)
-    → Makes Disk.Failed Disk.Memory (call ∷ []) o n r
+    → Makes Disk.Failed Disk.Memory (call ∷ []) (call ∷ []) o n r
 one_makes call o n r ok failed memory = record {
   ok = on_ok (λ x. x ≡ option_map (after_all (call ∷ [])) o) n (option_map (after call) o) r ok (told_one call o);
   failed = λ e. (call, [], o, none_made (call ∷ []) o, failed e);
-  ran_out = λ e. (call ∷ [], subst (λ (x : Option Told). MadeUpTo (call ∷ []) (call ∷ []) o x) (sym (memory e)) (none_made (call ∷ []) o));
+  ran_out = λ e. subst (λ (x : Option Told). MadeUpTo (call ∷ []) (call ∷ []) o x) (sym (memory e)) (none_made (call ∷ []) o);
 }
 
 -- the next step of one call failed
 pub stops_makes : (T : Type 0) (calls : List Call) (call : Call) (left : List Call) (o m n : Option Told) (e : DiskError) → MadeUpTo calls (call ∷ left) o m
-    → Makes {T = T} Disk.Failed Disk.Memory (call ∷ []) m n (Err e) → Makes {T = T} Disk.Failed Disk.Memory calls o n (Err e)
+    → Makes {T = T} Disk.Failed Disk.Memory (call ∷ []) (call ∷ []) m n (Err e) → Makes {T = T} Disk.Failed Disk.Memory calls (call ∷ left) o n (Err e)
 stops_makes T calls call left o m n e h one = record {
   ok = tt;
   failed = λ is. let f = one.failed is in (f.0, f.1 ++ left, f.2, made_both calls (call ∷ []) (f.0 ∷ f.1) left o m f.2 h f.3, f.4);
-  ran_out = λ is. let b = one.ran_out is in (b.0 ++ left, made_both calls (call ∷ []) b.0 left o m n h b.1);
+  ran_out = λ is. made_both calls (call ∷ []) (call ∷ []) left o m n h (one.ran_out is);
 }
 
 pub ok_isnt_err : {T E : Type 0} (x : T) (e : E) → IsErrOf {T = T} {E = E} (Ok x) e → ⊥
@@ -114,18 +114,18 @@ answer_of (Ok x) = Ok x
 answer_of (Err Disk.Failed) = Err DiskFault
 answer_of (Err Disk.Memory) = Err Memory
 
-pub makes_on : {T : Type 0} (calls : List Call) (o n : Option Told) (r : Result T DiskError) → Makes Disk.Failed Disk.Memory calls o n r → Makes DiskFault Memory calls o n (answer_of r)
-makes_on {T} calls o n (Ok x) m = record {
+pub makes_on : {T : Type 0} (calls left : List Call) (o n : Option Told) (r : Result T DiskError) → Makes Disk.Failed Disk.Memory calls left o n r → Makes DiskFault Memory calls left o n (answer_of r)
+makes_on {T} calls left o n (Ok x) m = record {
   ok = m.ok;
   failed = λ e. absurd (ok_isnt_err x DiskFault e);
   ran_out = λ e. absurd (ok_isnt_err x Memory e);
 }
-makes_on {T} calls o n (Err Disk.Failed) m = record {
+makes_on {T} calls left o n (Err Disk.Failed) m = record {
   ok = tt;
   failed = λ e. m.failed refl;
   ran_out = λ e. absurd (fault_isnt_memory T e);
 }
-makes_on {T} calls o n (Err Disk.Memory) m = record {
+makes_on {T} calls left o n (Err Disk.Memory) m = record {
   ok = tt;
   failed = λ e. absurd (memory_isnt_fault T e);
   ran_out = λ e. m.ran_out refl;
@@ -136,50 +136,61 @@ on_then (Ok x) P Q f p = f p
 on_then (Err e) P Q f p = tt
 
 -- a step behind others
-pub makes_then : {T : Type 0} (first calls : List Call) (o m n : Option Told) (r : Result T JournalError) → m ≡ option_map (after_all first) o
-    → Makes DiskFault Memory calls m n r → Makes DiskFault Memory (first ++ calls) o n r
-makes_then first calls o m n r is h = record {
+pub makes_then : {T : Type 0} (first calls left : List Call) (o m n : Option Told) (r : Result T JournalError) → m ≡ option_map (after_all first) o
+    → Makes DiskFault Memory calls left m n r → Makes DiskFault Memory (first ++ calls) left o n r
+makes_then first calls left o m n r is h = record {
   ok = on_then r (n ≡ option_map (after_all calls) m) (n ≡ option_map (after_all (first ++ calls)) o)
       (λ p. p ∙ ap (λ (x : Option Told). option_map (after_all calls) x) is ∙ sym (told_both first calls o)) h.ok;
   failed = λ e. let f = h.failed e in (f.0, f.1, f.2, longer first calls (f.0 ∷ f.1) o m f.2 is f.3, f.4);
-  ran_out = λ e. let b = h.ran_out e in (b.0, longer first calls b.0 o m n is b.1);
+  ran_out = λ e. longer first calls left o m n is (h.ran_out e);
 }
 
 -- a step that stopped before others
-pub makes_before : (T : Type 0) (calls more : List Call) (o n : Option Told) (e : JournalError) → Makes {T = T} DiskFault Memory calls o n (Err e)
-    → Makes {T = T} DiskFault Memory (calls ++ more) o n (Err e)
-makes_before T calls more o n e h = record {
+pub makes_before : (T : Type 0) (calls left more : List Call) (o n : Option Told) (e : JournalError) → Makes {T = T} DiskFault Memory calls left o n (Err e)
+    → Makes {T = T} DiskFault Memory (calls ++ more) (left ++ more) o n (Err e)
+makes_before T calls left more o n e h = record {
   ok = tt;
   failed = λ is. let f = h.failed is in (f.0, f.1 ++ more, f.2, wider calls (f.0 ∷ f.1) more o f.2 f.3, f.4);
-  ran_out = λ is. let b = h.ran_out is in (b.0 ++ more, wider calls b.0 more o n b.1);
+  ran_out = λ is. wider calls left more o n (h.ran_out is);
 }
 
 -- a step with no calls
-pub none_makes : {T : Type 0} (x : T) (o : Option Told) → Makes DiskFault Memory [] o o (Ok x)
-none_makes x o = record { ok = told_none o; failed = λ e. absurd (ok_isnt_err x DiskFault e); ran_out = λ e. absurd (ok_isnt_err x Memory e) }
+pub none_makes : {T : Type 0} (x : T) (left : List Call) (o : Option Told) → Makes DiskFault Memory [] left o o (Ok x)
+none_makes x left o = record { ok = told_none o; failed = λ e. absurd (ok_isnt_err x DiskFault e); ran_out = λ e. absurd (ok_isnt_err x Memory e) }
 
 -- a step that didn't begin
-pub stopped_makes : (T : Type 0) (faults : ℕ) (calls : List Call) (o n : Option Told) → Makes {T = T} DiskFault Memory calls o n (Err (Stopped faults))
-stopped_makes T faults calls o n = record { ok = tt; failed = λ e. absurd (stopped_isnt_fault T faults e); ran_out = λ e. absurd (stopped_isnt_memory T faults e) }
+pub stopped_makes : (T : Type 0) (faults : ℕ) (calls left : List Call) (o n : Option Told) → Makes {T = T} DiskFault Memory calls left o n (Err (Stopped faults))
+stopped_makes T faults calls left o n = record { ok = tt; failed = λ e. absurd (stopped_isnt_fault T faults e); ran_out = λ e. absurd (stopped_isnt_memory T faults e) }
 
-unbegun : (T : Type 0) (calls : List Call) (o : Option Told) → Makes {T = T} DiskFault Memory calls o o (Err Memory)
-unbegun T calls o = record { ok = tt; failed = λ e. absurd (memory_isnt_fault T e); ran_out = λ e. (calls, none_made calls o) }
+unbegun : (T : Type 0) (calls : List Call) (o : Option Told) → Makes {T = T} DiskFault Memory calls calls o o (Err Memory)
+unbegun T calls o = record { ok = tt; failed = λ e. absurd (memory_isnt_fault T e); ran_out = λ e. none_made calls o }
 
-pub unbegun_makes : {T : Type 0} (calls : List Call) (o : Option Told) (r : Result T JournalError) → IsErrAnd r (λ e. e ≡ Memory) → Makes DiskFault Memory calls o o r
+pub unbegun_makes : {T : Type 0} (calls : List Call) (o : Option Told) (r : Result T JournalError) → IsErrAnd r (λ e. e ≡ Memory) → Makes DiskFault Memory calls calls o o r
 unbegun_makes {T} calls o (Ok x) memory = absurd memory
-unbegun_makes {T} calls o (Err e) memory = subst (λ (x : JournalError). Makes {T = T} DiskFault Memory calls o o (Err x)) (sym memory) (unbegun T calls o)
+unbegun_makes {T} calls o (Err e) memory = subst (λ (x : JournalError). Makes {T = T} DiskFault Memory calls calls o o (Err x)) (sym memory) (unbegun T calls o)
+
+-- the calls that are left, said otherwise
+pub left_as : {T : Type 0} (calls left same : List Call) (o n : Option Told) (r : Result T JournalError) → (IsErrOf r Memory → left ≡ same)
+    → Makes DiskFault Memory calls left o n r → Makes DiskFault Memory calls same o n r
+left_as calls left same o n r is m = record {
+  ok = m.ok;
+  failed = m.failed;
+  ran_out = λ e. subst (λ (l : List Call). MadeUpTo calls l o n) (is e) (m.ran_out e);
+}
 
 -- what a journal's call of the disk makes, by what it keeps
-pub made_by : {D T : Type 0} (told : D → Option Told) (calls : Kept D → List Call) (k now : Kept D) → k ≡ now → (n : Option Told) (r : Result T DiskError)
-    → Makes Disk.Failed Disk.Memory (calls k) (told k.disk) n r → Makes DiskFault Memory (calls now) (told now.disk) n (answer_of r)
-made_by {D} {T} told calls k now is n r m = subst (λ (x : Kept D). Makes DiskFault Memory (calls x) (told x.disk) n (answer_of r)) is (makes_on (calls k) (told k.disk) n r m)
+pub made_by : {D T : Type 0} (told : D → Option Told) (calls left : Kept D → List Call) (k now : Kept D) → k ≡ now → (n : Option Told) (r : Result T DiskError)
+    → Makes Disk.Failed Disk.Memory (calls k) (left k) (told k.disk) n r → Makes DiskFault Memory (calls now) (left now) (told now.disk) n (answer_of r)
+made_by {D} {T} told calls left k now is n r m =
+    subst (λ (x : Kept D). Makes DiskFault Memory (calls x) (left x) (told x.disk) n (answer_of r)) is (makes_on (calls k) (left k) (told k.disk) n r m)
 
--- what is left of a batch's pieces is written
-pub put_makes : {D T : Type 0} (told : D → Option Told) (k now : Kept D) → k ≡ now → (ps : List Span) → ps ≡ k.batch.pieces → (n : Option Told) (r : Result T DiskError)
-    → Makes Disk.Failed Disk.Memory (writes_of (drop k.batch.written ps)) (told k.disk) n r → Makes DiskFault Memory (writes_of (drop now.batch.written now.batch.pieces)) (told now.disk) n (answer_of r)
-put_makes {D} {T} told k now is ps same n r m =
-    made_by told (λ x. writes_of (drop x.batch.written x.batch.pieces)) k now is n r
-    (subst (λ (l : List Span). Makes Disk.Failed Disk.Memory (writes_of (drop k.batch.written l)) (told k.disk) n r) same m)
+-- what is left of a batch's pieces is written, up to so many of them
+pub put_makes : {D T : Type 0} (told : D → Option Told) (k now : Kept D) → k ≡ now → (ps : List Span) → ps ≡ k.batch.pieces → (written : ℕ) (n : Option Told) (r : Result T DiskError)
+    → Makes Disk.Failed Disk.Memory (writes_of (drop k.batch.written ps)) (writes_of (drop written ps)) (told k.disk) n r
+    → Makes DiskFault Memory (writes_of (drop now.batch.written now.batch.pieces)) (writes_of (drop written k.batch.pieces)) (told now.disk) n (answer_of r)
+put_makes {D} {T} told k now is ps same written n r m =
+    made_by told (λ x. writes_of (drop x.batch.written x.batch.pieces)) (λ x. writes_of (drop written k.batch.pieces)) k now is n r
+    (subst (λ (l : List Span). Makes Disk.Failed Disk.Memory (writes_of (drop k.batch.written l)) (writes_of (drop written l)) (told k.disk) n r) same m)
 
 -- where a batch is staged, or sealed, nothing is left to be done for that
 pub stage_none : {D : Type 0} (s : Step) (k : Kept D) (handed : List Record) → (s ≡ Idle → ⊥) → (s ≡ Staging → ⊥) → spans_to_stage s k handed ≡ []

@@ -35,12 +35,13 @@ pub record MadeUpTo (calls left : List Call) (before now : Option Told) : Type 0
   pub told : now ≡ option_map (after_all made) before
 
 -- What a step does that is to make these calls: where it succeeds it makes all of them, in order, and no other. Where
--- memory ran out it made a front part of them. Where the disk failed it made a front part, and the next one failed.
-pub record Makes {T E : Type 0} (fault memory : E) (calls : List Call) (before now : Option Told) (result : Result T E) : Type 0 where
+-- memory ran out it made those before the ones that it says are left. Where the disk failed it made a front part,
+-- and the next one failed.
+pub record Makes {T E : Type 0} (fault memory : E) (calls left : List Call) (before now : Option Told) (result : Result T E) : Type 0 where
   pub ok : OnOk result (now ≡ option_map (after_all calls) before)
   pub failed : IsErrOf result fault
-      → (call : Call) × (left : List Call) × (middle : Option Told) × MadeUpTo calls (call ∷ left) before middle × (now ≡ option_map (after (failed_call call)) middle)
-  pub ran_out : IsErrOf result memory → (left : List Call) × MadeUpTo calls left before now
+      → (call : Call) × (behind : List Call) × (middle : Option Told) × MadeUpTo calls (call ∷ behind) before middle × (now ≡ option_map (after (failed_call call)) middle)
+  pub ran_out : IsErrOf result memory → MadeUpTo calls left before now
 
 -- the spans that staging still writes: those of a batch of the records handed in where none is in progress, else
 -- what is left of the batch in progress

@@ -100,7 +100,7 @@ impl<D: Disk> Journal<D> {
             → CanStage D.told hash history batches rs records.now self.old
             → Leaves (StandsBy self.old.batch.step hash history self.old.durable (length rs)) (D.told self.old.disk) (D.told self.new.disk) }
         ensures kept { (self.new.ends ≡ self.old.ends) × (self.new.durable ≡ self.old.durable) }
-        ensures calls { Makes JournalError.DiskFault JournalError.Memory (calls_to_stage self.old records.now) (D.told self.old.disk) (D.told self.new.disk) result }
+        ensures calls { Makes JournalError.DiskFault JournalError.Memory (calls_to_stage self.old records.now) (calls_to_stage self.new records.now) (D.told self.old.disk) (D.told self.new.disk) result }
         ensures counted { IsCounted (D.faults self.old.disk) (D.faults self.new.disk) self.old.failures self.new.failures result }
         ensures stopped { 0 < self.old.failures → (result ≡ Err (JournalError.Stopped self.old.failures)) × (self.new ≡ self.old) }
         ensures nothing { self.old.failures ≡ 0 → HasStaged self.old.batch.step → (result ≡ Ok tt) × (self.new ≡ self.old) }
@@ -135,7 +135,7 @@ impl<D: Disk> Journal<D> {
             → IsInBatch D.told hash history batches rs self.old
             → Leaves (StandsBy self.old.batch.step hash history self.old.durable (length rs)) (D.told self.old.disk) (D.told self.new.disk) }
         ensures kept { (self.new.ends ≡ self.old.ends) × (self.new.durable ≡ self.old.durable) }
-        ensures calls { Makes JournalError.DiskFault JournalError.Memory (calls_to_seal self.old.batch.step) (D.told self.old.disk) (D.told self.new.disk) result }
+        ensures calls { Makes JournalError.DiskFault JournalError.Memory (calls_to_seal self.old.batch.step) (calls_to_seal self.new.batch.step) (D.told self.old.disk) (D.told self.new.disk) result }
         ensures counted { IsCounted (D.faults self.old.disk) (D.faults self.new.disk) self.old.failures self.new.failures result }
         ensures stopped { 0 < self.old.failures → (result ≡ Err (JournalError.Stopped self.old.failures)) × (self.new ≡ self.old) }
         ensures nothing { self.old.failures ≡ 0 → HasSealed self.old.batch.step → (result ≡ Ok tt) × (self.new ≡ self.old) }
@@ -173,7 +173,7 @@ impl<D: Disk> Journal<D> {
             → IsInBatch D.told hash history batches rs self.old
             → Leaves (StandsBy Gated hash history self.old.durable (length rs)) (D.told self.old.disk) (D.told self.new.disk) }
         ensures kept { OnErr result ((self.new.ends ≡ self.old.ends) × (self.new.durable ≡ self.old.durable)) }
-        ensures calls { Makes JournalError.DiskFault JournalError.Memory (calls_to_settle self.old.batch.step (end_of self.old.ends 1)) (D.told self.old.disk) (D.told self.new.disk) result }
+        ensures calls { Makes JournalError.DiskFault JournalError.Memory (calls_to_settle self.old.batch.step (end_of self.old.ends 1)) (calls_to_settle self.new.batch.step (end_of self.new.ends 1)) (D.told self.old.disk) (D.told self.new.disk) result }
         ensures counted { IsCounted (D.faults self.old.disk) (D.faults self.new.disk) self.old.failures self.new.failures result }
         ensures stopped { 0 < self.old.failures → (result ≡ Err (JournalError.Stopped self.old.failures)) × (self.new ≡ self.old) }
         ensures going { (faults : ℕ) → IsErrOf result (JournalError.Stopped faults) → 0 < self.old.failures }
@@ -249,6 +249,7 @@ impl<D: Disk> Journal<D> {
         ensures ok { (hash : Hash) (history : List Transaction) (batches : List (List Record)) (rs : List Record)
             → IsInBatch D.told hash history batches rs self.old → OnOk result (IsInBatch D.told hash history batches rs self.new) }
         ensures step { OnOk result (self.new.batch.step ≡ Staged) }
+        ensures stays { OnErr result (self.new.batch.step ≡ Staging) }
         ensures memory { (hash : Hash) (history : List Transaction) (batches : List (List Record)) (rs : List Record)
             → IsInBatch D.told hash history batches rs self.old → IsErrOf result JournalError.Memory
             → IsInBatch D.told hash history batches rs self.new }
@@ -256,7 +257,7 @@ impl<D: Disk> Journal<D> {
             → IsInBatch D.told hash history batches rs self.old
             → Leaves (λ image. Stands hash image (take self.old.durable history)) (D.told self.old.disk) (D.told self.new.disk) }
         ensures kept { (self.new.ends ≡ self.old.ends) × (self.new.durable ≡ self.old.durable) }
-        ensures calls { Makes JournalError.DiskFault JournalError.Memory (writes_of (drop self.old.batch.written self.old.batch.pieces)) (D.told self.old.disk) (D.told self.new.disk) result }
+        ensures calls { Makes JournalError.DiskFault JournalError.Memory (writes_of (drop self.old.batch.written self.old.batch.pieces)) (writes_of (drop self.new.batch.written self.new.batch.pieces)) (D.told self.old.disk) (D.told self.new.disk) result }
         ensures counted { IsCounted (D.faults self.old.disk) (D.faults self.new.disk) self.old.failures self.new.failures result }
         ensures going { (faults : ℕ) → IsErrOf result (JournalError.Stopped faults) → ⊥ }
     {
@@ -291,7 +292,7 @@ impl<D: Disk> Journal<D> {
             → Leaves (λ image. Stands hash image (take self.old.durable history)) (D.told self.old.disk) (D.told self.new.disk) }
         ensures kept { (self.new.ends ≡ self.old.ends) × (self.new.durable ≡ self.old.durable) }
         ensures err { OnErr result (self.new.batch ≡ self.old.batch) }
-        ensures calls { Makes JournalError.DiskFault JournalError.Memory (Synced ∷ []) (D.told self.old.disk) (D.told self.new.disk) result }
+        ensures calls { Makes JournalError.DiskFault JournalError.Memory (Synced ∷ []) (Synced ∷ []) (D.told self.old.disk) (D.told self.new.disk) result }
         ensures counted { IsCounted (D.faults self.old.disk) (D.faults self.new.disk) self.old.failures self.new.failures result }
         ensures going { (faults : ℕ) → IsErrOf result (JournalError.Stopped faults) → ⊥ }
     {
@@ -325,7 +326,7 @@ impl<D: Disk> Journal<D> {
         ensures kept { (self.new.ends ≡ self.old.ends) × (self.new.durable ≡ self.old.durable)
             × (self.new.batch.ends ≡ self.old.batch.ends) × (self.new.batch.count ≡ self.old.batch.count) }
         ensures err { OnErr result (self.new.batch ≡ self.old.batch) }
-        ensures calls { Makes JournalError.DiskFault JournalError.Memory (Wrote 1 (end_of self.old.ends 1) (1 ∷ []) ∷ []) (D.told self.old.disk) (D.told self.new.disk) result }
+        ensures calls { Makes JournalError.DiskFault JournalError.Memory (Wrote 1 (end_of self.old.ends 1) (1 ∷ []) ∷ []) (Wrote 1 (end_of self.old.ends 1) (1 ∷ []) ∷ []) (D.told self.old.disk) (D.told self.new.disk) result }
         ensures counted { IsCounted (D.faults self.old.disk) (D.faults self.new.disk) self.old.failures self.new.failures result }
         ensures going { (faults : ℕ) → IsErrOf result (JournalError.Stopped faults) → ⊥ }
     {
@@ -358,7 +359,7 @@ impl<D: Disk> Journal<D> {
             → IsInBatch D.told hash history batches rs self.old
             → Leaves (StandsBy Gated hash history self.old.durable (length rs)) (D.told self.old.disk) (D.told self.new.disk) }
         ensures err { OnErr result ((self.new.ends ≡ self.old.ends) × (self.new.durable ≡ self.old.durable) × (self.new.batch ≡ self.old.batch)) }
-        ensures calls { Makes JournalError.DiskFault JournalError.Memory (Synced ∷ []) (D.told self.old.disk) (D.told self.new.disk) result }
+        ensures calls { Makes JournalError.DiskFault JournalError.Memory (Synced ∷ []) (Synced ∷ []) (D.told self.old.disk) (D.told self.new.disk) result }
         ensures counted { IsCounted (D.faults self.old.disk) (D.faults self.new.disk) self.old.failures self.new.failures result }
         ensures going { (faults : ℕ) → IsErrOf result (JournalError.Stopped faults) → ⊥ }
     {

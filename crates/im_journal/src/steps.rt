@@ -23,7 +23,7 @@ fn put_piece<D: Disk>(disk: &mut D, piece: &Span) -> Result<(), DiskError>
         → IfSome (D.told disk.old) (IsStaging ends spans gate pieces (piece.now ∷ left))
         → Leaves (IsSafe ends spans gate) (D.told disk.old) (D.told disk.new) }
     ensures memory { IsErrOf result DiskError.Memory → D.told disk.new ≡ D.told disk.old }
-    ensures calls { Makes DiskError.Failed DiskError.Memory (writes_of (piece.now ∷ [])) (D.told disk.old) (D.told disk.new) result }
+    ensures calls { Makes DiskError.Failed DiskError.Memory (writes_of (piece.now ∷ [])) (writes_of (piece.now ∷ [])) (D.told disk.old) (D.told disk.new) result }
     ensures cause { HasCause (D.faults disk.old) (D.faults disk.new) result }
 {
     disk.write_at(piece.file, piece.at, piece.octets.as_slice())
@@ -52,7 +52,7 @@ pub(crate) fn put_pieces<D: Disk>(
     ensures forth { written.old ≤ written.new }
     ensures within { written.new ≤ length pieces.now }
     ensures all { OnOk result (written.new ≡ length pieces.now) }
-    ensures calls { Makes DiskError.Failed DiskError.Memory (writes_of (drop written.old pieces.now)) (D.told disk.old) (D.told disk.new) result }
+    ensures calls { Makes DiskError.Failed DiskError.Memory (writes_of (drop written.old pieces.now)) (writes_of (drop written.new pieces.now)) (D.told disk.old) (D.told disk.new) result }
     ensures cause { HasCause (D.faults disk.old) (D.faults disk.new) result }
 {
     while *written < pieces.len() {
@@ -74,7 +74,7 @@ pub(crate) fn seal_pieces<D: Disk>(disk: &mut D) -> Result<(), DiskError>
         → IfSome (D.told disk.old) (IsStaging ends spans gate pieces [])
         → Leaves (IsSafe ends spans gate) (D.told disk.old) (D.told disk.new) }
     ensures memory { IsErrOf result DiskError.Memory → D.told disk.new ≡ D.told disk.old }
-    ensures calls { Makes DiskError.Failed DiskError.Memory (Synced ∷ []) (D.told disk.old) (D.told disk.new) result }
+    ensures calls { Makes DiskError.Failed DiskError.Memory (Synced ∷ []) (Synced ∷ []) (D.told disk.old) (D.told disk.new) result }
     ensures cause { HasCause (D.faults disk.old) (D.faults disk.new) result }
 {
     disk.sync()
@@ -91,7 +91,7 @@ pub(crate) fn open_gate<D: Disk>(disk: &mut D, gate: u64) -> Result<(), DiskErro
         → IfSome (D.told disk.old) (IsSealed ends spans gate pieces)
         → Leaves (IsEither ends spans gate pieces) (D.told disk.old) (D.told disk.new) }
     ensures memory { IsErrOf result DiskError.Memory → D.told disk.new ≡ D.told disk.old }
-    ensures calls { Makes DiskError.Failed DiskError.Memory (Wrote 1 gate (1 ∷ []) ∷ []) (D.told disk.old) (D.told disk.new) result }
+    ensures calls { Makes DiskError.Failed DiskError.Memory (Wrote 1 gate (1 ∷ []) ∷ []) (Wrote 1 gate (1 ∷ []) ∷ []) (D.told disk.old) (D.told disk.new) result }
     ensures cause { HasCause (D.faults disk.old) (D.faults disk.new) result }
 {
     disk.write_at(1, gate, &[1])
@@ -106,7 +106,7 @@ pub(crate) fn settle_gate<D: Disk>(disk: &mut D) -> Result<(), DiskError>
         → IfSome (D.told disk.old) (IsGated ends spans gate pieces)
         → Leaves (IsEither ends spans gate pieces) (D.told disk.old) (D.told disk.new) }
     ensures memory { IsErrOf result DiskError.Memory → D.told disk.new ≡ D.told disk.old }
-    ensures calls { Makes DiskError.Failed DiskError.Memory (Synced ∷ []) (D.told disk.old) (D.told disk.new) result }
+    ensures calls { Makes DiskError.Failed DiskError.Memory (Synced ∷ []) (Synced ∷ []) (D.told disk.old) (D.told disk.new) result }
     ensures cause { HasCause (D.faults disk.old) (D.faults disk.new) result }
 {
     disk.sync()

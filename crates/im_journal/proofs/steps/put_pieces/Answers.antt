@@ -1,4 +1,4 @@
-use Rattle.std.proofs.Common.{rules, ◌+◌, List, take, drop, subst}
+use Rattle.std.proofs.Common.{rules, ◌+◌, List, take, drop, subst, sym, Err}
 use Rattle.std.specs.Prelude.{IfSome}
 use Rattle.im_disk.proofs.Leaving.{leaves_both}
 use Rattle.im_format.specs.declared.spans.Span.{Span}
@@ -6,7 +6,7 @@ use Rattle.im_journal.specs.Phases.{IsSafe, IsStaging}
 use Rattle.im_journal.proofs.Calls.{next_left, next_taken, next_within}
 use Rattle.im_disk.specs.declared.calls.Call.TheVariants.{Wrote}
 use Rattle.im_disk.specs.declared.disk.DiskError.TheVariants as Disk
-use Rattle.im_journal.specs.Made.{MadeUpTo, writes_of}
+use Rattle.im_journal.specs.Made.{MadeUpTo, Makes, writes_of}
 use Rattle.std.proofs.lemmas.List.{drop_all}
 use Rattle.im_journal.proofs.Making.{all_made, next_made, none_made, ok_isnt_err, stops_makes}
 use Rattle.im_journal.proofs.steps.put_pieces.Goals as goal
@@ -57,9 +57,13 @@ returns-in-Err-clause-calls g c =
     let ps = c.args.pieces.now in
     let k = c.loop-written.written in
     let p = c.index-pieces-written.result in
-    stops_makes _ (writes_of (drop c.args.written.now ps)) (Wrote p.file p.at p.octets) (writes_of (drop (k + 1) ps)) _ _ _ _
-    (subst (λ (l : List Span). MadeUpTo (writes_of (drop c.args.written.now ps)) (writes_of l) (g.D.Disk.told c.args.disk.now) (g.D.Disk.told c.loop-written.disk)) (next_left ps k p c.loop-written-test.true c.index-pieces-written.is) c.loop-written.invariant.made)
-    c.in-Err.ensures.calls
+    let calls = writes_of (drop c.args.written.now ps) in
+    let o = g.D.Disk.told c.args.disk.now in
+    let m = g.D.Disk.told c.loop-written.disk in
+    let next = next_left ps k p c.loop-written-test.true c.index-pieces-written.is in
+    subst (λ (l : List Span). Makes {T = Unit {0}} Disk.Failed Disk.Memory calls (writes_of l) o (g.D.Disk.told c.put_piece.new.disk) (Err c.in-Err.error)) (sym next)
+    (stops_makes (Unit {0}) calls (Wrote p.file p.at p.octets) (writes_of (drop (k + 1) ps)) o m (g.D.Disk.told c.put_piece.new.disk) c.in-Err.error
+    (subst (λ (l : List Span). MadeUpTo calls (writes_of l) o m) next c.loop-written.invariant.made) c.in-Err.ensures.calls)
 
 pub returns-clause-calls : goal.returns-clause-calls
 returns-clause-calls g c =

@@ -30,10 +30,10 @@ open_gate-requires-clause-end g c =
     omega (arith, room)
 
 pub returns-in-Ok-clause-calls : goal.returns-in-Ok-clause-calls
-returns-in-Ok-clause-calls g c = made_by g.D.Disk.told (λ k. Wrote 1 (end_of k.ends 1) (1 ∷ []) ∷ []) _ c.args.self.now c.self.view_is (g.D.Disk.told c.open_gate.new.disk) (Ok tt) c.in-Ok.ensures.calls
+returns-in-Ok-clause-calls g c = made_by g.D.Disk.told (λ k. Wrote 1 (end_of k.ends 1) (1 ∷ []) ∷ []) (λ k. Wrote 1 (end_of k.ends 1) (1 ∷ []) ∷ []) _ c.args.self.now c.self.view_is (g.D.Disk.told c.open_gate.new.disk) (Ok tt) c.in-Ok.ensures.calls
 
 pub returns-in-Err-Failed-clause-calls : goal.returns-in-Err-Failed-clause-calls
-returns-in-Err-Failed-clause-calls g c = made_by g.D.Disk.told (λ k. Wrote 1 (end_of k.ends 1) (1 ∷ []) ∷ []) _ c.args.self.now c.self.view_is (g.D.Disk.told c.open_gate.new.disk) (Err Failed) (rw c.in-Err-Failed.field-0-is at c.in-Err-Failed.ensures.calls)
+returns-in-Err-Failed-clause-calls g c = made_by g.D.Disk.told (λ k. Wrote 1 (end_of k.ends 1) (1 ∷ []) ∷ []) (λ k. Wrote 1 (end_of k.ends 1) (1 ∷ []) ∷ []) _ c.args.self.now c.self.view_is (g.D.Disk.told c.open_gate.new.disk) (Err Failed) (rw c.in-Err-Failed.field-0-is at c.in-Err-Failed.ensures.calls)
 
 pub returns-in-Err-Memory-clause-calls : goal.returns-in-Err-Memory-clause-calls
-returns-in-Err-Memory-clause-calls g c = made_by g.D.Disk.told (λ k. Wrote 1 (end_of k.ends 1) (1 ∷ []) ∷ []) _ c.args.self.now c.self.view_is (g.D.Disk.told c.open_gate.new.disk) (Err Memory) (rw c.in-Err-Memory.field-0-is at c.in-Err-Memory.ensures.calls)
+returns-in-Err-Memory-clause-calls g c = made_by g.D.Disk.told (λ k. Wrote 1 (end_of k.ends 1) (1 ∷ []) ∷ []) (λ k. Wrote 1 (end_of k.ends 1) (1 ∷ []) ∷ []) _ c.args.self.now c.self.view_is (g.D.Disk.told c.open_gate.new.disk) (Err Memory) (rw c.in-Err-Memory.field-0-is at c.in-Err-Memory.ensures.calls)

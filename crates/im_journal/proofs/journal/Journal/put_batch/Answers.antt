@@ -24,12 +24,12 @@ returns-in-Err-Memory-clause-any_moment g c hash history batches rs mid =
 
 pub returns-in-Ok-clause-calls : goal.returns-in-Ok-clause-calls
 returns-in-Ok-clause-calls g c =
-    put_makes g.D.Disk.told _ c.args.self.now c.self.view_is c.as_slice.result.now c.as_slice.ensures.value (g.D.Disk.told c.put_pieces.new.disk) (Ok tt) c.in-Ok.ensures.calls
+    put_makes g.D.Disk.told _ c.args.self.now c.self.view_is c.as_slice.result.now c.as_slice.ensures.value c.put_pieces.new.written (g.D.Disk.told c.put_pieces.new.disk) (Ok tt) c.in-Ok.ensures.calls
 
 pub returns-in-Err-Failed-clause-calls : goal.returns-in-Err-Failed-clause-calls
 returns-in-Err-Failed-clause-calls g c =
-    put_makes g.D.Disk.told _ c.args.self.now c.self.view_is c.as_slice.result.now c.as_slice.ensures.value (g.D.Disk.told c.put_pieces.new.disk) (Err Failed) (rw c.in-Err-Failed.field-0-is at c.in-Err-Failed.ensures.calls)
+    put_makes g.D.Disk.told _ c.args.self.now c.self.view_is c.as_slice.result.now c.as_slice.ensures.value c.put_pieces.new.written (g.D.Disk.told c.put_pieces.new.disk) (Err Failed) (rw c.in-Err-Failed.field-0-is at c.in-Err-Failed.ensures.calls)
 
 pub returns-in-Err-Memory-clause-calls : goal.returns-in-Err-Memory-clause-calls
 returns-in-Err-Memory-clause-calls g c =
-    put_makes g.D.Disk.told _ c.args.self.now c.self.view_is c.as_slice.result.now c.as_slice.ensures.value (g.D.Disk.told c.put_pieces.new.disk) (Err Memory) (rw c.in-Err-Memory.field-0-is at c.in-Err-Memory.ensures.calls)
+    put_makes g.D.Disk.told _ c.args.self.now c.self.view_is c.as_slice.result.now c.as_slice.ensures.value c.put_pieces.new.written (g.D.Disk.told c.put_pieces.new.disk) (Err Memory) (rw c.in-Err-Memory.field-0-is at c.in-Err-Memory.ensures.calls)

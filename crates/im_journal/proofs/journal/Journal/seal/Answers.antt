@@ -1,12 +1,14 @@
-use Rattle.std.proofs.Common.{arith, true, refl, ◌≡◌, ◌∙◌, length, sym, ap, subst, List, Ok}
+use Rattle.std.proofs.Common.{arith, true, refl, ◌≡◌, ◌∙◌, length, sym, ap, subst, List, Ok, [], ◌∷◌}
 use Rattle.im_disk.specs.Moments.{Leaves}
 use Rattle.im_journal.specs.Kept.{HasSealed, HasStaged, StandsBy}
 use Rattle.im_journal.specs.declared.batches.Step.{Step}
 use Rattle.im_journal.specs.declared.errors.JournalError.TheVariants.{DiskFault, Memory, Stopped}
 use Rattle.im_journal.proofs.Mids.{err_then, ok_isnt, sealed_left, stays}
 use Rattle.im_disk.specs.declared.calls.Call.{Call}
+use Rattle.im_disk.specs.declared.calls.Call.TheVariants.{Synced}
+use Rattle.im_journal.specs.declared.batches.Step.TheVariants.{Staged}
 use Rattle.im_journal.specs.Made.{Makes, calls_to_seal}
-use Rattle.im_journal.proofs.Making.{none_makes, seal_none}
+use Rattle.im_journal.proofs.Making.{left_as, none_makes, seal_none}
 use Rattle.im_journal.proofs.journal.Journal.seal.Goals as goal
 
 pub returns-in_err-go-clause-any_moment : goal.returns-in_err-go-clause-any_moment
@@ -33,8 +35,8 @@ returns-in_default g c =
       again = λ hash history batches rs mid e. absurd (ok_isnt tt Memory e);
       any_moment = λ hash history batches rs mid. stays g.D.Disk.told hash history batches rs c.args.self.now mid;
       kept = (refl, refl);
-      calls = subst (λ (l : List Call). Makes DiskFault Memory l (g.D.Disk.told c.args.self.now.disk) (g.D.Disk.told c.args.self.now.disk) (Ok tt))
-          (sym (seal_none c.args.self.now.batch.step (λ e. c.in_default.not-Staged (ap (λ k. k.batch.step) c.self.view_is ∙ e)))) (none_makes tt (g.D.Disk.told c.args.self.now.disk));
+      calls = subst (λ (l : List Call). Makes DiskFault Memory l (calls_to_seal c.args.self.now.batch.step) (g.D.Disk.told c.args.self.now.disk) (g.D.Disk.told c.args.self.now.disk) (Ok tt))
+          (sym (seal_none c.args.self.now.batch.step (λ e. c.in_default.not-Staged (ap (λ k. k.batch.step) c.self.view_is ∙ e)))) (none_makes tt (calls_to_seal c.args.self.now.batch.step) (g.D.Disk.told c.args.self.now.disk));
       counted = record { rose = λ e. absurd (ok_isnt tt DiskFault e); more = λ e. absurd (ok_isnt tt DiskFault e); faults = λ n. refl; failures = λ n. refl };
       stopped = λ lt. absurd (omega (arith, zero, lt));
       nothing = λ none has. (refl, refl);
@@ -46,5 +48,12 @@ returns-in-Staged-clause-nothing g c zero has = absurd (subst HasSealed (sym (ap
 
 pub returns-in-Staged-clause-calls : goal.returns-in-Staged-clause-calls
 returns-in-Staged-clause-calls g c =
-    subst (λ (s : Step). Makes DiskFault Memory (calls_to_seal s) (g.D.Disk.told c.args.self.now.disk) (g.D.Disk.told c.seal_batch.new.self.disk) c.seal_batch.result)
-    (sym (sym (ap (λ k. k.batch.step) c.self.view_is) ∙ c.in-Staged.is)) c.seal_batch.ensures.calls
+    let now = c.args.self.now in
+    let new = c.seal_batch.new.self in
+    let o = g.D.Disk.told now.disk in
+    let n = g.D.Disk.told new.disk in
+    let staged : now.batch.step ≡ Staged = sym (ap (λ k. k.batch.step) c.self.view_is) ∙ c.in-Staged.is in
+    subst (λ (s : Step). Makes DiskFault Memory (calls_to_seal s) (calls_to_seal new.batch.step) o n c.seal_batch.result) (sym staged)
+    (left_as (Synced ∷ []) (Synced ∷ []) (calls_to_seal new.batch.step) o n c.seal_batch.result
+    (λ e. ap calls_to_seal (sym (ap (λ b. b.step) (err_then c.seal_batch.result Memory (new.batch ≡ now.batch) c.seal_batch.ensures.err e) ∙ staged)))
+    c.seal_batch.ensures.calls)

@@ -24,10 +24,10 @@ returns-in-Err-Memory-clause-any_moment g c hash history batches rs mid =
     (c.seal_pieces.ensures.any_moment (end_of c.self.inside.ends) (spans_of batches) (gate_of (length batches)) c.self.inside.batch.pieces.items)
 
 pub returns-in-Ok-clause-calls : goal.returns-in-Ok-clause-calls
-returns-in-Ok-clause-calls g c = made_by g.D.Disk.told (λ k. Synced ∷ []) _ c.args.self.now c.self.view_is (g.D.Disk.told c.seal_pieces.new.disk) (Ok tt) c.in-Ok.ensures.calls
+returns-in-Ok-clause-calls g c = made_by g.D.Disk.told (λ k. Synced ∷ []) (λ k. Synced ∷ []) _ c.args.self.now c.self.view_is (g.D.Disk.told c.seal_pieces.new.disk) (Ok tt) c.in-Ok.ensures.calls
 
 pub returns-in-Err-Failed-clause-calls : goal.returns-in-Err-Failed-clause-calls
-returns-in-Err-Failed-clause-calls g c = made_by g.D.Disk.told (λ k. Synced ∷ []) _ c.args.self.now c.self.view_is (g.D.Disk.told c.seal_pieces.new.disk) (Err Failed) (rw c.in-Err-Failed.field-0-is at c.in-Err-Failed.ensures.calls)
+returns-in-Err-Failed-clause-calls g c = made_by g.D.Disk.told (λ k. Synced ∷ []) (λ k. Synced ∷ []) _ c.args.self.now c.self.view_is (g.D.Disk.told c.seal_pieces.new.disk) (Err Failed) (rw c.in-Err-Failed.field-0-is at c.in-Err-Failed.ensures.calls)
 
 pub returns-in-Err-Memory-clause-calls : goal.returns-in-Err-Memory-clause-calls
-returns-in-Err-Memory-clause-calls g c = made_by g.D.Disk.told (λ k. Synced ∷ []) _ c.args.self.now c.self.view_is (g.D.Disk.told c.seal_pieces.new.disk) (Err Memory) (rw c.in-Err-Memory.field-0-is at c.in-Err-Memory.ensures.calls)
+returns-in-Err-Memory-clause-calls g c = made_by g.D.Disk.told (λ k. Synced ∷ []) (λ k. Synced ∷ []) _ c.args.self.now c.self.view_is (g.D.Disk.told c.seal_pieces.new.disk) (Err Memory) (rw c.in-Err-Memory.field-0-is at c.in-Err-Memory.ensures.calls)

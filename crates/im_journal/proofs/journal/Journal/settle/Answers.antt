@@ -11,7 +11,7 @@ use Rattle.im_disk.specs.declared.calls.Call.TheVariants.{Wrote, Synced}
 use Rattle.im_journal.specs.Made.{Makes, calls_to_settle}
 use Rattle.im_journal.specs.Pieces.{end_of}
 use Rattle.im_journal.specs.declared.batches.Step.{Step}
-use Rattle.im_journal.proofs.Making.{makes_before, makes_then}
+use Rattle.im_journal.proofs.Making.{left_as, makes_before, makes_then}
 use Rattle.im_journal.proofs.journal.Journal.settle.Goals as goal
 
 pub returns-in_err-go-clause-any_moment : goal.returns-in_err-go-clause-any_moment
@@ -85,7 +85,16 @@ returns-in_default g c =
       );
       any_moment = λ hash history batches rs mid. call.ensures.any_moment hash history batches rs mid;
       kept = on_err call.result ((new.ends ≡ now.ends) × (new.durable ≡ now.durable) × (new.batch ≡ now.batch)) ((new.ends ≡ now.ends) × (new.durable ≡ now.durable)) call.ensures.err (λ h. (h.0, h.1));
-      calls = subst (λ (s : Step). Makes DiskFault Memory (calls_to_settle s (end_of now.ends 1)) (g.D.Disk.told now.disk) (g.D.Disk.told new.disk) call.result) (sym gated) call.ensures.calls;
+      calls =
+          let gate = end_of now.ends 1 in
+          let left = calls_to_settle new.batch.step (end_of new.ends 1) in
+          let o = g.D.Disk.told now.disk in
+          let n = g.D.Disk.told new.disk in
+          subst (λ (s : Step). Makes DiskFault Memory (calls_to_settle s gate) left o n call.result) (sym gated)
+          (left_as (Synced ∷ []) (Synced ∷ []) left o n call.result
+          (λ e. ap (λ (s : Step). calls_to_settle s (end_of new.ends 1))
+          (sym (ap (λ b. b.step) (err_then call.result Memory ((new.ends ≡ now.ends) × (new.durable ≡ now.durable) × (new.batch ≡ now.batch)) call.ensures.err e).2 ∙ gated)))
+          call.ensures.calls);
       counted = call.ensures.counted;
       stopped = λ lt. absurd (omega (arith, zero, lt));
       going = λ faults e. absurd (call.ensures.going faults e);
@@ -95,16 +104,31 @@ pub returns-in-Ok-clause-calls : goal.returns-in-Ok-clause-calls
 returns-in-Ok-clause-calls g c =
     let told = g.D.Disk.told in
     let now = c.args.self.now in
+    let k = c.open_batch.new.self in
+    let new = c.settle_batch.new.self in
     let gate : List Call = Wrote 1 (end_of now.ends 1) (1 ∷ []) ∷ [] in
+    let left = calls_to_settle new.batch.step (end_of new.ends 1) in
     let sealed : now.batch.step ≡ Sealed = sym (ap (λ k. k.batch.step) c.self.view_is) ∙ c.in-Sealed.is in
-    subst (λ (s : Step). Makes DiskFault Memory (calls_to_settle s (end_of now.ends 1)) (told now.disk) (told c.settle_batch.new.self.disk) c.settle_batch.result) (sym sealed)
-    (makes_then gate (Synced ∷ []) (told now.disk) (told c.open_batch.new.self.disk) (told c.settle_batch.new.self.disk) c.settle_batch.result c.in-Ok.ensures.calls.ok c.settle_batch.ensures.calls)
+    subst (λ (s : Step). Makes DiskFault Memory (calls_to_settle s (end_of now.ends 1)) left (told now.disk) (told new.disk) c.settle_batch.result) (sym sealed)
+    (makes_then gate (Synced ∷ []) left (told now.disk) (told k.disk) (told new.disk) c.settle_batch.result c.in-Ok.ensures.calls.ok
+    (left_as (Synced ∷ []) (Synced ∷ []) left (told k.disk) (told new.disk) c.settle_batch.result
+    (λ e. ap (λ (s : Step). calls_to_settle s (end_of new.ends 1))
+    (sym (ap (λ b. b.step) (err_then c.settle_batch.result Memory ((new.ends ≡ k.ends) × (new.durable ≡ k.durable) × (new.batch ≡ k.batch)) c.settle_batch.ensures.err e).2 ∙ c.in-Ok.ensures.step)))
+    c.settle_batch.ensures.calls))
 
 pub returns-in-Err-clause-calls : goal.returns-in-Err-clause-calls
 returns-in-Err-clause-calls g c =
     let told = g.D.Disk.told in
     let now = c.args.self.now in
+    let k = c.open_batch.new.self in
     let gate : List Call = Wrote 1 (end_of now.ends 1) (1 ∷ []) ∷ [] in
+    let all : List Call = Wrote 1 (end_of now.ends 1) (1 ∷ []) ∷ Synced ∷ [] in
+    let left = calls_to_settle k.batch.step (end_of k.ends 1) in
     let sealed : now.batch.step ≡ Sealed = sym (ap (λ k. k.batch.step) c.self.view_is) ∙ c.in-Sealed.is in
-    subst (λ (s : Step). Makes DiskFault Memory (calls_to_settle s (end_of now.ends 1)) (told now.disk) (told c.open_batch.new.self.disk) (Err c.in-Err.error)) (sym sealed)
-    (makes_before _ gate (Synced ∷ []) (told now.disk) (told c.open_batch.new.self.disk) c.in-Err.error c.in-Err.ensures.calls)
+    subst (λ (s : Step). Makes DiskFault Memory (calls_to_settle s (end_of now.ends 1)) left (told now.disk) (told k.disk) (Err c.in-Err.error)) (sym sealed)
+    (left_as all all left (told now.disk) (told k.disk) (Err c.in-Err.error)
+    (λ e.
+    let same = err_then c.open_batch.result Memory (k.batch ≡ now.batch) c.open_batch.ensures.err (c.in-Err.is ∙ e) in
+    let step : k.batch.step ≡ Sealed = ap (λ b. b.step) same ∙ sealed in
+    ap (λ (s : Step). calls_to_settle s (end_of now.ends 1)) (sym step) ∙ ap (λ (ends : List ℕ). calls_to_settle k.batch.step (end_of ends 1)) (sym c.open_batch.ensures.kept.0))
+    (makes_before _ gate gate (Synced ∷ []) (told now.disk) (told k.disk) c.in-Err.error c.in-Err.ensures.calls))

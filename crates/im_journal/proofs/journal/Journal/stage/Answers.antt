@@ -5,11 +5,11 @@ use Rattle.im_journal.specs.Kept.{HasStaged, StandsBy}
 use Rattle.im_journal.specs.declared.batches.Step.{Step}
 use Rattle.im_journal.specs.declared.batches.Step.TheVariants.{Idle, Staging}
 use Rattle.im_journal.specs.declared.errors.JournalError.TheVariants.{DiskFault, Memory, Stopped}
-use Rattle.im_journal.proofs.Mids.{can_stay, mid_of, ok_isnt, rest_of, staged_left}
+use Rattle.im_journal.proofs.Mids.{can_stay, err_then, mid_of, ok_isnt, rest_of, staged_left}
 use Rattle.im_format.specs.declared.spans.Span.{Span}
 use Rattle.im_journal.specs.Made.{Makes, calls_to_stage, spans_to_stage, writes_of}
 use Rattle.im_journal.specs.Pieces.{pieces_of}
-use Rattle.im_journal.proofs.Making.{none_makes, stage_none, unbegun_makes}
+use Rattle.im_journal.proofs.Making.{left_as, none_makes, stage_none, unbegun_makes}
 use Rattle.im_journal.proofs.journal.Journal.stage.Goals as goal
 
 pub returns-in_err-go-clause-any_moment : goal.returns-in_err-go-clause-any_moment
@@ -55,8 +55,8 @@ returns-in_default g c =
       again = λ hash history batches rs can e. absurd (ok_isnt tt Memory e);
       any_moment = λ hash history batches rs can. can_stay g.D.Disk.told hash history batches rs c.args.records.now now can;
       kept = (refl, refl);
-      calls = subst (λ (l : List Span). Makes DiskFault Memory (writes_of l) (g.D.Disk.told now.disk) (g.D.Disk.told now.disk) (Ok tt))
-          (sym (stage_none now.batch.step now c.args.records.now not_idle not_staging)) (none_makes tt (g.D.Disk.told now.disk));
+      calls = subst (λ (l : List Span). Makes DiskFault Memory (writes_of l) (calls_to_stage now c.args.records.now) (g.D.Disk.told now.disk) (g.D.Disk.told now.disk) (Ok tt))
+          (sym (stage_none now.batch.step now c.args.records.now not_idle not_staging)) (none_makes tt (calls_to_stage now c.args.records.now) (g.D.Disk.told now.disk));
       counted = record { rose = λ e. absurd (ok_isnt tt DiskFault e); more = λ e. absurd (ok_isnt tt DiskFault e); faults = λ n. refl; failures = λ n. refl };
       stopped = λ lt. absurd (omega (arith, zero, lt));
       nothing = λ none has. (refl, refl);
@@ -81,22 +81,38 @@ returns-in_ok-begin-in-Idle-clause-calls g c =
     let idle : now.batch.step ≡ Idle = sym (ap (λ k. k.batch.step) c.self.view_is) ∙ c.in-Idle.is in
     let pieces = c.in_ok-begin-in-Idle.ensures.pieces in
     let all : drop k.batch.written k.batch.pieces ≡ pieces_of now.ends (now.durable + 1) c.args.records.now = ap (λ (n : ℕ). drop n k.batch.pieces) pieces.1 ∙ pieces.0 in
-    let one = subst (λ (l : List Span). Makes DiskFault Memory (writes_of l) (told k.disk) end c.put_batch.result) all c.put_batch.ensures.calls in
-    let two = subst (λ d. Makes DiskFault Memory (writes_of (pieces_of now.ends (now.durable + 1) c.args.records.now)) (told d) end c.put_batch.result) c.begin.ensures.disk one in
-    subst (λ (s : Step). Makes DiskFault Memory (writes_of (spans_to_stage s now c.args.records.now)) (told now.disk) end c.put_batch.result) (sym idle) two
+    let handed = c.args.records.now in
+    let new = c.put_batch.new.self in
+    let result = c.put_batch.result in
+    let left = writes_of (drop new.batch.written new.batch.pieces) in
+    let calls = writes_of (pieces_of now.ends (now.durable + 1) handed) in
+    let one = subst (λ (l : List Span). Makes DiskFault Memory (writes_of l) left (told k.disk) end result) all c.put_batch.ensures.calls in
+    let two = subst (λ d. Makes DiskFault Memory calls left (told d) end result) c.begin.ensures.disk one in
+    let three = left_as calls left (calls_to_stage new handed) (told now.disk) end result
+    (λ e. ap (λ (s : Step). writes_of (spans_to_stage s new handed)) (sym (err_then result Memory (new.batch.step ≡ Staging) c.put_batch.ensures.stays e))) two in
+    subst (λ (s : Step). Makes DiskFault Memory (writes_of (spans_to_stage s now handed)) (calls_to_stage new handed) (told now.disk) end result) (sym idle) three
 
 pub returns-in-Staging-clause-calls : goal.returns-in-Staging-clause-calls
 returns-in-Staging-clause-calls g c =
     let told = g.D.Disk.told in
     let now = c.args.self.now in
     let staging : now.batch.step ≡ Staging = sym (ap (λ k. k.batch.step) c.self.view_is) ∙ c.in-Staging.is in
-    subst (λ (s : Step). Makes DiskFault Memory (writes_of (spans_to_stage s now c.args.records.now)) (told now.disk) (told c.put_batch-in-Staging.new.self.disk) c.put_batch-in-Staging.result) (sym staging)
-    c.put_batch-in-Staging.ensures.calls
+    let handed = c.args.records.now in
+    let new = c.put_batch-in-Staging.new.self in
+    let result = c.put_batch-in-Staging.result in
+    let calls = writes_of (drop now.batch.written now.batch.pieces) in
+    let left = writes_of (drop new.batch.written new.batch.pieces) in
+    subst (λ (s : Step). Makes DiskFault Memory (writes_of (spans_to_stage s now handed)) (calls_to_stage new handed) (told now.disk) (told new.disk) result) (sym staging)
+    (left_as calls left (calls_to_stage new handed) (told now.disk) (told new.disk) result
+    (λ e. ap (λ (s : Step). writes_of (spans_to_stage s new handed)) (sym (err_then result Memory (new.batch.step ≡ Staging) c.put_batch-in-Staging.ensures.stays e)))
+    c.put_batch-in-Staging.ensures.calls)
 
 pub returns-in_err-begin-in-Idle-clause-calls : goal.returns-in_err-begin-in-Idle-clause-calls
 returns-in_err-begin-in-Idle-clause-calls g c =
     let told = g.D.Disk.told in
     let now = c.args.self.now in
     let result = c.from_residual-in_err-begin-in-Idle.result in
-    subst (λ d. Makes DiskFault Memory (calls_to_stage now c.args.records.now) (told now.disk) (told d) result) (sym c.begin.ensures.disk)
-    (unbegun_makes (calls_to_stage now c.args.records.now) (told now.disk) result c.from_residual-in_err-begin-in-Idle.ensures.1)
+    let handed = c.args.records.now in
+    let same : c.begin.new.self ≡ now = c.in_err-begin-in-Idle.ensures.err in
+    subst (λ k. Makes DiskFault Memory (calls_to_stage now handed) (calls_to_stage k handed) (told now.disk) (told k.disk) result) (sym same)
+    (unbegun_makes (calls_to_stage now handed) (told now.disk) result c.from_residual-in_err-begin-in-Idle.ensures.1)
