@@ -11,3 +11,4 @@ pub mod HistoryReads
 pub mod GateLemmas
 pub mod LeaveLemmas
 pub mod OpenLemmas
+pub mod TreeLemmas

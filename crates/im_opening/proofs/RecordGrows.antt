@@ -5,6 +5,7 @@ use Rattle.std.proofs.lemmas.List.{append-nil, length-map, map-append, take-appe
 use Rattle.im_digest.specs.Digests.{Hash}
 use Rattle.im_format.specs.Records.{AreRecords, AreReferences}
 use Rattle.im_format.specs.declared.records.Record.{Record}
+use Rattle.im_frontier.specs.Kept.{Kept, IsFrontier}
 use Rattle.im_model.specs.Headers.{alh}
 use Rattle.im_model.specs.History.{Follow, IsHistory, IsTransaction, alh_of, alhs_from, alhs_of, bl_root_of, first_alh, next_header, no_digest}
 use Rattle.im_model.specs.Trees.{root}
@@ -41,12 +42,12 @@ root-kept : (hash : Hash) (alhs : List (List ℕ)) (x : List ℕ) (bl : ℕ) →
 root-kept hash alhs x bl le = ap (λ (l : List (List ℕ)). if bl == 0 then no_digest else root hash l) (take-append-le bl alhs (x ∷ []) le)
 
 -- one more record of the history
-pub consistent-next : (hash : Hash) (records : List Record) (alhs : List (List ℕ)) (bl : ℕ) (bl_root : List ℕ) (r : Record) (next : List ℕ)
-    → IsConsistent hash records alhs bl bl_root → length alhs < 1048576 → IsTransaction (length alhs) r.tx → bl ≤ r.tx.bl
+pub consistent-next : (hash : Hash) (records : List Record) (alhs : List (List ℕ)) (bl : ℕ) (bl_root : List ℕ) (tree : Kept) (r : Record) (next : List ℕ) (grown : Kept)
+    → IsConsistent hash records alhs bl bl_root tree → length alhs < 1048576 → IsTransaction (length alhs) r.tx → bl ≤ r.tx.bl
     → AreReferences hash (length alhs + 1) r.tx.entries r.refs → r.alh ≡ alh hash (next_header hash alhs r.tx)
-    → next ≡ bl_root_of hash alhs r.tx.bl
-    → IsConsistent hash (records ++ r ∷ []) (alhs ++ r.alh ∷ []) r.tx.bl next
-consistent-next hash records alhs bl bl_root r next h few is rises refer digest root =
+    → next ≡ bl_root_of hash alhs r.tx.bl → IsFrontier hash (take r.tx.bl alhs) grown
+    → IsConsistent hash (records ++ r ∷ []) (alhs ++ r.alh ∷ []) r.tx.bl next grown
+consistent-next hash records alhs bl bl_root tree r next grown h few is rises refer digest root whole =
     let txs = txs_of records in
     let more : txs_of (records ++ r ∷ []) ≡ txs ++ r.tx ∷ [] = map-append (λ (x : Record). x.tx) records (r ∷ []) in
     let many : length alhs ≡ length records = ap length (sym h.kept) ∙ length-map records (λ (x : Record). x.alh) in
@@ -61,6 +62,7 @@ consistent-next hash records alhs bl bl_root r next h few is rises refer digest 
       last = ap (last_bl 0) more ∙ last-next 0 txs r.tx;
       linked = omega (arith, is.linked, length-append alhs (r.alh ∷ []));
       root_is = root ∙ sym (root-kept hash alhs r.alh r.tx.bl is.linked);
+      tree_is = subst (λ (l : List (List ℕ)). IsFrontier hash l grown) (sym (take-append-le r.tx.bl alhs (r.alh ∷ []) is.linked)) whole;
       alhs_are =
           ap (λ (x : List ℕ). alhs ++ x ∷ []) digest
           ∙ ap (λ (l : List (List ℕ)). l ++ alh hash (next_header hash l r.tx) ∷ []) h.alhs_are
@@ -71,13 +73,14 @@ consistent-next hash records alhs bl bl_root r next h few is rises refer digest 
     }
 
 -- no records
-pub consistent-first : (hash : Hash) → IsConsistent hash [] [] 0 no_digest
-consistent-first hash = record {
+pub consistent-first : (hash : Hash) (tree : Kept) → IsFrontier hash [] tree → IsConsistent hash [] [] 0 no_digest tree
+consistent-first hash tree whole = record {
   few = omega arith;
   follow = tt;
   last = refl;
   linked = omega arith;
   root_is = refl;
+  tree_is = whole;
   alhs_are = refl;
   kept = refl;
   refer = tt;
@@ -106,15 +109,10 @@ are-records hash history before (r ∷ rs) is h =
     (record { refs = h.0; alh = sym (alh-at hash history before (map (λ r. r.alh) rs) r.alh is) }, subst Q grown more)
 
 -- consistent records are those of a history
-pub consistent-records : (hash : Hash) (records : List Record) (alhs : List (List ℕ)) (bl : ℕ) (bl_root : List ℕ)
-    → IsConsistent hash records alhs bl bl_root → IsHistory (txs_of records) × AreRecords hash (txs_of records) 1 records
-consistent-records hash records alhs bl bl_root h =
+pub consistent-records : (hash : Hash) (records : List Record) (alhs : List (List ℕ)) (bl : ℕ) (bl_root : List ℕ) (tree : Kept)
+    → IsConsistent hash records alhs bl bl_root tree → IsHistory (txs_of records) × AreRecords hash (txs_of records) 1 records
+consistent-records hash records alhs bl bl_root tree h =
     let many : length alhs ≡ length records = ap length (sym h.kept) ∙ length-map records (λ (x : Record). x.alh) in
     let count : length (txs_of records) ≡ length records = length-map records (λ (x : Record). x.tx) in
     let few = h.few in
     (record { few = omega arith; follow = h.follow }, are-records hash (txs_of records) [] records (sym h.alhs_are ∙ sym h.kept) h.refer)
-
--- the root in a header
-pub root-next : (hash : Hash) (alhs : List (List ℕ)) (tx : Transaction) → (next_header hash alhs tx).bl_root ≡ bl_root_of hash alhs tx.bl
-unfolding next_header
-root-next hash alhs tx = refl

@@ -21,6 +21,7 @@ use im_clog::marks::{Mark, Uncounted, batch_at};
 use im_digest::{D32, Hash32};
 use im_disk::disk::{Disk, DiskError};
 use im_format::records::Record;
+use im_frontier::frontiers::Frontier;
 use std::alloc::Global;
 
 // The number of octets from a gate to the next one.
@@ -76,6 +77,7 @@ fn read_batches<D: Disk, H: Hash32>(
         alhs: Vec::new(alloc),
         bl: 0,
         bl_root: [0; 32],
+        tree: Frontier::new(),
         place: 0,
     };
     let mut gate = 0;

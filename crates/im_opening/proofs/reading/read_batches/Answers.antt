@@ -19,8 +19,8 @@ batches-init g c =
     let hash = g.H.Hash32.digest c.args.hash.now in
     let none = c.new.ensures.items in
     let no_alhs = c.new-2.ensures.items in
-    let A : List Record → Type 0 = λ rs. IsConsistent hash rs c.new-2.result.items 0 no_digest in
-    let B : List (List ℕ) → Type 0 = λ ds. IsConsistent hash [] ds 0 no_digest in
+    let A : List Record → Type 0 = λ rs. IsConsistent hash rs c.new-2.result.items 0 no_digest c.new-3.result in
+    let B : List (List ℕ) → Type 0 = λ ds. IsConsistent hash [] ds 0 no_digest c.new-3.result in
     record {
       told = refl;
       faults = refl;
@@ -28,7 +28,7 @@ batches-init g c =
       within = omega arith;
       few = omega arith;
       place = omega arith;
-      fits = subst A (sym none) (subst B (sym no_alhs) (consistent-first hash));
+      fits = subst A (sym none) (subst B (sym no_alhs) (consistent-first hash c.new-3.result (c.new-3.ensures.leaves hash)));
       left = λ t is.
           let X : List Record → Type 0 = λ rs. BatchesLeft hash (seen t) 0 0 rs (record { alhs = c.new-2.result.items; bl = 0; place = 0 }) in
           let Y : List (List ℕ) → Type 0 = λ ds. BatchesLeft hash (seen t) 0 0 [] (record { alhs = ds; bl = 0; place = 0 }) in

@@ -16,13 +16,13 @@ use Rattle.im_standing.proofs.StandsBack.{undamaged-stands}
 pub returns-clause-records : goal.returns-clause-records
 returns-clause-records g c =
     let p = c.in_ok-read.read.progress in
-    (consistent-records (g.H.Hash32.digest c.args.hash.now) p.records.items p.alhs.items p.bl p.bl_root c.in_ok-read.ensures.fits).1
+    (consistent-records (g.H.Hash32.digest c.args.hash.now) p.records.items p.alhs.items p.bl p.bl_root p.tree c.in_ok-read.ensures.fits).1
 
 pub returns-clause-ends : goal.returns-clause-ends
 returns-clause-ends g c =
     let hash = g.H.Hash32.digest c.args.hash.now in
     let p = c.in_ok-read.read.progress in
-    let low : (k : ℕ) → log_end k (refs_of p.records.items) ≤ 2 ^ 43 = λ k. low-ends hash k p.records.items p.alhs.items p.bl p.bl_root c.in_ok-read.ensures.fits in
+    let low : (k : ℕ) → log_end k (refs_of p.records.items) ≤ 2 ^ 43 = λ k. low-ends hash k p.records.items p.alhs.items p.bl p.bl_root p.tree c.in_ok-read.ensures.fits in
     let f : ℕ → List Record → ℕ = λ k l. log_end k (refs_of l) in
     record {
       few = c.in_ok-read.ensures.few;
