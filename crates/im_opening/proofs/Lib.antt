@@ -11,3 +11,6 @@ pub mod HistoryReads
 pub mod GateLemmas
 pub mod LeaveLemmas
 pub mod OpenLemmas
+pub mod PlaceLemmas
+pub mod BatchesSame
+pub mod KeptLemmas
