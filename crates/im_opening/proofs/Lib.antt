@@ -12,3 +12,6 @@ pub mod GateLemmas
 pub mod LeaveLemmas
 pub mod OpenLemmas
 pub mod TreeLemmas
+pub mod PlaceLemmas
+pub mod BatchesSame
+pub mod KeptLemmas

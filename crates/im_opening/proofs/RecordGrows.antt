@@ -1,7 +1,7 @@
 -- Records of a history, and one more.
-use Rattle.std.proofs.Common.{◌≡◌, ℕ, suc, ◌+◌, ◌-◌, ◌<◌, ◌≤◌, ◌==◌, List, [], ◌∷◌, ◌++◌, length, length-append, map, get_or, take, refl, ap, sym, ◌∙◌, subst, arith, append_assoc, ne_eqb, if◌then◌else◌}
+use Rattle.std.proofs.Common.{◌≡◌, ℕ, suc, ◌+◌, ◌-◌, ◌<◌, ◌≤◌, ◌==◌, List, [], ◌∷◌, ◌++◌, length, length-append, map, take, get_or, refl, ap, sym, ◌∙◌, subst, arith, append_assoc, ne_eqb, if◌then◌else◌}
 use Rattle.std.proofs.Math.Seq.{get_or-append_seam}
-use Rattle.std.proofs.lemmas.List.{append-nil, length-map, map-append, take-append-le}
+use Rattle.std.proofs.lemmas.List.{length-map, map-append, take-append-le}
 use Rattle.im_digest.specs.Digests.{Hash}
 use Rattle.im_format.specs.Records.{AreRecords, AreReferences}
 use Rattle.im_format.specs.declared.records.Record.{Record}
@@ -10,7 +10,8 @@ use Rattle.im_model.specs.Headers.{alh}
 use Rattle.im_model.specs.History.{Follow, IsHistory, IsTransaction, alh_of, alhs_from, alhs_of, bl_root_of, first_alh, next_header, no_digest}
 use Rattle.im_model.specs.Trees.{root}
 use Rattle.im_model.specs.declared.transactions.Transaction.{Transaction}
-use Rattle.im_opening.specs.Reach.{AreReferred, IsConsistent, last_bl, txs_of}
+use Rattle.im_model.specs.declared.headers.Header.{Header}
+use Rattle.im_opening.specs.Reach.{AreReferred, IsConsistent, headers_from, headers_of, last_bl, txs_of}
 
 follow-next : (n bl : ℕ) (txs : List Transaction) (tx : Transaction) → Follow n bl txs → IsTransaction (n + length txs) tx → last_bl bl txs ≤ tx.bl → Follow n bl (txs ++ tx ∷ [])
 follow-next n bl [] tx h is rises =
@@ -71,6 +72,23 @@ consistent-next hash records alhs bl bl_root tree r next grown h few is rises re
       kept = map-append (λ (x : Record). x.alh) records (r ∷ []) ∙ ap (λ (l : List (List ℕ)). l ++ r.alh ∷ []) h.kept;
       refer = referred-next hash 1 records r h.refer there;
     }
+
+headers-more : (hash : Hash) (alhs : List (List ℕ)) (txs : List Transaction) (tx : Transaction)
+    → headers_from hash alhs (txs ++ tx ∷ []) ≡ headers_from hash alhs txs ++ next_header hash (alhs_from hash alhs txs) tx ∷ []
+headers-more hash alhs [] tx = refl
+headers-more hash alhs (x ∷ txs) tx =
+    ap (λ (l : List Header). next_header hash alhs x ∷ l) (headers-more hash (alhs ++ alh hash (next_header hash alhs x) ∷ []) txs tx)
+
+-- one more header of the history
+pub headers-next : (hash : Hash) (records : List Record) (alhs : List (List ℕ)) (headers : List Header) (r : Record) (header : Header)
+    → alhs ≡ alhs_of hash (txs_of records) → headers ≡ headers_of hash (txs_of records) → header ≡ next_header hash alhs r.tx
+    → headers ++ header ∷ [] ≡ headers_of hash (txs_of (records ++ r ∷ []))
+headers-next hash records alhs headers r header digests are is =
+    let txs = txs_of records in
+    ap (λ (l : List Header). l ++ header ∷ []) are
+    ∙ ap (λ (h : Header). headers_of hash txs ++ h ∷ []) (is ∙ ap (λ (ds : List (List ℕ)). next_header hash ds r.tx) digests)
+    ∙ sym (headers-more hash [] txs r.tx)
+    ∙ ap (headers_of hash) (sym (map-append (λ (x : Record). x.tx) records (r ∷ [])))
 
 -- no records
 pub consistent-first : (hash : Hash) (tree : Kept) → IsFrontier hash [] tree → IsConsistent hash [] [] 0 no_digest tree

@@ -6,7 +6,7 @@ ghost use Rattle.im_model.specs.Entries.{entry_digest};
 ghost use Rattle.im_model.specs.History.{IsTransaction, bl_root_of, next_header};
 ghost use Rattle.im_opening.specs.Answers.{HasOpenCause, Judges};
 ghost use Rattle.im_opening.specs.Parts.{Shows};
-ghost use Rattle.im_opening.specs.Reach.{AreMore, Fits, IsOneMore, reached_of};
+ghost use Rattle.im_opening.specs.Reach.{AreMore, Fits, IsOneMore, IsWhole, reached_of};
 
 use crate::errors::OpenError;
 use crate::source::Source;
@@ -25,11 +25,12 @@ use im_octet::octets::Octets;
 use im_record::alhs::read_alh;
 use std::alloc::Global;
 
-/// How far the files were read: the records so far, their Alh, the size of the last one's tree, its root and its
-/// whole subtrees, and the place where the last one ends in the transaction log.
+/// How far the files were read: the records so far, their headers and their Alh, the size of the last one's tree,
+/// its root and its whole subtrees, and the place where the last one ends in the transaction log.
 #[derive(Drop)]
 pub(crate) struct Progress {
     pub records: Vec<Record>,
+    pub headers: Vec<Header>,
     pub alhs: Vec<D32>,
     pub bl: u64,
     pub bl_root: D32,
@@ -99,9 +100,11 @@ pub(crate) fn read_record<D: Disk, H: Hash32>(
     requires place { progress.old.place ≤ length source.now.log.now }
     requires few { length progress.old.alhs.items < 1048576 }
     requires fits { Fits (H.digest hash.now) progress.old }
+    requires whole { IsWhole (H.digest hash.now) progress.old }
     ensures within { OnOk result (progress.new.place ≤ length source.now.log.now) }
     ensures more { OnOk result (length progress.new.alhs.items ≡ length progress.old.alhs.items + 1) }
     ensures fits { OnOk result (Fits (H.digest hash.now) progress.new) }
+    ensures whole { OnOk result (IsWhole (H.digest hash.now) progress.new) }
     ensures read { (t : Told) → D.told disk.old ≡ Some t
         → OnOk result (IsOneMore (H.digest hash.now) (seen t) progress.old progress.new) }
     ensures first { (t : Told) → D.told disk.old ≡ Some t
@@ -132,6 +135,7 @@ pub(crate) fn read_record<D: Disk, H: Hash32>(
         refs,
         alh: digest,
     })?;
+    progress.headers.push(header)?;
     Ok(())
 }
 
@@ -148,9 +152,11 @@ pub(crate) fn read_records<D: Disk, H: Hash32>(
     requires place { progress.old.place ≤ length source.now.log.now }
     requires few { length progress.old.alhs.items + count ≤ 1048576 }
     requires fits { Fits (H.digest hash.now) progress.old }
+    requires whole { IsWhole (H.digest hash.now) progress.old }
     ensures within { OnOk result (progress.new.place ≤ length source.now.log.now) }
     ensures more { OnOk result (length progress.new.alhs.items ≡ length progress.old.alhs.items + count) }
     ensures fits { OnOk result (Fits (H.digest hash.now) progress.new) }
+    ensures whole { OnOk result (IsWhole (H.digest hash.now) progress.new) }
     ensures read { (t : Told) → D.told disk.old ≡ Some t
         → OnOk result (AreMore (H.digest hash.now) (seen t) count progress.old progress.new) }
     ensures first { (t : Told) → D.told disk.old ≡ Some t

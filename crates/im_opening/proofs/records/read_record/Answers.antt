@@ -1,20 +1,20 @@
-use Rattle.std.proofs.Common.{rules, arith, ◌≡◌, ◌+◌, ◌-◌, ◌<◌, ◌≤◌, ◌∷◌, ◌++◌, [], ℕ, List, length, map, take, refl, sym, ◌∙◌, ap, subst, Ok}
-use Rattle.im_disk.specs.Disk.{Told, seen}
-use Rattle.im_format.specs.Damages.{Reached}
-use Rattle.im_format.specs.Records.{AreReferences}
+use Rattle.std.proofs.Common.{arith, ◌≡◌, ◌+◌, ◌-◌, ◌∷◌, ◌++◌, [], ℕ, List, length, take, sym, ◌∙◌, ap, subst, Ok}
+use Rattle.im_disk.specs.Disk.{seen}
+use Rattle.im_format.specs.Records.{AreReferences, entries_octets, records_octets}
 use Rattle.im_format.specs.declared.records.Record.{Record}
 use Rattle.im_format.specs.declared.references.ValueRef.{ValueRef}
 use Rattle.im_frontier.specs.Kept.{IsFrontier}
-use Rattle.im_model.specs.Headers.{alh}
+use Rattle.im_model.specs.Headers.{alh, alh_string}
 use Rattle.im_model.specs.History.{IsTransaction, bl_root_of}
 use Rattle.im_mtree.specs.Checks.{first_fail}
-use Rattle.im_opening.specs.Answers.{Judges, Tells}
+use Rattle.im_opening.specs.Answers.{Tells}
 use Rattle.im_opening.specs.Parts.{Shows, transaction_checks}
-use Rattle.im_opening.specs.Reach.{IsConsistent, reached_of}
+use Rattle.im_opening.specs.Reach.{IsConsistent, headers_of, reached_of, txs_of}
 use Rattle.im_opening.specs.declared.errors.OpenError.TheVariants.{Damaged}
 use Rattle.im_opening.proofs.Finding.{at-told, judge-err}
 use Rattle.im_opening.proofs.RecordFinds.{digest-made, record-finds, record-tells}
-use Rattle.im_opening.proofs.RecordGrows.{consistent-next}
+use Rattle.im_opening.proofs.PlaceLemmas.{place-next}
+use Rattle.im_opening.proofs.RecordGrows.{consistent-next, headers-next}
 use Rattle.im_opening.proofs.TreeLemmas.{tree-size}
 use Rattle.im_opening.proofs.records.read_record.Goals as goal
 
@@ -102,4 +102,27 @@ grow-bl_root-requires g c =
       root = here.1;
       rises = omega (arith, same, c.in_ok-read.ensures.rises);
       linked = omega (arith, long, count, c.in_ok-read.ensures.is.linked);
+    }
+
+pub returns-clause-whole : goal.returns-clause-whole
+returns-clause-whole g c =
+    let hash = g.H.Hash32.digest c.args.hash.now in
+    let p = c.args.progress.now in
+    let read = c.in_ok-read.read in
+    let header = c.next_header-header.result in
+    let digest = c.alh-digest.result in
+    let r : Record = record { tx = read.tx; refs = c.from_vec-refs.result; alh = digest } in
+    let size : length digest ≡ 32 = ap length c.alh-digest.ensures ∙ g.met.H.Hash32.size c.args.hash.now (alh_string hash header) in
+    let R : List ValueRef → Type 0 = λ rs. read.end ≡ p.place + 28 + length (entries_octets read.tx.entries rs) in
+    let end : R r.refs = subst R (sym c.from_vec-refs.ensures) c.in_ok-read.ensures.whole in
+    let X : List Record → Type 0 = λ rs. c.in_ok-place.place ≡ length (records_octets 1 rs) in
+    record {
+      place_is =
+          subst X (sym c.in_ok-push-2.ensures.items)
+          (place-next p.place read.end c.in_ok-place.place p.records.items r c.requires.whole.place_is end size c.in_ok-place.ensures.end);
+      headers_are =
+          c.in_ok-push-3.ensures.items
+          ∙ headers-next hash p.records.items p.alhs.items p.headers.items r header c.requires.fits.alhs_are c.requires.whole.headers_are
+          c.next_header-header.ensures
+          ∙ ap (λ (rs : List Record). headers_of hash (txs_of rs)) (sym c.in_ok-push-2.ensures.items);
     }
