@@ -1,11 +1,10 @@
 -- The checks of a batch as those of its parts.
-use Rattle.std.proofs.Common.{◌≡◌, ℕ, ◌+◌, List, [], ◌∷◌, ◌++◌, length, refl, ap, sym, ◌∙◌, subst, Ok}
+use Rattle.std.proofs.Common.{◌≡◌, ℕ, List, ◌++◌, length, ap, sym, ◌∙◌, subst, Ok}
 use Rattle.im_clog.specs.Marks.{mark_at}
 use Rattle.im_clog.specs.declared.marks.Mark.{Mark}
 use Rattle.im_digest.specs.Digests.{Hash}
 use Rattle.im_disk.specs.Disk.{Files}
 use Rattle.im_format.specs.Damages.{Reached, batch_checks, behind, records_checks}
-use Rattle.im_format.specs.Reading.{number_at}
 use Rattle.im_format.specs.declared.damages.Damage.{Damage}
 use Rattle.im_mtree.specs.Checks.{Check, first_fail}
 use Rattle.im_opening.specs.Answers.{Tells}

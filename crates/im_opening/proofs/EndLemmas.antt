@@ -1,11 +1,12 @@
 -- Where value logs end.
-use Rattle.std.proofs.Common.{◌≡◌, ℕ, ◌+◌, ◌*◌, ◌^◌, ◌<◌, ◌≤◌, ◌==◌, suc, List, [], ◌∷◌, ◌++◌, length, refl, sym, ◌∙◌, ap, subst, arith, max, Bool, true, false, if◌then◌else◌}
+use Rattle.std.proofs.Common.{◌≡◌, ℕ, ◌+◌, ◌*◌, ◌^◌, ◌≤◌, ◌==◌, List, [], ◌∷◌, ◌++◌, length, sym, ◌∙◌, ap, arith, max, Bool, true, false, if◌then◌else◌}
 use Rattle.std.proofs.lemmas.List.{length-map}
 use Rattle.im_digest.specs.Digests.{Hash}
 use Rattle.im_format.specs.Places.{log_end, refs_of}
-use Rattle.im_format.specs.Records.{AreReferences, IsReference}
+use Rattle.im_format.specs.Records.{AreReferences}
 use Rattle.im_format.specs.declared.records.Record.{Record}
 use Rattle.im_format.specs.declared.references.ValueRef.{ValueRef}
+use Rattle.im_frontier.specs.Kept.{Kept}
 use Rattle.im_model.specs.declared.entries.Entry.{Entry}
 use Rattle.im_opening.specs.Reach.{AreReferred, IsConsistent}
 
@@ -40,9 +41,9 @@ low-records hash id number n (r ∷ records) h le =
     omega (arith, log_end_append number r.refs (refs_of records))
 
 -- so no log ends far out
-pub low-ends : (hash : Hash) (number : ℕ) (records : List Record) (alhs : List (List ℕ)) (bl : ℕ) (bl_root : List ℕ)
-    → IsConsistent hash records alhs bl bl_root → log_end number (refs_of records) ≤ 2 ^ 43
-low-ends hash number records alhs bl bl_root h =
+pub low-ends : (hash : Hash) (number : ℕ) (records : List Record) (alhs : List (List ℕ)) (bl : ℕ) (bl_root : List ℕ) (tree : Kept)
+    → IsConsistent hash records alhs bl bl_root tree → log_end number (refs_of records) ≤ 2 ^ 43
+low-ends hash number records alhs bl bl_root tree h =
     let many : length alhs ≡ length records = ap length (sym h.kept) ∙ length-map records (λ (x : Record). x.alh) in
     let few = h.few in
     low-records hash 1 number (2 ^ 43) records h.refer (omega arith)

@@ -1,5 +1,5 @@
 -- The first check that fails, of lists that are put together.
-use Rattle.std.proofs.Common.{◌≡◌, ℕ, List, [], ◌∷◌, ◌++◌, refl, ap, sym, ◌∙◌, subst, append_assoc, Bool, true, false, if◌then◌else◌, Result, Ok, Err, Option, Some, None}
+use Rattle.std.proofs.Common.{◌≡◌, ℕ, List, [], ◌∷◌, ◌++◌, refl, ap, sym, ◌∙◌, subst, false, if◌then◌else◌, Result, Ok, Err, Option, Some, None}
 use Rattle.std.specs.Prelude.{IfSome, IsErrAnd}
 use Rattle.im_disk.specs.Disk.{Told}
 use Rattle.im_mtree.specs.Checks.{Check, first_fail}

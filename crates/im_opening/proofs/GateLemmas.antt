@@ -1,13 +1,13 @@
 -- What a write of the gate behind the batches leaves standing.
-use Rattle.std.proofs.Common.{◌≡◌, ℕ, suc, zero, ◌+◌, ◌*◌, ◌<◌, ◌≤◌, ◌≢◌, List, [], ◌∷◌, ◌++◌, length, get_or, get_or-take, take, drop, drop-cons, refl, ap, sym, ◌∙◌, subst, arith, inl, inr, All}
+use Rattle.std.proofs.Common.{◌≡◌, ℕ, suc, zero, ◌+◌, ◌*◌, ◌<◌, ◌≤◌, ◌≢◌, List, [], ◌∷◌, ◌++◌, length, get_or, get_or-take, take, drop, drop-cons, ap, sym, ◌∙◌, subst, arith, inl, inr, All}
 use Rattle.std.proofs.lemmas.List.Elements.{All-append, All-cons, All-nil, All-weaker}
 use Rattle.im_digest.specs.Digests.{Hash}
-use Rattle.im_disk.specs.Disk.{Files, Told, TornFile, Torn}
+use Rattle.im_disk.specs.Disk.{Files, TornFile}
 use Rattle.im_format.specs.Batches.{Counts, batch_fields, batch_spans, entries_spans, gate_of, joined, spans_from, spans_of, value_span, values_spans}
 use Rattle.im_format.specs.Places.{refs_of}
 use Rattle.im_format.specs.Records.{records_octets}
-use Rattle.im_format.specs.Spans.{Misses, Reads, octet_span}
-use Rattle.im_format.specs.Standing.{HasBatches, LiesIn, Stands}
+use Rattle.im_format.specs.Spans.{Misses, octet_span}
+use Rattle.im_format.specs.Standing.{LiesIn, Stands}
 use Rattle.im_format.specs.declared.records.Record.{Record}
 use Rattle.im_format.specs.declared.references.ValueRef.{ValueRef}
 use Rattle.im_format.specs.declared.spans.Span.{Span}
@@ -70,7 +70,7 @@ module _ (gate : ℕ) where
       (record { apart = λ e. inl (omega (arith, le, length-fields id (length batch) (end + length octets))) })
       (All-cons (Misses 1 gate 1) of_records (values_spans batch) (elsewhere of_records (λ same. omega (arith, same))) (values-miss batch)))
 
-  spans-miss : (g id end : ℕ) (batches : List (List Record)) → g + 25 * length batches ≤ gate → All (Misses 1 gate 1) (spans_from g id end batches)
+  pub spans-miss : (g id end : ℕ) (batches : List (List Record)) → g + 25 * length batches ≤ gate → All (Misses 1 gate 1) (spans_from g id end batches)
   spans-miss g id end [] le = All-nil (Misses 1 gate 1)
   spans-miss g id end (batch ∷ batches) le =
       All-append (Misses 1 gate 1) (batch_spans g id end batch)

@@ -1,8 +1,8 @@
 -- What calls that follow each other leave.
-use Rattle.std.proofs.Common.{◌≡◌, ℕ, subst, inl, inr, ⊎_elim, Option, Some, None}
+use Rattle.std.proofs.Common.{subst, inr, ⊎_elim, Option, Some, None}
 use Rattle.std.specs.Prelude.{IfSome}
-use Rattle.im_disk.specs.Disk.{Files, Told, Images}
-use Rattle.im_disk.specs.Moments.{Adds, Leaves, LeavesNow, LeavesOnly}
+use Rattle.im_disk.specs.Disk.{Files, Told}
+use Rattle.im_disk.specs.Moments.{Adds, Leaves}
 
 pub leave-both : (P : Files → Type 0) (a b c : Option Told) → Leaves P a b → Leaves P b c → Leaves P a c
 leave-both P a b None x y = (tt, tt)

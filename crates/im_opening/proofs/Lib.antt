@@ -11,3 +11,7 @@ pub mod HistoryReads
 pub mod GateLemmas
 pub mod LeaveLemmas
 pub mod OpenLemmas
+pub mod TreeLemmas
+pub mod PlaceLemmas
+pub mod BatchesSame
+pub mod KeptLemmas

@@ -1,6 +1,6 @@
 -- What opening leaves at every moment.
-use Rattle.std.proofs.Common.{◌≡◌, ◌⊎◌, ℕ, List, refl, sym, ◌∙◌, ap, subst, inl, inr, Option, Some, None, Result, Ok, Err}
-use Rattle.std.specs.Prelude.{IfSome, OnOk, IsErrOf}
+use Rattle.std.proofs.Common.{◌≡◌, List, refl, sym, ◌∙◌, ap, subst, inl, inr, Option, Some, Result, Ok, Err}
+use Rattle.std.specs.Prelude.{OnErr, IsErrOf}
 use Rattle.std.specs.Option.{option_map}
 use Rattle.im_digest.specs.Digests.{Hash}
 use Rattle.im_disk.specs.Disk.{Files, Told, Images, after, seen}
@@ -12,7 +12,7 @@ use Rattle.im_disk.proofs.Leaving.{leaves_nothing}
 use Rattle.im_format.specs.Reading.{history_in}
 use Rattle.im_format.specs.Standing.{Stands}
 use Rattle.im_model.specs.declared.transactions.Transaction.{Transaction}
-use Rattle.im_opening.specs.Cut.{WasOpened}
+use Rattle.im_opening.specs.Cut.{WasLeft, WasOpened}
 use Rattle.im_opening.proofs.GateLemmas.{stands-same}
 
 -- what was told before a sync is told behind it
@@ -25,6 +25,17 @@ pub failed-opened : (hash : Hash) (history : List Transaction) (t : Told) (o n :
     → WasOpened hash history t n
 failed-opened hash history t o n Failed at h = inr (inl (h.0 refl ∙ ap (λ (x : Option Told). option_map (after Missed) x) at))
 failed-opened hash history t o n Memory at h = inl (h.1 refl ∙ at)
+
+pub failed-left : (hash : Hash) (t : Told) (o n : Option Told) (e : DiskError) → o ≡ Some t
+    → (let r : Result (Unit {0}) DiskError = Err e in (IsErrOf r Failed → n ≡ option_map (after Missed) o) × (IsErrOf r Memory → n ≡ o))
+    → WasLeft hash t n
+failed-left hash t o n Failed at h = inr (inl (h.0 refl ∙ ap (λ (x : Option Told). option_map (after Missed) x) at))
+failed-left hash t o n Memory at h = inl (h.1 refl ∙ at)
+
+-- what holds whatever the answer, holds where it is an error
+pub on-err : {T E : Type 0} (P : Type 0) (r : Result T E) → P → OnErr r P
+on-err P (Ok x) h = tt
+on-err P (Err e) h = h
 
 -- where nothing was written behind the sync
 pub rest-leaves : (hash : Hash) (history : List Transaction) (t : Told) (n : Option Told) → Stands hash (seen t) history → n ≡ Some (after Synced t)

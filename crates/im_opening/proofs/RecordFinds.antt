@@ -1,5 +1,5 @@
 -- The checks of a record as those of its parts.
-use Rattle.std.proofs.Common.{◌≡◌, ℕ, ◌+◌, List, [], ◌∷◌, ◌++◌, length, refl, ap, sym, ◌∙◌, subst, append_assoc, Ok}
+use Rattle.std.proofs.Common.{◌≡◌, ℕ, ◌+◌, List, [], ◌++◌, ap, sym, ◌∙◌, subst, append_assoc, Ok}
 use Rattle.im_digest.specs.Digests.{Hash}
 use Rattle.im_disk.specs.Disk.{Files}
 use Rattle.im_format.specs.Damages.{Reached, alh_checks, head_checks, next_alh, next_id, record_checks, slots_checks}
@@ -13,8 +13,7 @@ use Rattle.im_mtree.specs.Checks.{Check, first_fail}
 use Rattle.im_opening.specs.Answers.{Tells}
 use Rattle.im_opening.specs.Parts.{transaction_checks}
 use Rattle.im_opening.specs.declared.errors.OpenError.{OpenError}
-use Rattle.im_opening.specs.declared.errors.OpenError.TheVariants.{Damaged}
-use Rattle.im_opening.proofs.Finding.{find-behind, tells-behind, tells-first}
+use Rattle.im_opening.proofs.Finding.{find-behind, tells-first}
 
 -- the Alh that was computed and its place
 pub record IsDigest (hash : Hash) (image : Files) (r : Reached) (log : List ℕ) (end : ℕ) (digest : List ℕ) : Type 0 where

@@ -1,15 +1,17 @@
 -- Records of a history, and one more.
-use Rattle.std.proofs.Common.{◌≡◌, ℕ, suc, ◌+◌, ◌-◌, ◌<◌, ◌≤◌, ◌==◌, List, [], ◌∷◌, ◌++◌, length, length-append, map, get_or, take, refl, ap, sym, ◌∙◌, subst, arith, append_assoc, ne_eqb, if◌then◌else◌}
+use Rattle.std.proofs.Common.{◌≡◌, ℕ, suc, ◌+◌, ◌-◌, ◌<◌, ◌≤◌, ◌==◌, List, [], ◌∷◌, ◌++◌, length, length-append, map, take, get_or, refl, ap, sym, ◌∙◌, subst, arith, append_assoc, ne_eqb, if◌then◌else◌}
 use Rattle.std.proofs.Math.Seq.{get_or-append_seam}
-use Rattle.std.proofs.lemmas.List.{append-nil, length-map, map-append, take-append-le}
+use Rattle.std.proofs.lemmas.List.{length-map, map-append, take-append-le}
 use Rattle.im_digest.specs.Digests.{Hash}
 use Rattle.im_format.specs.Records.{AreRecords, AreReferences}
 use Rattle.im_format.specs.declared.records.Record.{Record}
+use Rattle.im_frontier.specs.Kept.{Kept, IsFrontier}
 use Rattle.im_model.specs.Headers.{alh}
 use Rattle.im_model.specs.History.{Follow, IsHistory, IsTransaction, alh_of, alhs_from, alhs_of, bl_root_of, first_alh, next_header, no_digest}
 use Rattle.im_model.specs.Trees.{root}
 use Rattle.im_model.specs.declared.transactions.Transaction.{Transaction}
-use Rattle.im_opening.specs.Reach.{AreReferred, IsConsistent, last_bl, txs_of}
+use Rattle.im_model.specs.declared.headers.Header.{Header}
+use Rattle.im_opening.specs.Reach.{AreReferred, IsConsistent, headers_from, headers_of, last_bl, txs_of}
 
 follow-next : (n bl : ℕ) (txs : List Transaction) (tx : Transaction) → Follow n bl txs → IsTransaction (n + length txs) tx → last_bl bl txs ≤ tx.bl → Follow n bl (txs ++ tx ∷ [])
 follow-next n bl [] tx h is rises =
@@ -41,12 +43,12 @@ root-kept : (hash : Hash) (alhs : List (List ℕ)) (x : List ℕ) (bl : ℕ) →
 root-kept hash alhs x bl le = ap (λ (l : List (List ℕ)). if bl == 0 then no_digest else root hash l) (take-append-le bl alhs (x ∷ []) le)
 
 -- one more record of the history
-pub consistent-next : (hash : Hash) (records : List Record) (alhs : List (List ℕ)) (bl : ℕ) (bl_root : List ℕ) (r : Record) (next : List ℕ)
-    → IsConsistent hash records alhs bl bl_root → length alhs < 1048576 → IsTransaction (length alhs) r.tx → bl ≤ r.tx.bl
+pub consistent-next : (hash : Hash) (records : List Record) (alhs : List (List ℕ)) (bl : ℕ) (bl_root : List ℕ) (tree : Kept) (r : Record) (next : List ℕ) (grown : Kept)
+    → IsConsistent hash records alhs bl bl_root tree → length alhs < 1048576 → IsTransaction (length alhs) r.tx → bl ≤ r.tx.bl
     → AreReferences hash (length alhs + 1) r.tx.entries r.refs → r.alh ≡ alh hash (next_header hash alhs r.tx)
-    → next ≡ bl_root_of hash alhs r.tx.bl
-    → IsConsistent hash (records ++ r ∷ []) (alhs ++ r.alh ∷ []) r.tx.bl next
-consistent-next hash records alhs bl bl_root r next h few is rises refer digest root =
+    → next ≡ bl_root_of hash alhs r.tx.bl → IsFrontier hash (take r.tx.bl alhs) grown
+    → IsConsistent hash (records ++ r ∷ []) (alhs ++ r.alh ∷ []) r.tx.bl next grown
+consistent-next hash records alhs bl bl_root tree r next grown h few is rises refer digest root whole =
     let txs = txs_of records in
     let more : txs_of (records ++ r ∷ []) ≡ txs ++ r.tx ∷ [] = map-append (λ (x : Record). x.tx) records (r ∷ []) in
     let many : length alhs ≡ length records = ap length (sym h.kept) ∙ length-map records (λ (x : Record). x.alh) in
@@ -61,6 +63,7 @@ consistent-next hash records alhs bl bl_root r next h few is rises refer digest 
       last = ap (last_bl 0) more ∙ last-next 0 txs r.tx;
       linked = omega (arith, is.linked, length-append alhs (r.alh ∷ []));
       root_is = root ∙ sym (root-kept hash alhs r.alh r.tx.bl is.linked);
+      tree_is = subst (λ (l : List (List ℕ)). IsFrontier hash l grown) (sym (take-append-le r.tx.bl alhs (r.alh ∷ []) is.linked)) whole;
       alhs_are =
           ap (λ (x : List ℕ). alhs ++ x ∷ []) digest
           ∙ ap (λ (l : List (List ℕ)). l ++ alh hash (next_header hash l r.tx) ∷ []) h.alhs_are
@@ -70,14 +73,32 @@ consistent-next hash records alhs bl bl_root r next h few is rises refer digest 
       refer = referred-next hash 1 records r h.refer there;
     }
 
+headers-more : (hash : Hash) (alhs : List (List ℕ)) (txs : List Transaction) (tx : Transaction)
+    → headers_from hash alhs (txs ++ tx ∷ []) ≡ headers_from hash alhs txs ++ next_header hash (alhs_from hash alhs txs) tx ∷ []
+headers-more hash alhs [] tx = refl
+headers-more hash alhs (x ∷ txs) tx =
+    ap (λ (l : List Header). next_header hash alhs x ∷ l) (headers-more hash (alhs ++ alh hash (next_header hash alhs x) ∷ []) txs tx)
+
+-- one more header of the history
+pub headers-next : (hash : Hash) (records : List Record) (alhs : List (List ℕ)) (headers : List Header) (r : Record) (header : Header)
+    → alhs ≡ alhs_of hash (txs_of records) → headers ≡ headers_of hash (txs_of records) → header ≡ next_header hash alhs r.tx
+    → headers ++ header ∷ [] ≡ headers_of hash (txs_of (records ++ r ∷ []))
+headers-next hash records alhs headers r header digests are is =
+    let txs = txs_of records in
+    ap (λ (l : List Header). l ++ header ∷ []) are
+    ∙ ap (λ (h : Header). headers_of hash txs ++ h ∷ []) (is ∙ ap (λ (ds : List (List ℕ)). next_header hash ds r.tx) digests)
+    ∙ sym (headers-more hash [] txs r.tx)
+    ∙ ap (headers_of hash) (sym (map-append (λ (x : Record). x.tx) records (r ∷ [])))
+
 -- no records
-pub consistent-first : (hash : Hash) → IsConsistent hash [] [] 0 no_digest
-consistent-first hash = record {
+pub consistent-first : (hash : Hash) (tree : Kept) → IsFrontier hash [] tree → IsConsistent hash [] [] 0 no_digest tree
+consistent-first hash tree whole = record {
   few = omega arith;
   follow = tt;
   last = refl;
   linked = omega arith;
   root_is = refl;
+  tree_is = whole;
   alhs_are = refl;
   kept = refl;
   refer = tt;
@@ -106,15 +127,10 @@ are-records hash history before (r ∷ rs) is h =
     (record { refs = h.0; alh = sym (alh-at hash history before (map (λ r. r.alh) rs) r.alh is) }, subst Q grown more)
 
 -- consistent records are those of a history
-pub consistent-records : (hash : Hash) (records : List Record) (alhs : List (List ℕ)) (bl : ℕ) (bl_root : List ℕ)
-    → IsConsistent hash records alhs bl bl_root → IsHistory (txs_of records) × AreRecords hash (txs_of records) 1 records
-consistent-records hash records alhs bl bl_root h =
+pub consistent-records : (hash : Hash) (records : List Record) (alhs : List (List ℕ)) (bl : ℕ) (bl_root : List ℕ) (tree : Kept)
+    → IsConsistent hash records alhs bl bl_root tree → IsHistory (txs_of records) × AreRecords hash (txs_of records) 1 records
+consistent-records hash records alhs bl bl_root tree h =
     let many : length alhs ≡ length records = ap length (sym h.kept) ∙ length-map records (λ (x : Record). x.alh) in
     let count : length (txs_of records) ≡ length records = length-map records (λ (x : Record). x.tx) in
     let few = h.few in
     (record { few = omega arith; follow = h.follow }, are-records hash (txs_of records) [] records (sym h.alhs_are ∙ sym h.kept) h.refer)
-
--- the root in a header
-pub root-next : (hash : Hash) (alhs : List (List ℕ)) (tx : Transaction) → (next_header hash alhs tx).bl_root ≡ bl_root_of hash alhs tx.bl
-unfolding next_header
-root-next hash alhs tx = refl

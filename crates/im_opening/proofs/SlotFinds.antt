@@ -1,7 +1,6 @@
 -- The checks of an entry by the lengths of the value logs, and by the image.
-use Rattle.std.proofs.Common.{◌≡◌, ℕ, ◌+◌, ◌-◌, ◌*◌, ◌^◌, ◌≤◌, List, [], ◌∷◌, ◌++◌, length, get_or, refl, ap, sym, ◌∙◌, subst, arith, Bool, true, false, Result, Ok, Err, eqb-true, inl, inr, nat_le}
+use Rattle.std.proofs.Common.{◌≡◌, ℕ, ◌+◌, ◌-◌, ◌*◌, ◌^◌, ◌≤◌, List, [], ◌∷◌, ◌++◌, length, get_or, refl, ap, sym, ◌∙◌, subst, arith, Ok, Err, eqb-true, inl, inr, nat_le}
 use Rattle.std.proofs.lemmas.Bool.{cases_Bool, leb-true}
-use Rattle.std.specs.Prelude.{nat_eq}
 use Rattle.im_disk.specs.Disk.{Files}
 use Rattle.im_format.specs.Damages.{index_of, numbers, reaches, slot_checks, slot_key_checks, slot_md_checks, slot_ref_checks, value_check}
 use Rattle.im_format.specs.Reading.{Slot, slot_at}
@@ -17,7 +16,7 @@ use Rattle.im_opening.specs.declared.errors.OpenError.{OpenError}
 use Rattle.im_opening.specs.declared.errors.OpenError.TheVariants as Open
 use Rattle.im_format.specs.declared.references.ValueRef.{ValueRef}
 use Rattle.im_digest.specs.Digests.{Hash}
-use Rattle.im_standing.proofs.PassLemmas.{AllPass, all-pass, pass-left, pass-right}
+use Rattle.im_standing.proofs.PassLemmas.{all-pass, pass-left, pass-right}
 use Rattle.im_opening.proofs.Finding.{find-behind, find-first, find-same, find-stop}
 
 -- the checks of a reference before that of its log

@@ -1,13 +1,17 @@
 -- A commit log that ends before the gate behind a batch that doesn't count.
-use Rattle.std.specs.Prelude.{◌≡◌, ◌≢◌, ◌⊎◌, ◌≤◌, ◌+◌, ℕ, List, length, Option, Some}
+use Rattle.std.specs.Prelude.{◌≡◌, ◌≢◌, ◌⊎◌, ◌≤◌, ◌+◌, ℕ, List, [], ◌∷◌, length, slice_index_or, All, Option, Some}
+use Rattle.im_clog.specs.declared.marks.Uncounted.{Uncounted}
+use Rattle.im_clog.specs.declared.marks.Uncounted.TheVariants.{Missing, Closed, Short}
 use Rattle.im_digest.specs.Digests.{Hash}
-use Rattle.im_disk.specs.Disk.{Files, Told, after}
+use Rattle.im_disk.specs.Disk.{Files, Images, Told, after, seen}
 use Rattle.im_disk.specs.Moments.{Leaves}
-use Rattle.im_disk.specs.declared.calls.Call.TheVariants.{Synced, Missed}
-use Rattle.im_format.specs.Batches.{gate_of}
+use Rattle.im_disk.specs.declared.calls.Call.TheVariants.{Wrote, Synced, Missed}
+use Rattle.im_format.specs.Batches.{gate_of, spans_of}
 use Rattle.im_format.specs.Spans.{Reads, octet_span}
 use Rattle.im_format.specs.Standing.{Stands}
+use Rattle.im_format.specs.declared.records.Record.{Record}
 use Rattle.im_model.specs.declared.transactions.Transaction.{Transaction}
+use Rattle.im_opening.specs.declared.reading.Opened.{Opened}
 
 -- the image stands for this history, the gate behind its batches is here, and the commit log has no octet at
 -- the gate behind that one
@@ -27,3 +31,36 @@ pub record IsShut (image : Files) (gate : ℕ) : Type 0 where
   pub octet : ℕ
   pub closed : octet ≢ 1
   pub reads : Reads image (octet_span 1 gate octet)
+
+-- the gate was closed by one write, and then that was made durable
+abbrev pub shut_at : ℕ → Told → Told
+shut_at gate t = after Synced (after (Wrote 1 gate (0 ∷ [])) t)
+
+-- what a repair of the gate does, by why no batch counts at it: nothing where it is closed; else it is closed
+abbrev pub repaired : Uncounted → ℕ → Told → Told
+repaired Missing gate t = shut_at gate t
+repaired (Closed octet) gate t = t
+repaired (Short len) gate t = shut_at gate t
+
+-- what opening a disk does: a sync, and the repair of the gate behind the batches that count
+abbrev pub opened_by : Opened → Told → Told
+opened_by opened t = repaired opened.behind (gate_of opened.batches) (after Synced t)
+
+-- the image has all that stands of these batches, and a closed gate behind them, and no file of it is shorter than
+-- its end
+pub record IsHeld (batches : List (List Record)) (ends : List ℕ) (image : Files) : Type 0 where
+  pub reads : All (Reads image) (spans_of batches)
+  pub long : (file : ℕ) → slice_index_or ends file 0 ≤ length (image file)
+  pub shut : IsShut image (gate_of (length batches))
+
+-- and so has each image that a crash may leave, and what reads give
+pub record IsKept (batches : List (List Record)) (ends : List ℕ) (t : Told) : Type 0 where
+  pub each : (image : Files) → Images t image → IsHeld batches ends image
+  pub here : IsHeld batches ends (seen t)
+
+-- what opening a disk has done that wasn't opened, whatever its files: nothing; a sync that failed; one sync; or, where
+-- what reads gave stands for a history, at every moment behind a sync each image stands for it
+abbrev pub WasLeft : Hash → Told → Option Told → Type 0
+WasLeft hash t now =
+    (now ≡ Some t) ⊎ ((now ≡ Some (after Missed t)) ⊎ ((now ≡ Some (after Synced t))
+    ⊎ ((history : List Transaction) × Stands hash (seen t) history × Leaves (λ image. Stands hash image history) (Some (after Synced t)) now)))

@@ -5,7 +5,6 @@ use Rattle.im_digest.specs.Digests.{Hash}
 use Rattle.im_disk.specs.Disk.{Files}
 use Rattle.im_format.specs.Damages.{digests, from_one, head_checks, numbers, slot_checks, slots_checks, value_check}
 use Rattle.im_format.specs.Reading.{alh_place, count_at, counts, entry_in, number_at, record_end, records_end, slot_at, slots_at, slots_end, transaction_in, value_at}
-use Rattle.im_format.specs.Spans.{octets_at}
 use Rattle.im_format.specs.declared.damages.Damage.{Damage}
 use Rattle.im_format.specs.declared.records.Record.{Record}
 use Rattle.im_format.specs.declared.references.ValueRef.{ValueRef}

@@ -1,11 +1,14 @@
 -- How far the files were read, and what was read of them.
-use Rattle.std.specs.Prelude.{◌≡◌, ◌≤◌, ◌+◌, ℕ, List, [], ◌∷◌, ◌++◌, length, map}
+use Rattle.std.specs.Prelude.{◌≡◌, ◌≤◌, ◌+◌, ℕ, List, [], ◌∷◌, ◌++◌, length, map, take}
 use Rattle.im_digest.specs.Digests.{Hash}
 use Rattle.im_disk.specs.Disk.{Files}
 use Rattle.im_format.specs.Damages.{Reached, behind, behind_one}
-use Rattle.im_format.specs.Records.{AreReferences}
+use Rattle.im_format.specs.Records.{AreReferences, records_octets}
 use Rattle.im_format.specs.declared.records.Record.{Record}
-use Rattle.im_model.specs.History.{Follow, alhs_of, bl_root_of}
+use Rattle.im_frontier.specs.Kept.{Kept, IsFrontier}
+use Rattle.im_model.specs.Headers.{alh}
+use Rattle.im_model.specs.History.{Follow, alhs_of, bl_root_of, next_header}
+use Rattle.im_model.specs.declared.headers.Header.{Header}
 use Rattle.im_model.specs.declared.transactions.Transaction.{Transaction}
 use Rattle.im_record.specs.Back.{record_in}
 use Rattle.im_opening.specs.Parts.{records_in}
@@ -30,19 +33,35 @@ AreReferred hash id [] = Unit {0}
 AreReferred hash id (r ∷ rs) = AreReferences hash id r.tx.entries r.refs × AreReferred hash (id + 1) rs
 
 -- records of a history: their transactions follow each other, and their Alh are the history's; the last one's
--- tree has this size and this root
-pub record IsConsistent (hash : Hash) (records : List Record) (alhs : List (List ℕ)) (bl : ℕ) (bl_root : List ℕ) : Type 0 where
+-- tree has this size, this root and these whole subtrees
+pub record IsConsistent (hash : Hash) (records : List Record) (alhs : List (List ℕ)) (bl : ℕ) (bl_root : List ℕ) (tree : Kept) : Type 0 where
   pub few : length alhs ≤ 1048576
   pub follow : Follow 0 0 (txs_of records)
   pub last : last_bl 0 (txs_of records) ≡ bl
   pub linked : bl ≤ length alhs
   pub root_is : bl_root ≡ bl_root_of hash alhs bl
+  pub tree_is : IsFrontier hash (take bl alhs) tree
   pub alhs_are : alhs ≡ alhs_of hash (txs_of records)
   pub kept : map (λ r. r.alh) records ≡ alhs
   pub refer : AreReferred hash 1 records
 
 abbrev pub Fits : Hash → Progress → Type 0
-Fits hash p = IsConsistent hash p.records.items p.alhs.items p.bl p.bl_root
+Fits hash p = IsConsistent hash p.records.items p.alhs.items p.bl p.bl_root p.tree
+
+-- the headers of transactions that follow others with these Alh
+abbrev pub headers_from : Hash → List (List ℕ) → List Transaction → List Header
+headers_from hash alhs [] = []
+headers_from hash alhs (tx ∷ txs) =
+    next_header hash alhs tx ∷ headers_from hash (alhs ++ alh hash (next_header hash alhs tx) ∷ []) txs
+
+-- the header of each transaction of a history, in order
+abbrev pub headers_of : Hash → List Transaction → List Header
+headers_of hash history = headers_from hash [] history
+
+-- the records that were read end where their octets do, and each has its header
+pub record IsWhole (hash : Hash) (p : Progress) : Type 0 where
+  pub place_is : p.place ≡ length (records_octets 1 p.records.items)
+  pub headers_are : p.headers.items ≡ headers_of hash (txs_of p.records.items)
 
 -- one record more was read, as the image has it
 pub record IsOneMore (hash : Hash) (image : Files) (before now : Progress) : Type 0 where

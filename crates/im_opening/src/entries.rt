@@ -1,7 +1,7 @@
 ghost use Rattle.std.specs.Prelude.{◌≡◌, ◌≤◌, ◌<◌, ◌+◌, ◌^◌, ◌∷◌, ◌++◌, [], length, map, Some, IfOk, OnOk, IfSome, All, AllPairs, ◌≢◌};
 ghost use Rattle.im_disk.specs.Disk.{Told, seen};
 ghost use Rattle.im_format.specs.Damages.{index_of, slots_checks};
-ghost use Rattle.im_format.specs.Records.{AreReferences, IsReference};
+ghost use Rattle.im_format.specs.Records.{AreReferences, IsReference, entries_octets, entry_octets};
 ghost use Rattle.im_model.specs.Entries.{entry_digest};
 ghost use Rattle.im_model.specs.History.{IsEntry};
 ghost use Rattle.im_opening.specs.Answers.{HasOpenCause, Judges};
@@ -58,6 +58,7 @@ fn read_entry<'a, D: Disk, H: Hash32>(
     ensures digest { IfOk result (λ read. read.digest ≡ entry_digest (H.digest hash.now) read.entry) }
     ensures refers { IfOk result (λ read. IsReference (H.digest hash.now) id read.entry.value read.value) }
     ensures within { IfOk result (λ read. read.end ≤ length source.now.log.now) }
+    ensures whole { IfOk result (λ read. read.end ≡ at + length (entry_octets read.entry read.value)) }
     ensures keys { IfOk result (λ read. keys.new ≡ keys.old ++ read.entry.key ∷ []) }
     ensures fresh { IfOk result (λ read. index_of read.entry.key keys.old ≡ length keys.old) }
     ensures read { (t : Told) → D.told disk.old ≡ Some t
@@ -104,6 +105,7 @@ pub(crate) fn read_entries<D: Disk, H: Hash32>(
     ensures digests { IfOk result (λ read. read.digests.items ≡ map (entry_digest (H.digest hash.now)) read.entries.items) }
     ensures refer { IfOk result (λ read. AreReferences (H.digest hash.now) id read.entries.items read.refs.items) }
     ensures within { IfOk result (λ read. read.end ≤ length source.now.log.now) }
+    ensures whole { IfOk result (λ read. read.end ≡ at + length (entries_octets read.entries.items read.refs.items)) }
     ensures read { (t : Told) → D.told disk.old ≡ Some t
         → IfOk result (λ read. AreEntriesAt (seen t) at count read.entries.items read.refs.items read.end) }
     ensures first { (t : Told) → D.told disk.old ≡ Some t

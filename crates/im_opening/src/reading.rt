@@ -3,13 +3,13 @@ ghost use Rattle.im_clog.specs.Marks.{Lacks};
 ghost use Rattle.im_disk.specs.Disk.{Told, seen};
 ghost use Rattle.im_format.specs.Damages.{image_checks};
 ghost use Rattle.im_opening.specs.Answers.{HasOpenCause, Judges};
-ghost use Rattle.im_opening.specs.Opening.{AreBatches, HasEnds, IsRead};
+ghost use Rattle.im_opening.specs.Opening.{AreBatches, AreGrouped, HasEnds, IsRead, IsThere, ends_behind};
 ghost use Rattle.im_disk.specs.Causes.{HasCause};
 ghost use Rattle.im_format.specs.Records.{AreRecords};
 ghost use Rattle.im_model.specs.History.{IsHistory};
 ghost use Rattle.im_record.specs.Slots.{HaveLengths};
 ghost use Rattle.im_opening.specs.Parts.{Shows};
-ghost use Rattle.im_opening.specs.Reach.{Fits, txs_of};
+ghost use Rattle.im_opening.specs.Reach.{Fits, IsWhole, headers_of, txs_of};
 
 use crate::batches::read_batch;
 use crate::ends::end_of;
@@ -21,6 +21,8 @@ use im_clog::marks::{Mark, Uncounted, batch_at};
 use im_digest::{D32, Hash32};
 use im_disk::disk::{Disk, DiskError};
 use im_format::records::Record;
+use im_frontier::frontiers::Frontier;
+use im_model::headers::Header;
 use std::alloc::Global;
 
 // The number of octets from a gate to the next one.
@@ -30,6 +32,8 @@ const BATCH: usize = 25;
 #[derive(Drop)]
 pub struct Opened {
     pub records: Vec<Record>,
+    /// The header of each record's transaction.
+    pub headers: Vec<Header>,
     /// The number of batches that count.
     pub batches: u64,
     /// Where the files end: the transaction log, the commit log at the gate behind the batches that count, and
@@ -59,6 +63,8 @@ fn read_batches<D: Disk, H: Hash32>(
     requires shows { IfSome (D.told disk.old) (λ t. Shows (seen t) source.now.log.now source.now.lens) }
     requires commits { IfSome (D.told disk.old) (λ t. commits.now ≡ seen t 1) }
     ensures fits { IfOk result (λ read. Fits (H.digest hash.now) read.progress) }
+    ensures whole { IfOk result (λ read. IsWhole (H.digest hash.now) read.progress) }
+    ensures grouped { IfOk result (λ read. AreGrouped read.progress.records.items read.batches) }
     ensures gate { IfOk result (λ read. read.gate ≡ 25 * read.batches) }
     ensures few { IfOk result (λ read. read.batches ≤ 1048576) }
     ensures reaches { IfOk result (λ read. read.gate ≤ length commits.now) }
@@ -73,9 +79,11 @@ fn read_batches<D: Disk, H: Hash32>(
 {
     let mut progress = Progress {
         records: Vec::new(alloc),
+        headers: Vec::new(alloc),
         alhs: Vec::new(alloc),
         bl: 0,
         bl_root: [0; 32],
+        tree: Frontier::new(),
         place: 0,
     };
     let mut gate = 0;
@@ -125,7 +133,11 @@ fn read_logs<D: Disk, H: Hash32>(
     ensures history { IfOk result (λ opened. IsHistory (txs_of opened.records.items)) }
     ensures records { IfOk result (λ opened. AreRecords (H.digest hash.now) (txs_of opened.records.items) 1 opened.records.items) }
     ensures ends { IfOk result (λ opened. HasEnds opened) }
+    ensures grouped { IfOk result (λ opened. AreGrouped opened.records.items opened.batches) }
+    ensures placed { IfOk result (λ opened. opened.ends ≡ ends_behind opened.records.items opened.batches) }
+    ensures headers { IfOk result (λ opened. opened.headers.items ≡ headers_of (H.digest hash.now) (txs_of opened.records.items)) }
     ensures read { (t : Told) → D.told disk.old ≡ Some t → IfOk result (λ opened. IsRead (H.digest hash.now) (seen t) opened) }
+    ensures there { (t : Told) → D.told disk.old ≡ Some t → IfOk result (IsThere (seen t)) }
     ensures first { (t : Told) → D.told disk.old ≡ Some t → Judges (image_checks (H.digest hash.now) (seen t)) result }
     ensures told { D.told disk.new ≡ D.told disk.old }
     ensures cause { HasOpenCause (D.faults disk.old) (D.faults disk.new) result }
@@ -150,6 +162,7 @@ fn read_logs<D: Disk, H: Hash32>(
     ];
     Ok(Opened {
         records,
+        headers: progress.headers,
         batches,
         ends,
         behind,
@@ -171,7 +184,11 @@ pub fn read_files<D: Disk, H: Hash32>(
     ensures history { IfOk result (λ opened. IsHistory (txs_of opened.records.items)) }
     ensures records { IfOk result (λ opened. AreRecords (H.digest hash.now) (txs_of opened.records.items) 1 opened.records.items) }
     ensures ends { IfOk result (λ opened. HasEnds opened) }
+    ensures grouped { IfOk result (λ opened. AreGrouped opened.records.items opened.batches) }
+    ensures placed { IfOk result (λ opened. opened.ends ≡ ends_behind opened.records.items opened.batches) }
+    ensures headers { IfOk result (λ opened. opened.headers.items ≡ headers_of (H.digest hash.now) (txs_of opened.records.items)) }
     ensures read { (t : Told) → D.told disk.old ≡ Some t → IfOk result (λ opened. IsRead (H.digest hash.now) (seen t) opened) }
+    ensures there { (t : Told) → D.told disk.old ≡ Some t → IfOk result (IsThere (seen t)) }
     ensures first { (t : Told) → D.told disk.old ≡ Some t → Judges (image_checks (H.digest hash.now) (seen t)) result }
     ensures told { D.told disk.new ≡ D.told disk.old }
     ensures cause { HasOpenCause (D.faults disk.old) (D.faults disk.new) result }

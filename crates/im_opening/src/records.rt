@@ -1,11 +1,12 @@
-ghost use Rattle.std.specs.Prelude.{◌≡◌, ◌≤◌, ◌<◌, ◌+◌, length, map, Some, OnOk, IfSome};
+ghost use Rattle.std.specs.Prelude.{◌≡◌, ◌≤◌, ◌<◌, ◌+◌, length, map, take, Some, OnOk, IfSome};
 ghost use Rattle.im_disk.specs.Disk.{Told, seen};
 ghost use Rattle.im_format.specs.Damages.{record_checks, records_checks};
+ghost use Rattle.im_frontier.specs.Kept.{IsFrontier};
 ghost use Rattle.im_model.specs.Entries.{entry_digest};
 ghost use Rattle.im_model.specs.History.{IsTransaction, bl_root_of, next_header};
 ghost use Rattle.im_opening.specs.Answers.{HasOpenCause, Judges};
 ghost use Rattle.im_opening.specs.Parts.{Shows};
-ghost use Rattle.im_opening.specs.Reach.{AreMore, Fits, IsOneMore, reached_of};
+ghost use Rattle.im_opening.specs.Reach.{AreMore, Fits, IsOneMore, IsWhole, reached_of};
 
 use crate::errors::OpenError;
 use crate::source::Source;
@@ -14,6 +15,7 @@ use im_digest::{D32, Hash32};
 use im_disk::disk::Disk;
 use im_format::records::Record;
 use im_format::references::Refs;
+use im_frontier::frontiers::Frontier;
 use im_header::alh;
 use im_model::headers::Header;
 use im_model::limits::Metadata;
@@ -23,44 +25,50 @@ use im_octet::octets::Octets;
 use im_record::alhs::read_alh;
 use std::alloc::Global;
 
-/// How far the files were read: the records so far, their Alh, the size of the last one's tree and its root, and
-/// the place where the last one ends in the transaction log.
+/// How far the files were read: the records so far, their headers and their Alh, the size of the last one's tree,
+/// its root and its whole subtrees, and the place where the last one ends in the transaction log.
 #[derive(Drop)]
 pub(crate) struct Progress {
     pub records: Vec<Record>,
+    pub headers: Vec<Header>,
     pub alhs: Vec<D32>,
     pub bl: u64,
     pub bl_root: D32,
+    pub tree: Frontier,
     pub place: u64,
 }
 
-// The root over the first Alh. Where the tree hasn't grown, it is the root as it was.
-fn root_over<H: Hash32>(hash: &H, progress: &Progress, bl: u64) -> D32
-    requires fits { Fits (H.digest hash.now) progress.now }
-    requires rises { progress.now.bl ≤ bl }
-    requires linked { bl ≤ length progress.now.alhs.items }
-    ensures { result ≡ bl_root_of (H.digest hash.now) progress.now.alhs.items bl }
+// Lets the tree over the first Alh grow to so many of them, and gives its root. Where it doesn't grow, that is
+// the root as it was.
+fn grow<H: Hash32>(hash: &H, tree: &mut Frontier, root: D32, alhs: &[D32], bl: u64) -> D32
+    requires tree { IsFrontier (H.digest hash.now) (take tree.old.size alhs.now) tree.old }
+    requires root { root ≡ bl_root_of (H.digest hash.now) alhs.now tree.old.size }
+    requires rises { tree.old.size ≤ bl }
+    requires linked { bl ≤ length alhs.now }
+    ensures root { result ≡ bl_root_of (H.digest hash.now) alhs.now bl }
+    ensures tree { IsFrontier (H.digest hash.now) (take bl alhs.now) tree.new }
 {
-    if bl == progress.bl {
-        progress.bl_root
-    } else {
-        root(hash, &progress.alhs[..bl as usize])
+    let size = tree.size();
+    if bl == size {
+        return root;
     }
+    tree.extend(hash, &alhs[size as usize..bl as usize]);
+    tree.root(hash)
 }
 
-// The header of the next transaction, whose entries have these digests.
+// The header of the next transaction, whose tree has this root, and whose entries have these digests.
 #[tactic(auto, unfolding(im_model::specs::History::next_header))]
 fn next_header<H: Hash32>(
     alloc: Global,
     hash: &H,
     progress: &Progress,
     tx: &Transaction,
+    bl_root: D32,
     digests: &[D32],
 ) -> Header
-    requires fits { Fits (H.digest hash.now) progress.now }
     requires few { length progress.now.alhs.items < 1048576 }
     requires tx { IsTransaction (length progress.now.alhs.items) tx.now }
-    requires rises { progress.now.bl ≤ tx.now.bl }
+    requires root { bl_root ≡ bl_root_of (H.digest hash.now) progress.now.alhs.items tx.now.bl }
     requires digests { digests.now ≡ map (entry_digest (H.digest hash.now)) tx.now.entries }
     ensures { result ≡ next_header (H.digest hash.now) progress.now.alhs.items tx.now }
 {
@@ -68,7 +76,7 @@ fn next_header<H: Hash32>(
         id: progress.alhs.len() as u64 + 1,
         ts: tx.ts,
         bl_tx_id: tx.bl,
-        bl_root: root_over(hash, progress, tx.bl),
+        bl_root,
         prev_alh: match progress.alhs.last() {
             Some(alh) => *alh,
             None => hash.hash(&[], &[], &[]),
@@ -92,9 +100,11 @@ pub(crate) fn read_record<D: Disk, H: Hash32>(
     requires place { progress.old.place ≤ length source.now.log.now }
     requires few { length progress.old.alhs.items < 1048576 }
     requires fits { Fits (H.digest hash.now) progress.old }
+    requires whole { IsWhole (H.digest hash.now) progress.old }
     ensures within { OnOk result (progress.new.place ≤ length source.now.log.now) }
     ensures more { OnOk result (length progress.new.alhs.items ≡ length progress.old.alhs.items + 1) }
     ensures fits { OnOk result (Fits (H.digest hash.now) progress.new) }
+    ensures whole { OnOk result (IsWhole (H.digest hash.now) progress.new) }
     ensures read { (t : Told) → D.told disk.old ≡ Some t
         → OnOk result (IsOneMore (H.digest hash.now) (seen t) progress.old progress.new) }
     ensures first { (t : Told) → D.told disk.old ≡ Some t
@@ -110,12 +120,14 @@ pub(crate) fn read_record<D: Disk, H: Hash32>(
         refs,
         end,
     } = read;
-    let header = next_header(alloc, hash, progress, &tx, digests.as_slice());
+    let alhs = progress.alhs.as_slice();
+    let bl_root = grow(hash, &mut progress.tree, progress.bl_root, alhs, tx.bl);
+    let header = next_header(alloc, hash, progress, &tx, bl_root, digests.as_slice());
     let digest = alh(hash, &header);
     let place = read_alh(source.log, end, &digest)?;
     progress.alhs.push(digest)?;
     progress.bl = tx.bl;
-    progress.bl_root = header.bl_root;
+    progress.bl_root = bl_root;
     progress.place = place;
     let refs = Refs::from_vec(refs);
     progress.records.push(Record {
@@ -123,6 +135,7 @@ pub(crate) fn read_record<D: Disk, H: Hash32>(
         refs,
         alh: digest,
     })?;
+    progress.headers.push(header)?;
     Ok(())
 }
 
@@ -139,9 +152,11 @@ pub(crate) fn read_records<D: Disk, H: Hash32>(
     requires place { progress.old.place ≤ length source.now.log.now }
     requires few { length progress.old.alhs.items + count ≤ 1048576 }
     requires fits { Fits (H.digest hash.now) progress.old }
+    requires whole { IsWhole (H.digest hash.now) progress.old }
     ensures within { OnOk result (progress.new.place ≤ length source.now.log.now) }
     ensures more { OnOk result (length progress.new.alhs.items ≡ length progress.old.alhs.items + count) }
     ensures fits { OnOk result (Fits (H.digest hash.now) progress.new) }
+    ensures whole { OnOk result (IsWhole (H.digest hash.now) progress.new) }
     ensures read { (t : Told) → D.told disk.old ≡ Some t
         → OnOk result (AreMore (H.digest hash.now) (seen t) count progress.old progress.new) }
     ensures first { (t : Told) → D.told disk.old ≡ Some t

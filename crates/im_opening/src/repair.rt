@@ -1,15 +1,17 @@
 ghost use Rattle.std.specs.Prelude.{◌≡◌, ◌≤◌, ◌<◌, ◌^◌, length, List, Some, OnOk, IfSome};
+ghost use Rattle.std.specs.Option.{option_map};
 ghost use Rattle.im_digest.specs.Digests.{Hash};
 ghost use Rattle.im_disk.specs.Causes.{HasCause};
 ghost use Rattle.im_alog.specs.Holding.{IsDurable};
 ghost use Rattle.im_disk.specs.Disk.{LiesWithin, Told, seen};
 ghost use Rattle.im_format.specs.Batches.{gate_of};
 ghost use Rattle.im_format.specs.Reading.{history_in};
-ghost use Rattle.im_opening.specs.Opening.{HasEnds, IsRead};
+ghost use Rattle.im_opening.specs.Opening.{HasEnds, IsRead, IsThere};
+ghost use Rattle.im_opening.specs.Parts.{batches_in};
 ghost use Rattle.im_disk.specs.Moments.{Leaves, LeavesNow};
 ghost use Rattle.im_format.specs.Standing.{Stands};
 ghost use Rattle.im_model.specs.declared.transactions.Transaction.{Transaction};
-ghost use Rattle.im_opening.specs.Cut.{IsCut, IsShut};
+ghost use Rattle.im_opening.specs.Cut.{IsCut, IsKept, IsShut, repaired, shut_at};
 
 use crate::reading::Opened;
 use im_clog::marks::Uncounted;
@@ -24,6 +26,7 @@ pub(crate) fn shut_gate<D: Disk>(disk: &mut D, gate: u64) -> Result<(), DiskErro
         → LeavesNow (IsCut hash history gate) (D.told disk.old) → IfSome (D.told disk.old) (λ t. IsCut hash history gate (seen t))
         → Leaves (λ image. Stands hash image history) (D.told disk.old) (D.told disk.new) }
     ensures shut { OnOk result (IfSome (D.told disk.new) (λ t. IsShut (seen t) gate)) }
+    ensures written { OnOk result (D.told disk.new ≡ option_map (shut_at gate) (D.told disk.old)) }
     ensures cause { HasCause (D.faults disk.old) (D.faults disk.new) result }
 {
     disk.write_at(1, gate, &[0])?;
@@ -39,6 +42,10 @@ pub fn repair<D: Disk>(disk: &mut D, opened: &Opened) -> Result<(), DiskError>
         → Leaves (λ image. Stands hash image (history_in (seen t))) (D.told disk.old) (D.told disk.new) }
     ensures shut { (hash : Hash) (t : Told) → D.told disk.old ≡ Some t → IsRead hash (seen t) opened.now
         → OnOk result (IfSome (D.told disk.new) (λ t. IsShut (seen t) (gate_of opened.now.batches))) }
+    ensures kept { (hash : Hash) (t : Told) → D.told disk.old ≡ Some t → IsDurable t → IsRead hash (seen t) opened.now
+        → IsThere (seen t) opened.now
+        → OnOk result (IfSome (D.told disk.new) (IsKept (batches_in (seen t)) opened.now.ends)) }
+    ensures calls { OnOk result (D.told disk.new ≡ option_map (repaired opened.now.behind (gate_of opened.now.batches)) (D.told disk.old)) }
     ensures cause { HasCause (D.faults disk.old) (D.faults disk.new) result }
 {
     match opened.behind {

@@ -90,6 +90,7 @@ fn one_transaction_is_read(rt: HostRuntime) -> Result<(), Fail> {
         return Err(Fail::from("one transaction"));
     };
     assert_eq!(rt; opened.records.len(), 1);
+    assert_eq!(rt; opened.headers.len(), 1);
     assert_eq!(rt; opened.batches, 1);
     assert_eq!(rt; opened.ends, [110, 25, 3, 0, 0, 0]);
     assert_eq!(rt; opened.behind, Uncounted::Closed { octet: 0 });

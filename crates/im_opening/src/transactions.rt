@@ -2,7 +2,7 @@ ghost use Rattle.std.specs.Prelude.{◌≡◌, ◌≤◌, ◌+◌, ◌-◌, ◌+
 ghost use Rattle.im_disk.specs.Disk.{Told, seen};
 ghost use Rattle.im_format.specs.Damages.{head_checks, slots_checks};
 ghost use Rattle.im_format.specs.Reading.{count_at};
-ghost use Rattle.im_format.specs.Records.{AreReferences};
+ghost use Rattle.im_format.specs.Records.{AreReferences, entries_octets};
 ghost use Rattle.im_model.specs.Entries.{entry_digest};
 ghost use Rattle.im_model.specs.History.{IsTransaction};
 ghost use Rattle.im_opening.specs.Answers.{HasOpenCause, Judges};
@@ -49,6 +49,7 @@ pub(crate) fn read_transaction<D: Disk, H: Hash32>(
     ensures digests { IfOk result (λ read. read.digests.items ≡ map (entry_digest (H.digest hash.now)) read.tx.entries) }
     ensures refer { IfOk result (λ read. AreReferences (H.digest hash.now) id read.tx.entries read.refs.items) }
     ensures within { IfOk result (λ read. read.end ≤ length source.now.log.now) }
+    ensures whole { IfOk result (λ read. read.end ≡ at + 28 + length (entries_octets read.tx.entries read.refs.items)) }
     ensures read { (t : Told) → D.told disk.old ≡ Some t
         → IfOk result (λ read. IsTransactionAt (seen t) at read.tx read.refs.items read.end) }
     ensures first { (t : Told) → D.told disk.old ≡ Some t

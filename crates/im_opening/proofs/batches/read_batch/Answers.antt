@@ -1,11 +1,10 @@
-use Rattle.std.proofs.Common.{rules, arith, ◌≡◌, ◌+◌, ◌<◌, ◌≤◌, ◌∷◌, ◌++◌, [], ℕ, List, length, refl, sym, ◌∙◌, ap, subst, Ok, Err, ne_eqb, if◌then◌else◌}
+use Rattle.std.proofs.Common.{arith, ◌≡◌, ◌+◌, ℕ, length, sym, ◌∙◌, ap, subst, Ok, Err, ne_eqb, if◌then◌else◌}
 use Rattle.im_clog.specs.Marks.{mark_at}
-use Rattle.im_disk.specs.Disk.{Told, seen}
+use Rattle.im_disk.specs.Disk.{seen}
 use Rattle.std.proofs.lemmas.Bool.{eq-eqb}
 use Rattle.im_format.specs.Damages.{Reached, batch_checks, numbers}
 use Rattle.im_mtree.specs.Checks.{first_fail}
-use Rattle.im_opening.specs.Answers.{Judges, Tells}
-use Rattle.im_opening.specs.Parts.{end_checks, mark_checks}
+use Rattle.im_opening.specs.Parts.{mark_checks}
 use Rattle.im_opening.specs.Reach.{reached_of}
 use Rattle.im_format.specs.declared.damages.Damage.{Damage}
 use Rattle.im_opening.specs.declared.errors.OpenError.TheVariants.{Damaged}

@@ -1,4 +1,4 @@
-use Rattle.std.proofs.Common.{rules, arith, ◌≡◌, ℕ, List, ap}
+use Rattle.std.proofs.Common.{arith, List, ap}
 use Rattle.std.proofs.Math.ListN.{drop_of_length-le}
 use Rattle.im_format.specs.Places.{log_end}
 use Rattle.im_format.specs.declared.references.ValueRef.{ValueRef}

@@ -1,4 +1,4 @@
-use Rattle.std.proofs.Common.{rules, arith, ◌≡◌, ◌+◌, ◌≤◌, ◌<◌, ◌∷◌, suc, ℕ, List, length, drop, drop-cons, max, sym, ◌∙◌, ap}
+use Rattle.std.proofs.Common.{arith, ◌≡◌, ◌+◌, ◌∷◌, suc, ℕ, List, drop, drop-cons, max, sym, ◌∙◌, ap}
 use Rattle.std.proofs.Math.ListN.{drop_of_length-le}
 use Rattle.im_format.specs.Places.{log_end, refs_of}
 use Rattle.im_format.specs.declared.records.Record.{Record}

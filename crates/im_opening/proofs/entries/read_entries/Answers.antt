@@ -1,7 +1,7 @@
-use Rattle.std.proofs.Common.{rules, arith, ◌≡◌, ◌+◌, ◌<◌, ◌≤◌, ◌∷◌, ◌++◌, [], ℕ, List, length, length-append, map, refl, sym, ◌∙◌, ap, subst, Ok, All}
-use Rattle.im_disk.specs.Disk.{Told, seen}
+use Rattle.std.proofs.Common.{arith, ◌≡◌, ◌+◌, ◌<◌, ◌≤◌, ◌∷◌, ◌++◌, [], ℕ, List, length, length-append, map, refl, sym, ◌∙◌, ap, subst, Ok, All}
+use Rattle.im_disk.specs.Disk.{seen}
 use Rattle.im_format.specs.Damages.{index_of}
-use Rattle.im_format.specs.Records.{AreReferences}
+use Rattle.im_format.specs.Records.{AreReferences, entries_octets}
 use Rattle.im_format.specs.declared.references.ValueRef.{ValueRef}
 use Rattle.std.proofs.lemmas.List.{map-append}
 use Rattle.std.proofs.lemmas.List.Elements.{All-nil}
@@ -9,10 +9,11 @@ use Rattle.im_model.specs.Entries.{entry_digest}
 use Rattle.im_model.specs.History.{IsEntry}
 use Rattle.im_model.specs.declared.entries.Entry.{Entry}
 use Rattle.im_mtree.specs.Checks.{first_fail}
-use Rattle.im_opening.specs.Answers.{Judges, Tells}
+use Rattle.im_opening.specs.Answers.{Tells}
 use Rattle.im_opening.specs.Parts.{entry_checks}
 use Rattle.im_opening.proofs.EntriesLeft.{EntriesLeft, all-next, apart-next, entries-first, entries-last, entries-next, entries-tell, keys-next, refers-next}
 use Rattle.im_opening.proofs.Finding.{judge-err, ok-leaves}
+use Rattle.im_opening.proofs.PlaceLemmas.{entries-longer}
 use Rattle.im_opening.proofs.entries.read_entries.Goals as goal
 use Rattle.im_standing.proofs.KeyLemmas.{AreApart, apart-distinct}
 
@@ -49,6 +50,10 @@ loop-alloc-preserved g c =
           subst (λ (xs : List Entry). AreReferences hash c.args.id xs c.push-in-loop-alloc.new.self.items) (sym one)
           (subst (λ (rs : List ValueRef). AreReferences hash c.args.id (entries ++ e ∷ []) rs) (sym two)
           (refers-next hash c.args.id entries refs e ref inv.refer ens.refers));
+      whole =
+          subst (λ (xs : List Entry). next ≡ c.args.at + length (entries_octets xs c.push-in-loop-alloc.new.self.items)) (sym one)
+          (subst (λ (rs : List ValueRef). next ≡ c.args.at + length (entries_octets (entries ++ e ∷ []) rs)) (sym two)
+          (omega (arith, ens.whole, inv.whole, entries-longer hash c.args.id entries refs e ref inv.refer)));
       left = λ t is.
           let told = inv.told ∙ is in
           subst (λ (xs : List Entry). EntriesLeft hash (seen t) c.args.id c.args.at c.args.count xs c.push-in-loop-alloc.new.self.items next) (sym one)
@@ -104,6 +109,9 @@ loop-alloc-init g c =
       refer =
           subst (λ (xs : List Entry). AreReferences hash c.args.id xs c.new-refs.result.items) (sym none)
           (subst (λ (rs : List ValueRef). AreReferences hash c.args.id [] rs) (sym no_refs) tt);
+      whole =
+          subst (λ (xs : List Entry). c.args.at ≡ c.args.at + length (entries_octets xs c.new-refs.result.items)) (sym none)
+          (subst (λ (rs : List ValueRef). c.args.at ≡ c.args.at + length (entries_octets [] rs)) (sym no_refs) (omega arith));
       left = λ t is.
           subst (λ (xs : List Entry). EntriesLeft hash (seen t) c.args.id c.args.at c.args.count xs c.new-refs.result.items c.args.at) (sym none)
           (subst (λ (rs : List ValueRef). EntriesLeft hash (seen t) c.args.id c.args.at c.args.count [] rs c.args.at) (sym no_refs)

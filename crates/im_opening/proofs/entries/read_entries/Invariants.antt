@@ -1,6 +1,6 @@
-use Rattle.std.proofs.Common.{◌≡◌, ◌≤◌, ◌-◌, [], length, map, Some, All}
+use Rattle.std.proofs.Common.{◌≡◌, ◌≤◌, ◌+◌, ◌-◌, [], length, map, Some, All}
 use Rattle.im_disk.specs.Disk.{Told, seen}
-use Rattle.im_format.specs.Records.{AreReferences}
+use Rattle.im_format.specs.Records.{AreReferences, entries_octets}
 use Rattle.im_model.specs.Entries.{entry_digest}
 use Rattle.im_model.specs.History.{IsEntry}
 use Rattle.im_opening.proofs.EntriesLeft.{EntriesLeft}
@@ -18,6 +18,7 @@ invariant-loop-alloc g l = record {
   are : All IsEntry l.entries.items;
   apart : AreApart [] l.entries.items;
   refer : AreReferences (g.H.Hash32.digest l.hash) l.id l.entries.items l.refs.items;
+  whole : l.end ≡ l.initial.end + length (entries_octets l.entries.items l.refs.items);
   left : (t : Told) → g.D.Disk.told l.initial.disk ≡ Some t
       → EntriesLeft (g.H.Hash32.digest l.hash) (seen t) l.id l.initial.end l.count l.entries.items l.refs.items l.end;
 }

@@ -1,12 +1,14 @@
-use Rattle.std.proofs.Common.{rules, arith, ◌≡◌, ◌+◌, ◌≤◌, ℕ, List, length, refl, sym, ◌∙◌, ap, subst}
-use Rattle.im_disk.specs.Disk.{Told, seen}
+use Rattle.std.proofs.Common.{arith, ◌≡◌, ℕ, List, length, sym, ◌∙◌, ap, subst}
+use Rattle.im_disk.specs.Disk.{seen}
 use Rattle.im_format.specs.Damages.{index_of}
 use Rattle.im_format.specs.Reading.{slot_at, value_at}
 use Rattle.im_format.specs.declared.references.ValueRef.{ValueRef}
 use Rattle.im_model.specs.declared.entries.Entry.{Entry}
-use Rattle.im_opening.specs.Answers.{Judges, of_record}
-use Rattle.im_opening.specs.Parts.{Shows, IsEntryAt}
+use Rattle.im_opening.specs.Answers.{of_record}
+use Rattle.im_opening.specs.Parts.{Shows}
 use Rattle.im_opening.proofs.Finding.{at-told, judge-err}
+use Rattle.im_opening.proofs.PlaceLemmas.{slot-ends}
+use Rattle.im_standing.proofs.EntryLemmas.{length-entry}
 use Rattle.im_opening.proofs.SlotFinds.{key-fresh, slot-fails, value-fails, value-finds}
 use Rattle.im_opening.proofs.entries.read_entry.Goals as goal
 
@@ -76,3 +78,21 @@ returns-clause-read g c t is =
       ref_is = ref;
       end_is = end;
     }
+
+pub returns-clause-whole : goal.returns-clause-whole
+returns-clause-whole g c =
+    let log = c.args.source.now.log.now in
+    let there = c.in_ok-slot.ensures.slot in
+    let ref = c.in_ok-slot.slot.value in
+    let entry : Entry = record { md = c.new.result; key = c.new-2.result; value = c.new-3.result } in
+    let md = c.new.ensures ∙ c.in_ok-md.ensures ∙ there.md in
+    let key = c.new-2.ensures ∙ c.in_ok-key.ensures ∙ there.key in
+    let size : length ref.hval ≡ 32 = ap length c.in_ok-octets.ensures.digest ∙ g.met.H.Hash32.size c.args.hash.now c.in_ok-octets.octets.items in
+    omega (
+      arith,
+      slot-ends log c.args.source.now.lens c.args.id c.args.keys.now c.args.at c.in_ok-slot.ensures.first,
+      there.end,
+      ap length md,
+      ap length key,
+      length-entry entry ref size,
+    )

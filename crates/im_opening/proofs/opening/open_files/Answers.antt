@@ -1,16 +1,16 @@
-use Rattle.std.proofs.Common.{rules, arith, ◌≡◌, ◌+◌, ◌≤◌, ℕ, List, length, refl, sym, ◌∙◌, ap, subst, inl, inr, Option, Some}
-use Rattle.std.specs.Prelude.{IfSome}
-use Rattle.im_disk.specs.Disk.{Files, Told, Images, after, seen}
-use Rattle.im_disk.specs.Moments.{Leaves}
-use Rattle.im_disk.specs.declared.calls.Call.TheVariants.{Synced, Missed}
+use Rattle.std.proofs.Common.{refl, ◌∙◌, ap, inl, inr, Option}
+use Rattle.im_disk.specs.Disk.{Told, after, seen}
+use Rattle.im_disk.specs.declared.calls.Call.TheVariants.{Synced}
 use Rattle.im_format.specs.Batches.{gate_of}
 use Rattle.im_format.specs.Reading.{history_in}
-use Rattle.im_format.specs.Standing.{Stands}
-use Rattle.im_model.specs.declared.transactions.Transaction.{Transaction}
+use Rattle.im_opening.specs.Cut.{WasLeft}
 use Rattle.im_opening.specs.Opening.{IsRead}
 use Rattle.im_standing.proofs.HeldRecords.{Has32}
 use Rattle.im_standing.proofs.StandReads.{stands-once}
-use Rattle.im_opening.proofs.OpenLemmas.{failed-opened, repaired-leaves, rest-leaves, synced-told}
+use Rattle.im_opening.proofs.OpenLemmas.{failed-left, failed-opened, on-err, repaired-leaves, rest-leaves, synced-told}
+use Rattle.im_opening.specs.Cut.{repaired}
+use Rattle.std.specs.Option.{option_map}
+use Rattle.im_opening.proofs.KeptLemmas.{map-told}
 use Rattle.im_opening.proofs.opening.open_files.Goals as goal
 
 pub returns-in_err-sync-clause-moments : goal.returns-in_err-sync-clause-moments
@@ -64,3 +64,48 @@ returns-clause-shut g c t is =
     let synced = synced-told (g.D.Disk.told c.args.disk.now) (g.D.Disk.told c.sync.new.self) t c.in_ok-sync.ensures.ok is in
     c.in_ok-repair.ensures.shut (g.H.Hash32.digest c.args.hash.now) (after Synced t) (c.in_ok-opened.ensures.told ∙ synced)
     (c.in_ok-opened.ensures.read (after Synced t) synced)
+
+pub returns-clause-there : goal.returns-clause-there
+returns-clause-there g c t is =
+    c.in_ok-opened.ensures.there (after Synced t) (synced-told (g.D.Disk.told c.args.disk.now) (g.D.Disk.told c.sync.new.self) t c.in_ok-sync.ensures.ok is)
+
+pub returns-clause-kept : goal.returns-clause-kept
+returns-clause-kept g c t is =
+    let hash = g.H.Hash32.digest c.args.hash.now in
+    let synced = synced-told (g.D.Disk.told c.args.disk.now) (g.D.Disk.told c.sync.new.self) t c.in_ok-sync.ensures.ok is in
+    c.in_ok-repair.ensures.kept hash (after Synced t) (c.in_ok-opened.ensures.told ∙ synced) (λ image now. now)
+    (c.in_ok-opened.ensures.read (after Synced t) synced) (c.in_ok-opened.ensures.there (after Synced t) synced)
+
+pub returns-in_err-sync-clause-left : goal.returns-in_err-sync-clause-left
+returns-in_err-sync-clause-left g c t is =
+    on-err (WasLeft (g.H.Hash32.digest c.args.hash.now) t (g.D.Disk.told c.sync.new.self)) c.from_residual.result
+    (failed-left (g.H.Hash32.digest c.args.hash.now) t (g.D.Disk.told c.args.disk.now) (g.D.Disk.told c.sync.new.self) c.in_err-sync.field-0.0 is
+    (c.in_err-sync.ensures.failed, c.in_err-sync.ensures.memory))
+
+pub returns-in_err-opened-clause-left : goal.returns-in_err-opened-clause-left
+returns-in_err-opened-clause-left g c t is =
+    on-err (WasLeft (g.H.Hash32.digest c.args.hash.now) t (g.D.Disk.told c.read_files.new.disk)) c.from_residual-in_err-opened.result
+    (inr (inr (inl (c.in_err-opened.ensures.told ∙ synced-told (g.D.Disk.told c.args.disk.now) (g.D.Disk.told c.sync.new.self) t c.in_ok-sync.ensures.ok is))))
+
+pub returns-in_err-repair-clause-left : goal.returns-in_err-repair-clause-left
+returns-in_err-repair-clause-left g c t is =
+    let hash = g.H.Hash32.digest c.args.hash.now in
+    let synced = synced-told (g.D.Disk.told c.args.disk.now) (g.D.Disk.told c.sync.new.self) t c.in_ok-sync.ensures.ok is in
+    let told = c.in_ok-opened.ensures.told ∙ synced in
+    let read : IsRead hash (seen t) c.in_ok-opened.opened = c.in_ok-opened.ensures.read (after Synced t) synced in
+    on-err (WasLeft hash t (g.D.Disk.told c.repair.new.disk)) c.from_residual-in_err-repair.result
+    (inr (inr (inr (
+      history_in (seen t),
+      read.stands,
+      repaired-leaves hash (history_in (seen t)) t (g.D.Disk.told c.read_files.new.disk) (g.D.Disk.told c.repair.new.disk) told refl
+          (c.in_err-repair.ensures.leaves hash (after Synced t) told (λ image now. now) read),
+    ))))
+
+pub returns-clause-calls : goal.returns-clause-calls
+returns-clause-calls g c =
+    let opened = c.in_ok-opened.opened in
+    let f : Told → Told = repaired opened.behind (gate_of opened.batches) in
+    let o = g.D.Disk.told c.args.disk.now in
+    c.in_ok-repair.ensures.calls
+    ∙ ap (λ (m : Option Told). option_map f m) (c.in_ok-opened.ensures.told ∙ c.in_ok-sync.ensures.ok)
+    ∙ map-told f (after Synced) o

@@ -1,10 +1,8 @@
-use Rattle.std.proofs.Common.{rules, arith, ◌≡◌, ◌+◌, ◌<◌, ◌≤◌, ◌∷◌, ◌++◌, [], ℕ, List, length, refl, sym, ◌∙◌, ap, subst, Ok}
-use Rattle.im_disk.specs.Disk.{Told, seen}
-use Rattle.im_format.specs.declared.records.Record.{Record}
-use Rattle.im_opening.specs.Answers.{Judges, Tells}
-use Rattle.im_opening.specs.Reach.{Fits, reached_of}
+use Rattle.std.proofs.Common.{arith, refl, ◌∙◌}
+use Rattle.im_disk.specs.Disk.{seen}
+use Rattle.im_opening.specs.Reach.{reached_of}
 use Rattle.im_opening.proofs.Finding.{judge-err, ok-leaves}
-use Rattle.im_opening.proofs.RecordsLeft.{RecordsLeft, records-first, records-last, records-next, records-tell}
+use Rattle.im_opening.proofs.RecordsLeft.{records-first, records-last, records-next, records-tell}
 use Rattle.im_opening.proofs.records.read_records.Goals as goal
 
 pub loop-i-preserved : goal.loop-i-preserved
@@ -21,6 +19,7 @@ loop-i-preserved g c =
       place = ens.within;
       many = omega (arith, ens.more, inv.many);
       fits = ens.fits;
+      whole = ens.whole;
       left = λ t is.
           let told = inv.told ∙ is in
           records-next hash (seen t) c.args.count first.records.items (reached_of first) c.loop-i._i now.records.items (reached_of now)
@@ -64,5 +63,6 @@ loop-i-init g c = record {
   place = c.requires.place;
   many = omega arith;
   fits = c.requires.fits;
+  whole = c.requires.whole;
   left = λ t is. records-first (g.H.Hash32.digest c.args.hash.now) (seen t) c.args.count c.args.progress.now.records.items (reached_of c.args.progress.now);
 }

@@ -1,4 +1,4 @@
-use Rattle.std.proofs.Common.{rules, arith, ◌≡◌, ◌+◌, ◌≤◌, ℕ, List, length, sym, ◌∙◌, ap, subst, get_or, ⊎_elim, Option, Some}
+use Rattle.std.proofs.Common.{arith, ◌≡◌, ◌+◌, ◌≤◌, ℕ, List, length, sym, subst, get_or, ⊎_elim, Option, Some}
 use Rattle.std.specs.Prelude.{IfSome, OnOk}
 use Rattle.im_disk.specs.Disk.{Files, Told, Images, seen}
 use Rattle.im_disk.specs.Moments.{Leaves, LeavesNow}
@@ -11,11 +11,13 @@ use Rattle.im_format.specs.Standing.{Stands}
 use Rattle.im_clog.specs.Marks.{Lacks}
 use Rattle.im_clog.specs.declared.marks.Uncounted.{Uncounted}
 use Rattle.im_clog.specs.declared.marks.Uncounted.TheVariants.{Missing, Closed, Short}
-use Rattle.im_opening.specs.Cut.{IsCut, IsShut}
+use Rattle.im_opening.specs.Cut.{IsCut, IsKept, IsShut, repaired, shut_at}
 use Rattle.im_opening.specs.Opening.{IsRead}
 use Rattle.im_opening.specs.declared.reading.Opened.{Opened}
-use Rattle.im_opening.proofs.Finding.{if-told}
 use Rattle.im_opening.proofs.GateLemmas.{batches-same, cut-kept, lacks-none, same-torn, shut-read, stands-same}
+use Rattle.im_opening.specs.Parts.{batches_in}
+use Rattle.im_opening.proofs.KeptLemmas.{kept-after, kept-closed, kept-shut, same-told}
+use Rattle.std.specs.Option.{option_map}
 use Rattle.im_opening.proofs.repair.repair.Goals as goal
 
 -- what holds of what was told
@@ -87,3 +89,37 @@ returns-in-Missing-clause-shut g c hash t is read =
     let opened = c.args.opened.now in
     let P : ℕ → Type 0 = λ k. OnOk c.shut_gate.result (IfSome (g.D.Disk.told c.shut_gate.new.disk) (λ s. IsShut (seen s) k)) in
     subst P c.requires.ends.gate c.shut_gate.ensures.shut
+
+pub returns-in-Closed-clause-kept : goal.returns-in-Closed-clause-kept
+returns-in-Closed-clause-kept g c hash t is durable read there =
+    let opened = c.args.opened.now in
+    let L : Uncounted → Type 0 = λ r. Lacks (seen t 1) (gate_of opened.batches) r in
+    of-told (IsKept (batches_in (seen t)) opened.ends) (g.D.Disk.told c.args.disk.now) t is
+    (kept-closed opened t _ durable there read.batches.batches_are (subst L c.in-Closed.is read.behind_is))
+
+pub returns-in-Missing-clause-kept : goal.returns-in-Missing-clause-kept
+returns-in-Missing-clause-kept g c hash t is durable read there =
+    let opened = c.args.opened.now in
+    let gate = get_or opened.ends 1 0 in
+    let at : gate ≡ gate_of opened.batches = c.requires.ends.gate in
+    let within : gate_of opened.batches ≤ length (seen t 1) = read.within in
+    kept-after opened t gate (g.D.Disk.told c.args.disk.now) (g.D.Disk.told c.shut_gate.new.disk) c.shut_gate.result is c.shut_gate.ensures.written
+    (kept-shut opened t gate there read.batches.batches_are at (omega (arith, at, within)))
+
+pub returns-in-Closed-clause-calls : goal.returns-in-Closed-clause-calls
+returns-in-Closed-clause-calls g c =
+    let opened = c.args.opened.now in
+    let o = g.D.Disk.told c.args.disk.now in
+    let A : Uncounted → Type 0 = λ r. o ≡ option_map (repaired r (gate_of opened.batches)) o in
+    subst A (sym c.in-Closed.is) (same-told o)
+
+pub returns-in-Missing-clause-calls : goal.returns-in-Missing-clause-calls
+returns-in-Missing-clause-calls g c =
+    let opened = c.args.opened.now in
+    let o = g.D.Disk.told c.args.disk.now in
+    let n = g.D.Disk.told c.shut_gate.new.disk in
+    let gate = gate_of opened.batches in
+    let P : ℕ → Type 0 = λ k. OnOk c.shut_gate.result (n ≡ option_map (shut_at k) o) in
+    let here : P gate = subst P c.requires.ends.gate c.shut_gate.ensures.written in
+    let A : Uncounted → Type 0 = λ r. OnOk c.shut_gate.result (n ≡ option_map (repaired r gate) o) in
+    ⊎_elim (λ e. subst A (sym e) here) (λ p. subst A (sym p.1) here) c.in-Missing.is

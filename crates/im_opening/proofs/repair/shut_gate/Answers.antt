@@ -1,13 +1,14 @@
-use Rattle.std.proofs.Common.{rules, arith, ◌≡◌, ◌+◌, ◌≤◌, ℕ, List, [], ◌∷◌, length, sym, subst, Option}
+use Rattle.std.proofs.Common.{arith, ◌≡◌, ℕ, [], ◌∷◌, refl, sym, ◌∙◌, ap, subst, Option, Some, None}
+use Rattle.std.specs.Option.{option_map}
 use Rattle.std.specs.Prelude.{IfSome}
-use Rattle.im_disk.specs.Disk.{Files, Told, Images, after, seen}
+use Rattle.im_disk.specs.Disk.{Files, Told, after, seen}
 use Rattle.im_format.specs.Spans.{Reads, octet_span}
-use Rattle.im_disk.specs.declared.calls.Call.TheVariants.{Wrote, Tore, Synced, Missed}
+use Rattle.im_disk.specs.declared.calls.Call.TheVariants.{Wrote, Tore, Synced}
 use Rattle.im_disk.proofs.Leaving.{leaves_weaker}
 use Rattle.im_opening.proofs.LeaveLemmas.{leave-both}
 use Rattle.im_format.specs.Standing.{Stands}
 use Rattle.im_alog.proofs.Outcomes.{HasAnswer, if_mapped, if_some, leaves_of_sync, leaves_of_write, on_ok, reads_of_write, seen_of_write}
-use Rattle.im_opening.specs.Cut.{IsCut, IsShut}
+use Rattle.im_opening.specs.Cut.{IsCut, IsShut, shut_at}
 use Rattle.im_opening.proofs.GateLemmas.{cut-kept, same-torn}
 use Rattle.im_opening.proofs.repair.shut_gate.Goals as goal
 
@@ -41,3 +42,13 @@ returns-clause-shut g c =
     (subst (λ (m : Option Told). IfSome m Q) (sym c.in_ok-write_at.ensures.ok)
     (if_some (λ t. Reads (seen t) (octet_span 1 c.args.gate 0)) Q (λ t r. record { octet = 0; closed = λ e. omega (arith, e); reads = r }) _
     (reads_of_write 1 c.args.gate (0 ∷ []) o c.requires.within))))
+
+both-calls : (gate : ℕ) (o : Option Told) → option_map (after Synced) (option_map (after (Wrote 1 gate (0 ∷ []))) o) ≡ option_map (shut_at gate) o
+both-calls gate None = refl
+both-calls gate (Some t) = refl
+
+pub returns-clause-written : goal.returns-clause-written
+returns-clause-written g c =
+    let o = g.D.Disk.told c.args.disk.now in
+    on_ok (λ (m : Option Told). m ≡ option_map (shut_at c.args.gate) o) (g.D.Disk.told c.sync.new.self) _ c.sync.result c.sync.ensures.ok
+    (ap (λ (m : Option Told). option_map (after Synced) m) c.in_ok-write_at.ensures.ok ∙ both-calls c.args.gate o)

@@ -1,0 +1,3 @@
+pub mod OnesLemmas
+pub mod GrowthLemmas
+pub mod RootLemmas
