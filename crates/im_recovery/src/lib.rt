@@ -1,0 +1,6 @@
+//! Recovery: a disk opened, with its journal at rest and the history that it holds.
+#![tactic(auto)]
+
+pub mod recovery;
+#[cfg(test)]
+mod tests;
