@@ -21,7 +21,7 @@ use Rattle.im_accept.specs.Messages.{item_between, IsReadBack}
 use Rattle.im_accept.specs.Taken.{line_text, AreReadBack, HaveSessions}
 use Rattle.im_accept.proofs.CutLemmas.{answer-lacks, line-lacks, one-answers, texts-of}
 use Rattle.im_accept.proofs.TakenLemmas.{sessions-are}
-use Rattle.im_session.specs.Ledgers.{Held}
+use Rattle.im_ledger.specs.Ledgers.{Held}
 use Rattle.im_session.specs.Turns.{Turn}
 
 -- a reply that isn't open needs no reading

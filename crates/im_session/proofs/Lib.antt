@@ -1,3 +1,2 @@
 pub mod AgainLemmas
-pub mod LedgerLemmas
 pub mod TurnLemmas

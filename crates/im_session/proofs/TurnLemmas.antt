@@ -19,7 +19,7 @@ use Rattle.im_script.specs.declared.commands.Command.{Command}
 use Rattle.im_script.specs.declared.commands.Command.TheVariants.{Set, Header, State, Prove, Advance, Item, Link}
 use Rattle.im_report.proofs.PlacedLemmas.{advance-not-placed, full-not-placed, header-not-placed, item-not-placed, linked-not-placed, prove-not-placed, refused-not-placed, reserved-not-placed, state-not-placed, tx-placed}
 use Rattle.im_report.proofs.ReportLemmas.{Standing, Standing-next}
-use Rattle.im_session.specs.Ledgers.{Held, IsLedger}
+use Rattle.im_ledger.specs.Ledgers.{Held, IsLedger}
 use Rattle.im_session.specs.Turns.{Answers, HasTime, Placed, Turn}
 
 -- a transaction of prepared entries lies within the limits behind others, over a tree of some of them

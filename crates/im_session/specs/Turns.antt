@@ -9,7 +9,7 @@ use Rattle.im_report.specs.Report.{IsAnswer, floor_by, reply_line}
 use Rattle.im_script.specs.declared.commands.Line.{Line}
 use Rattle.im_script.specs.declared.commands.Command.{Command}
 use Rattle.im_accept.specs.Messages.{IsReadBack}
-use Rattle.im_session.specs.Ledgers.{Held, IsLedger}
+use Rattle.im_ledger.specs.Ledgers.{Held, IsLedger}
 
 -- a transaction has the clock's time, where the clock tells it
 abbrev pub HasTime : Option ℤ → Transaction → Type 0

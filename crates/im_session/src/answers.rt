@@ -5,10 +5,10 @@ ghost use Rattle.im_draft.specs.Drafts.{entry_of, AreEntries, AreFree};
 ghost use Rattle.im_draft.specs.declared.drafts.Draft.{Draft as TheDraft};
 ghost use Rattle.im_report.specs.Replies.{header_reply};
 ghost use Rattle.im_script.specs.declared.commands.Command.TheVariants.{Set, Link};
-ghost use Rattle.im_session.specs.Ledgers.{IsLedger};
+ghost use Rattle.im_ledger.specs.Ledgers.{IsLedger};
 ghost use Rattle.im_session.specs.Turns.{Answers, HasTime, Placed};
 
-use crate::ledger::Ledger;
+use im_ledger::ledger::Ledger;
 use im_digest::Hash32;
 use im_draft::drafts::Draft;
 use im_edge::clock::Clock;

@@ -2,7 +2,6 @@
 #![tactic(auto)]
 
 mod answers;
-mod ledger;
 mod proofs;
 pub mod serve;
 #[cfg(test)]

@@ -2,11 +2,11 @@ ghost use Rattle.std.specs.Prelude.{◌≡◌, [], All, IfOk, OnOk};
 ghost use Rattle.im_report.specs.Report.{Report};
 ghost use Rattle.im_accept.specs.Messages.{IsReadBack};
 ghost use Rattle.im_accept.specs.Taken.{AreReadBack, HaveSessions};
-ghost use Rattle.im_session.specs.Ledgers.{IsLedger};
+ghost use Rattle.im_ledger.specs.Ledgers.{IsLedger};
 ghost use Rattle.im_session.specs.Turns.{Answers, HasTime, Turn};
 
 use crate::answers::{answer_link, answer_set, header_text};
-use crate::ledger::Ledger;
+use im_ledger::ledger::Ledger;
 use crate::proofs::{advance_text, item_text, prove_text, state_text};
 use im_digest::Hash32;
 use im_edge::clock::Clock;

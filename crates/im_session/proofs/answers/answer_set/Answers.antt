@@ -5,7 +5,7 @@ use Rattle.im_draft.specs.declared.drafts.Draft.{Draft}
 use Rattle.im_draft.specs.declared.refusals.PrepareError.TheVariants.{Memory}
 use Rattle.im_report.specs.Replies.{refused_reply}
 use Rattle.im_script.specs.declared.commands.Command.TheVariants.{Set}
-use Rattle.im_session.specs.Ledgers.{Held}
+use Rattle.im_ledger.specs.Ledgers.{Held}
 use Rattle.im_session.specs.Turns.{Answers}
 use Rattle.im_session.proofs.TurnLemmas.{refused-answers, reserved-answers}
 use Rattle.im_session.proofs.answers.answer_set.Goals as goal

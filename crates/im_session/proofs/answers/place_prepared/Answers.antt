@@ -1,7 +1,7 @@
 use Rattle.std.proofs.Common.{◌≡◌, ◌≤◌, List, length, subst, ◌∙◌, arith}
 use Rattle.std.proofs.lemmas.Result.{IfOk-weaker}
 use Rattle.im_model.specs.declared.entries.Entry.{Entry}
-use Rattle.im_session.specs.Ledgers.{Held}
+use Rattle.im_ledger.specs.Ledgers.{Held}
 use Rattle.im_session.specs.Turns.{Placed}
 use Rattle.im_session.proofs.TurnLemmas.{full-answers, placed-answers}
 use Rattle.im_session.proofs.answers.place_prepared.Goals as goal

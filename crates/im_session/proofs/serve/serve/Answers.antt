@@ -6,7 +6,7 @@ use Rattle.im_digest.specs.Digests.{Hash}
 use Rattle.im_model.specs.declared.transactions.Transaction.{Transaction}
 use Rattle.im_script.specs.declared.commands.Line.{Line}
 use Rattle.im_report.proofs.ReportLemmas.{Standing, Standing-first}
-use Rattle.im_session.specs.Ledgers.{Held}
+use Rattle.im_ledger.specs.Ledgers.{Held}
 use Rattle.im_session.specs.Turns.{HasTime, Turn}
 use Rattle.im_session.proofs.AgainLemmas.{Told, Told-first, report-again, turn-told}
 use Rattle.im_session.proofs.TurnLemmas.{turn-report, turn-timed}

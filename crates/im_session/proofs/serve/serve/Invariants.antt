@@ -1,6 +1,6 @@
 use Rattle.std.proofs.Common.{◌≡◌, [], All, length}
 use Rattle.im_report.proofs.ReportLemmas.{Standing}
-use Rattle.im_session.specs.Ledgers.{IsLedger}
+use Rattle.im_ledger.specs.Ledgers.{IsLedger}
 use Rattle.im_session.specs.Turns.{HasTime}
 use Rattle.im_session.proofs.AgainLemmas.{Told}
 use Rattle.im_session.proofs.serve.serve.Given as goal

@@ -20,7 +20,7 @@ pub struct Ledger {
 }
 
 impl Model for Ledger {
-    ghost use Rattle.im_session.specs.Ledgers.{Held};
+    ghost use Rattle.im_ledger.specs.Ledgers.{Held};
 
     ghost Value = { Held };
 
@@ -31,7 +31,7 @@ impl Ledger {
     ghost use Rattle.std.specs.Prelude.{◌≡◌, ◌+◌, ◌<◌, ◌≤◌, [], ◌∷◌, ◌++◌, length, min, OnOk};
     ghost use Rattle.im_digest.specs.Digests.{Hash};
     ghost use Rattle.im_model.specs.History.{header_of, transaction_of, IsTransaction};
-    ghost use Rattle.im_session.specs.Ledgers.{IsLedger};
+    ghost use Rattle.im_ledger.specs.Ledgers.{IsLedger};
 
     /// The ledger of the empty history. It takes no memory.
     pub fn new(alloc: Global) -> Self

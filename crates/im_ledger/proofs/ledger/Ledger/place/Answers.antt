@@ -5,9 +5,9 @@ use Rattle.im_model.specs.History.{next_header}
 use Rattle.im_model.specs.declared.headers.Header.{Header}
 use Rattle.im_model.specs.declared.transactions.Transaction.{Transaction}
 use Rattle.im_model.proofs.HistoryLemmas.{length-alhs_of}
-use Rattle.im_session.specs.Ledgers.{Held}
-use Rattle.im_session.proofs.LedgerLemmas.{ledger-placed}
-use Rattle.im_session.proofs.ledger.Ledger.place.Goals as goal
+use Rattle.im_ledger.specs.Ledgers.{Held}
+use Rattle.im_ledger.proofs.LedgerLemmas.{ledger-placed}
+use Rattle.im_ledger.proofs.ledger.Ledger.place.Goals as goal
 
 pub header_after-requires-clause-few : goal.header_after-requires-clause-few
 header_after-requires-clause-few g c =
