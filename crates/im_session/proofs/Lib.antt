@@ -1,2 +1,4 @@
 pub mod AgainLemmas
+pub mod KeptLemmas
+pub mod ServedLemmas
 pub mod TurnLemmas
