@@ -21,7 +21,7 @@ use Rattle.im_accept.specs.Messages.{item_between, IsReadBack}
 use Rattle.im_accept.specs.Taken.{line_text, AreReadBack, HaveSessions}
 use Rattle.im_accept.proofs.CutLemmas.{answer-lacks, line-lacks, one-answers, texts-of}
 use Rattle.im_accept.proofs.TakenLemmas.{sessions-are}
-use Rattle.im_session.specs.Ledgers.{Held}
+use Rattle.im_ledger.specs.Ledgers.{Held}
 use Rattle.im_session.specs.Turns.{Turn}
 
 -- a reply that isn't open needs no reading
@@ -50,8 +50,8 @@ pub record Told (hash : Hash) (h : List Transaction) (lines : List Line) (octets
   pub plain : All (λ a. Lacks 10 a.reply) answers
   pub again : AreReadBack hash h answers
 
-pub Told-first : (hash : Hash) → Told hash [] [] []
-Told-first hash = record {
+pub Told-first : (hash : Hash) (found : List Transaction) → Told hash found [] []
+Told-first hash found = record {
   answers = [];
   lines_are = refl;
   octets_are = refl;
@@ -98,13 +98,13 @@ turn-told hash constant lines line before after old new told t =
     (answer-lacks hash after.transactions line.command (length after.transactions) t.reply t.answers.answer) (subst R grown t.again) told))
 
 -- they are the answered lines of the report
-pub report-again : (hash : Hash) (h : List Transaction) (lines : List Line) (octets : List ℕ) → Told hash h lines octets → (report : Report hash [] h lines octets)
+pub report-again : (hash : Hash) (found h : List Transaction) (lines : List Line) (octets : List ℕ) → Told hash h lines octets → (report : Report hash found h lines octets)
     → HaveSessions lines → AreReadBack hash h report.answers
-report-again hash h lines octets told report names =
+report-again hash found h lines octets told report names =
     let P : List Answered → Type 0 = λ as_told. AreReadBack hash h as_told in
     let few : length h ≤ 1048576 = report.history.few in
     let named : All (λ a. IsSession a.line.session) told.answers = sessions-are told.answers (subst (λ (ls : List Line). HaveSessions ls) (sym told.lines_are) names) in
     let texts = texts-of told.answers (λ k d w. line-lacks (get_or told.answers k d) (named k d w) (told.plain k d w)) in
     let Q : List ℕ → Type 0 = λ o. AreTexts o (map line_text told.answers) in
-    subst P (one-answers hash [] h lines octets report told.answers names told.lines_are (subst Q (sym told.octets_are) texts)
+    subst P (one-answers hash found h lines octets report told.answers names told.lines_are (subst Q (sym told.octets_are) texts)
     (λ k d w. let there : (get_or told.answers k d).number ≤ length h = told.within k d w in omega arith)) told.again

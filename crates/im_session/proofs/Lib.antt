@@ -1,3 +1,4 @@
 pub mod AgainLemmas
-pub mod LedgerLemmas
+pub mod KeptLemmas
+pub mod ServedLemmas
 pub mod TurnLemmas

@@ -19,7 +19,7 @@ use Rattle.im_script.specs.declared.commands.Command.{Command}
 use Rattle.im_script.specs.declared.commands.Command.TheVariants.{Set, Header, State, Prove, Advance, Item, Link}
 use Rattle.im_report.proofs.PlacedLemmas.{advance-not-placed, full-not-placed, header-not-placed, item-not-placed, linked-not-placed, prove-not-placed, refused-not-placed, reserved-not-placed, state-not-placed, tx-placed}
 use Rattle.im_report.proofs.ReportLemmas.{Standing, Standing-next}
-use Rattle.im_session.specs.Ledgers.{Held, IsLedger}
+use Rattle.im_ledger.specs.Ledgers.{Held, IsLedger}
 use Rattle.im_session.specs.Turns.{Answers, HasTime, Placed, Turn}
 
 -- a transaction of prepared entries lies within the limits behind others, over a tree of some of them
@@ -170,24 +170,17 @@ full-answers hash constant drafts held reply l full free are e =
     (ap (λ (r : List ℕ). bytes_eq r (tx_reply n)) e ∙ full-not-placed n) refl
 
 -- the report grows by the line
-pub turn-report : (hash : Hash) (constant : Option ℤ) (lines : List Line) (line : Line) (before after : Held) (old new : List ℕ)
-    → Standing hash [] before.transactions lines old (length before.tree) → Turn hash constant line before after old new
-    → Standing hash [] after.transactions (lines ++ line ∷ []) new (length after.tree)
-turn-report hash constant lines line before after old new r t =
+pub turn-report : (hash : Hash) (constant : Option ℤ) (found : List Transaction) (lines : List Line) (line : Line) (before after : Held) (old new : List ℕ)
+    → Standing hash found before.transactions lines old (length before.tree) → Turn hash constant line before after old new
+    → Standing hash found after.transactions (lines ++ line ∷ []) new (length after.tree)
+turn-report hash constant found lines line before after old new r t =
     let a : Answers hash constant line.command before after t.reply = t.answers in
     let h : List Transaction = before.transactions ++ a.more in
     let said : Answered = record { line = line; number = length after.transactions; reply = t.reply } in
-    let P : List Transaction → Type 0 = λ txs. Standing hash [] txs (lines ++ line ∷ []) new (length after.tree) in
-    let Q : List ℕ → Type 0 = λ o. Standing hash [] h (lines ++ line ∷ []) o (length after.tree) in
-    let R : ℕ → Type 0 = λ n. Standing hash [] h (lines ++ line ∷ []) (old ++ written said) n in
+    let P : List Transaction → Type 0 = λ txs. Standing hash found txs (lines ++ line ∷ []) new (length after.tree) in
+    let Q : List ℕ → Type 0 = λ o. Standing hash found h (lines ++ line ∷ []) o (length after.tree) in
+    let R : ℕ → Type 0 = λ n. Standing hash found h (lines ++ line ∷ []) (old ++ written said) n in
     let A : List Transaction → Type 0 = λ txs. IsAnswer hash txs line.command (length after.transactions) t.reply in
     let H : List Transaction → Type 0 = λ txs. IsHistory txs in
     subst P (sym a.grown) (subst Q (sym t.written) (subst R (sym a.floor)
-    (Standing-next hash [] before.transactions a.more lines old (length before.tree) said r (subst A a.grown a.answer) (ap length a.grown) a.count a.over (subst H a.grown a.ledger.history))))
-
--- each new transaction has the clock's time
-pub turn-timed : (hash : Hash) (constant : Option ℤ) (line : Line) (before after : Held) (old new : List ℕ)
-    → Turn hash constant line before after old new → All (HasTime constant) before.transactions → All (HasTime constant) after.transactions
-turn-timed hash constant line before after old new t timed =
-    let P : List Transaction → Type 0 = λ txs. All (HasTime constant) txs in
-    subst P (sym t.answers.grown) (All-append (HasTime constant) before.transactions t.answers.more timed t.answers.timed)
+    (Standing-next hash found before.transactions a.more lines old (length before.tree) said r (subst A a.grown a.answer) (ap length a.grown) a.count a.over (subst H a.grown a.ledger.history))))

@@ -1,2 +1,3 @@
-pub mod Ledgers
+pub mod Moves
+pub mod Served
 pub mod Turns

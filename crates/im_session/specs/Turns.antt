@@ -8,8 +8,9 @@ use Rattle.im_report.specs.Replies.{tx_reply}
 use Rattle.im_report.specs.Report.{IsAnswer, floor_by, reply_line}
 use Rattle.im_script.specs.declared.commands.Line.{Line}
 use Rattle.im_script.specs.declared.commands.Command.{Command}
+use Rattle.im_script.specs.declared.commands.Command.TheVariants.{Set, Header, State, Prove, Advance, Item, Link}
 use Rattle.im_accept.specs.Messages.{IsReadBack}
-use Rattle.im_session.specs.Ledgers.{Held, IsLedger}
+use Rattle.im_ledger.specs.Ledgers.{Held, IsLedger}
 
 -- a transaction has the clock's time, where the clock tells it
 abbrev pub HasTime : Option ℤ → Transaction → Type 0
@@ -25,6 +26,16 @@ pub record Placed (hash : Hash) (constant : Option ℤ) (entries : List Entry) (
   pub tree : after.tree ≡ before.tree
   pub ledger : IsLedger hash after
   pub told : reply ≡ tx_reply (length after.transactions)
+
+-- a command that changes nothing: its reply is read off the ledger
+abbrev pub IsReading : Command → Type 0
+IsReading (Set drafts) = ⊥
+IsReading (Header k) = Unit {0}
+IsReading State = Unit {0}
+IsReading (Prove s t) = Unit {0}
+IsReading (Advance s t) = Unit {0}
+IsReading (Item t i under) = Unit {0}
+IsReading (Link count) = ⊥
 
 -- a command was answered by this reply: what it placed stands behind the history, over the tree as it was,
 -- and the tree is as large as the command makes it

@@ -1,17 +1,24 @@
-ghost use Rattle.std.specs.Prelude.{◌≡◌, ◌<◌, ℤ, List, length, map, FitsSigned, IfOk, Option};
+ghost use Rattle.std.specs.Prelude.{◌≡◌, ◌<◌, ℤ, List, length, map, FitsSigned, IfOk, OnOk, Option};
 ghost use Rattle.std.specs.Int.{w64};
 ghost use Rattle.im_digest.specs.Digests.{Hash};
+ghost use Rattle.im_disk.specs.Moments.{Leaves};
 ghost use Rattle.im_draft.specs.Drafts.{entry_of, AreEntries, AreFree};
 ghost use Rattle.im_draft.specs.declared.drafts.Draft.{Draft as TheDraft};
 ghost use Rattle.im_report.specs.Replies.{header_reply};
 ghost use Rattle.im_script.specs.declared.commands.Command.TheVariants.{Set, Link};
-ghost use Rattle.im_session.specs.Ledgers.{IsLedger};
+ghost use Rattle.im_ledger.specs.Causes.{HasCommitCause};
+ghost use Rattle.im_ledger.specs.Histories.{IsKept};
+ghost use Rattle.im_ledger.specs.Ledgers.{IsLedger};
+ghost use Rattle.im_session.specs.Moves.{MayPlace, MayPlaceOne, StandsBetween};
 ghost use Rattle.im_session.specs.Turns.{Answers, HasTime, Placed};
 
-use crate::ledger::Ledger;
 use im_digest::Hash32;
+use im_disk::disk::Disk;
 use im_draft::drafts::Draft;
 use im_edge::clock::Clock;
+use im_ledger::errors::CommitError;
+use im_ledger::kept::KeptLedger;
+use im_ledger::ledger::Ledger;
 use im_model::entries::Entries;
 use im_model::transactions::Transaction;
 use im_report::replies::{beyond_text, header_shown, refused_text, reserved_text, tx_text};
@@ -36,74 +43,90 @@ fn transaction_now<C: Clock>(clock: &mut C, entries: Entries, bl: u64) -> Transa
 }
 
 // Places a transaction of the prepared entries, at the clock's time and over the tree as it is.
-fn place<H: Hash32, C: Clock>(
+fn place<D: Disk, H: Hash32, C: Clock>(
     alloc: Global,
     hash: &H,
     clock: &mut C,
-    ledger: &mut Ledger,
+    kept: &mut KeptLedger<D>,
     prepared: Prepared,
-) -> Result<Vec<u8>, AllocError>
-    requires ledger { IsLedger (H.digest hash.now) ledger.old }
-    requires room { length ledger.old.transactions < 1048576 }
-    ensures placed { IfOk result (λ reply. Placed (H.digest hash.now) (C.constant clock.old) prepared.entries ledger.old ledger.new reply.items) }
+) -> Result<Vec<u8>, CommitError>
+    requires kept { IsKept D.told (H.digest hash.now) kept.old }
+    requires room { length kept.old.held.transactions < 1048576 }
+    ensures placed { IfOk result (λ reply. Placed (H.digest hash.now) (C.constant clock.old) prepared.entries kept.old.held kept.new.held reply.items) }
+    ensures kept { OnOk result (IsKept D.told (H.digest hash.now) kept.new) }
+    ensures moments { OnOk result (Leaves (StandsBetween (H.digest hash.now) kept.old.held.transactions kept.new.held.transactions) (D.told kept.old.journal.disk) (D.told kept.new.journal.disk)) }
+    ensures left { MayPlaceOne (H.digest hash.now) (C.constant clock.old) prepared.entries kept.old.held.transactions (D.told kept.old.journal.disk) (D.told kept.new.journal.disk) }
+    ensures cause { HasCommitCause (D.faults kept.old.journal.disk) (D.faults kept.new.journal.disk) result }
     ensures same { C.constant clock.new ≡ C.constant clock.old }
 {
     let (entries, _) = prepared.into_parts();
-    let tx = transaction_now(clock, entries, ledger.tree().size());
-    ledger.place(alloc, hash, tx)?;
-    tx_text(alloc, ledger.count())
+    let tx = transaction_now(clock, entries, kept.ledger().tree().size());
+    kept.commit(alloc, hash, tx)?;
+    Ok(tx_text(alloc, kept.ledger().count())?)
 }
 
 // Places prepared entries, unless the history holds as many transactions as it may.
-fn place_prepared<H: Hash32, C: Clock>(
+fn place_prepared<D: Disk, H: Hash32, C: Clock>(
     alloc: Global,
     hash: &H,
     clock: &mut C,
-    ledger: &mut Ledger,
+    kept: &mut KeptLedger<D>,
     prepared: Prepared,
-) -> Result<Vec<u8>, AllocError>
-    requires { IsLedger (H.digest hash.now) ledger.old }
+) -> Result<Vec<u8>, CommitError>
+    requires { IsKept D.told (H.digest hash.now) kept.old }
     ensures answers { IfOk result (λ reply. (drafts : List TheDraft) → AreFree drafts → AreEntries drafts → prepared.entries ≡ map entry_of drafts
-        → Answers (H.digest hash.now) (C.constant clock.old) (Set drafts) ledger.old ledger.new reply.items) }
+        → Answers (H.digest hash.now) (C.constant clock.old) (Set drafts) kept.old.held kept.new.held reply.items) }
+    ensures kept { OnOk result (IsKept D.told (H.digest hash.now) kept.new) }
+    ensures moments { OnOk result (Leaves (StandsBetween (H.digest hash.now) kept.old.held.transactions kept.new.held.transactions) (D.told kept.old.journal.disk) (D.told kept.new.journal.disk)) }
+    ensures left { (drafts : List TheDraft) → AreFree drafts → AreEntries drafts → prepared.entries ≡ map entry_of drafts
+        → MayPlace (H.digest hash.now) (C.constant clock.old) (Set drafts) kept.old.held.transactions (D.told kept.old.journal.disk) (D.told kept.new.journal.disk) }
+    ensures cause { HasCommitCause (D.faults kept.old.journal.disk) (D.faults kept.new.journal.disk) result }
     ensures same { C.constant clock.new ≡ C.constant clock.old }
 {
-    if ledger.count() >= MOST_TRANSACTIONS {
-        return Vec::from_slice(alloc, b"full");
+    if kept.ledger().count() >= MOST_TRANSACTIONS {
+        return Ok(Vec::from_slice(alloc, b"full")?);
     }
-    place(alloc, hash, clock, ledger, prepared)
+    place(alloc, hash, clock, kept, prepared)
 }
 
 /// Answers `set`: places a transaction of the drafts, unless they are refused.
-pub(crate) fn answer_set<H: Hash32, C: Clock>(
+pub(crate) fn answer_set<D: Disk, H: Hash32, C: Clock>(
     alloc: Global,
     hash: &H,
     clock: &mut C,
-    ledger: &mut Ledger,
+    kept: &mut KeptLedger<D>,
     drafts: Vec<Draft>,
-) -> Result<Vec<u8>, AllocError>
-    requires { IsLedger (H.digest hash.now) ledger.old }
-    ensures answers { IfOk result (λ reply. Answers (H.digest hash.now) (C.constant clock.old) (Set drafts.items) ledger.old ledger.new reply.items) }
+) -> Result<Vec<u8>, CommitError>
+    requires { IsKept D.told (H.digest hash.now) kept.old }
+    ensures answers { IfOk result (λ reply. Answers (H.digest hash.now) (C.constant clock.old) (Set drafts.items) kept.old.held kept.new.held reply.items) }
+    ensures kept { OnOk result (IsKept D.told (H.digest hash.now) kept.new) }
+    ensures moments { OnOk result (Leaves (StandsBetween (H.digest hash.now) kept.old.held.transactions kept.new.held.transactions) (D.told kept.old.journal.disk) (D.told kept.new.journal.disk)) }
+    ensures left { MayPlace (H.digest hash.now) (C.constant clock.old) (Set drafts.items) kept.old.held.transactions (D.told kept.old.journal.disk) (D.told kept.new.journal.disk) }
+    ensures cause { HasCommitCause (D.faults kept.old.journal.disk) (D.faults kept.new.journal.disk) result }
     ensures same { C.constant clock.new ≡ C.constant clock.old }
 {
     if let Some(i) = first_reserved(&drafts) {
-        return reserved_text(alloc, i as u64);
+        return Ok(reserved_text(alloc, i as u64)?);
     }
     match prepare(alloc, drafts, Vec::new(alloc)) {
-        Ok(prepared) => place_prepared(alloc, hash, clock, ledger, prepared),
-        Err(why) => refused_text(alloc, why),
+        Ok(prepared) => place_prepared(alloc, hash, clock, kept, prepared),
+        Err(why) => Ok(refused_text(alloc, why)?),
     }
 }
 
-/// Answers `link`: raises the tree.
-pub(crate) fn answer_link(
+/// Answers `link`: raises the tree, which is in memory alone.
+pub(crate) fn answer_link<D: Disk>(
     alloc: Global,
-    ledger: &mut Ledger,
+    kept: &mut KeptLedger<D>,
     count: u64,
 ) -> Result<Vec<u8>, AllocError>
-    requires { (hash : Hash) × IsLedger hash ledger.old }
-    ensures { IfOk result (λ reply. (hash : Hash) (constant : Option ℤ) → IsLedger hash ledger.old → Answers hash constant (Link count) ledger.old ledger.new reply.items) }
+    requires { (hash : Hash) × IsKept D.told hash kept.old }
+    ensures answers { IfOk result (λ reply. (hash : Hash) (constant : Option ℤ) → IsKept D.told hash kept.old → Answers hash constant (Link count) kept.old.held kept.new.held reply.items) }
+    ensures kept { (hash : Hash) → IsKept D.told hash kept.old → OnOk result (IsKept D.told hash kept.new) }
+    ensures journal { kept.new.journal ≡ kept.old.journal }
+    ensures same { OnOk result (kept.new.held.transactions ≡ kept.old.held.transactions) }
 {
-    ledger.link(count)?;
+    kept.link(count)?;
     Vec::from_slice(alloc, b"linked")
 }
 

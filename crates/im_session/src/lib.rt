@@ -1,8 +1,7 @@
-//! The session: it answers the lines of a script in order, over a ledger of its history.
+//! The session: it answers the lines of a script in order, over a ledger that is kept on a disk.
 #![tactic(auto)]
 
 mod answers;
-mod ledger;
 mod proofs;
 pub mod serve;
 #[cfg(test)]

@@ -1,35 +1,38 @@
-ghost use Rattle.std.specs.Prelude.{◌≡◌, [], All, IfOk, OnOk};
-ghost use Rattle.im_report.specs.Report.{Report};
+ghost use Rattle.std.specs.Prelude.{◌≡◌, ℤ, length, Option, IfOk, OnOk, OnErr};
+ghost use Rattle.im_disk.specs.Moments.{Leaves};
 ghost use Rattle.im_accept.specs.Messages.{IsReadBack};
-ghost use Rattle.im_accept.specs.Taken.{AreReadBack, HaveSessions};
-ghost use Rattle.im_session.specs.Ledgers.{IsLedger};
-ghost use Rattle.im_session.specs.Turns.{Answers, HasTime, Turn};
+ghost use Rattle.im_ledger.specs.Causes.{HasCommitCause};
+ghost use Rattle.im_ledger.specs.Histories.{IsKept};
+ghost use Rattle.im_ledger.specs.Ledgers.{IsLedger};
+ghost use Rattle.im_session.specs.Moves.{MayPlace, StandsBetween};
+ghost use Rattle.im_session.specs.Served.{Serves, ServesAll};
+ghost use Rattle.im_session.specs.Turns.{Answers, IsReading, Turn};
 
 use crate::answers::{answer_link, answer_set, header_text};
-use crate::ledger::Ledger;
 use crate::proofs::{advance_text, item_text, prove_text, state_text};
 use im_digest::Hash32;
+use im_disk::disk::Disk;
 use im_edge::clock::Clock;
-use im_model::transactions::Transaction;
+use im_ledger::errors::CommitError;
+use im_ledger::kept::KeptLedger;
+use im_ledger::ledger::Ledger;
 use im_report::replies::reply_text;
 use im_script::commands::{Command, Line};
 use std::alloc::{AllocError, Global};
 
-// Answers a command.
-fn answer<H: Hash32, C: Clock>(
+// Answers a command that changes nothing: its reply is read off the ledger.
+fn read<H: Hash32>(
     alloc: Global,
     hash: &H,
-    clock: &mut C,
-    ledger: &mut Ledger,
+    ledger: &Ledger,
     command: Command,
 ) -> Result<Vec<u8>, AllocError>
-    requires { IsLedger (H.digest hash.now) ledger.old }
-    ensures answers { IfOk result (λ reply. Answers (H.digest hash.now) (C.constant clock.old) command ledger.old ledger.new reply.items) }
-    ensures again { IfOk result (λ reply. IsReadBack (H.digest hash.now) ledger.new.transactions command reply.items) }
-    ensures same { C.constant clock.new ≡ C.constant clock.old }
+    requires ledger { IsLedger (H.digest hash.now) ledger.now }
+    requires reading { IsReading command }
+    ensures answers { (constant : Option ℤ) → IfOk result (λ reply. Answers (H.digest hash.now) constant command ledger.now ledger.now reply.items) }
+    ensures again { IfOk result (λ reply. IsReadBack (H.digest hash.now) ledger.now.transactions command reply.items) }
 {
     match command {
-        Command::Set { drafts } => answer_set(alloc, hash, clock, ledger, drafts.into_vec()),
         Command::Header { number } => header_text(alloc, hash, ledger, number),
         Command::State => state_text(alloc, hash, ledger),
         Command::Prove { source, target } => prove_text(alloc, hash, ledger, source, target),
@@ -39,57 +42,103 @@ fn answer<H: Hash32, C: Clock>(
             index,
             under,
         } => item_text(alloc, hash, ledger, number, index, under),
-        Command::Link { count } => answer_link(alloc, ledger, count),
+        Command::Set { .. } | Command::Link { .. } => unreachable!(),
     }
 }
 
-// Answers a line, and writes its reply behind the others.
-fn turn<H: Hash32, C: Clock>(
+// Answers a command.
+fn answer<D: Disk, H: Hash32, C: Clock>(
     alloc: Global,
     hash: &H,
     clock: &mut C,
-    ledger: &mut Ledger,
+    kept: &mut KeptLedger<D>,
+    command: Command,
+) -> Result<Vec<u8>, CommitError>
+    requires { IsKept D.told (H.digest hash.now) kept.old }
+    ensures answers { IfOk result (λ reply. Answers (H.digest hash.now) (C.constant clock.old) command kept.old.held kept.new.held reply.items) }
+    ensures again { IfOk result (λ reply. IsReadBack (H.digest hash.now) kept.new.held.transactions command reply.items) }
+    ensures kept { OnOk result (IsKept D.told (H.digest hash.now) kept.new) }
+    ensures moments { OnOk result (Leaves (StandsBetween (H.digest hash.now) kept.old.held.transactions kept.new.held.transactions) (D.told kept.old.journal.disk) (D.told kept.new.journal.disk)) }
+    ensures left { MayPlace (H.digest hash.now) (C.constant clock.old) command kept.old.held.transactions (D.told kept.old.journal.disk) (D.told kept.new.journal.disk) }
+    ensures cause { HasCommitCause (D.faults kept.old.journal.disk) (D.faults kept.new.journal.disk) result }
+    ensures same { C.constant clock.new ≡ C.constant clock.old }
+{
+    match command {
+        Command::Set { drafts } => answer_set(alloc, hash, clock, kept, drafts.into_vec()),
+        Command::Link { count } => Ok(answer_link(alloc, kept, count)?),
+        command => Ok(read(alloc, hash, kept.ledger(), command)?),
+    }
+}
+
+// Answers a line, and writes its reply behind the others. After an error nothing was written for it.
+fn turn<D: Disk, H: Hash32, C: Clock>(
+    alloc: Global,
+    hash: &H,
+    clock: &mut C,
+    kept: &mut KeptLedger<D>,
     out: &mut Vec<u8>,
     line: Line,
-) -> Result<(), AllocError>
-    requires { IsLedger (H.digest hash.now) ledger.old }
-    ensures turn { OnOk result (Turn (H.digest hash.now) (C.constant clock.old) line ledger.old ledger.new out.old.items out.new.items) }
+) -> Result<(), CommitError>
+    requires { IsKept D.told (H.digest hash.now) kept.old }
+    ensures turn { OnOk result (Turn (H.digest hash.now) (C.constant clock.old) line kept.old.held kept.new.held out.old.items out.new.items) }
+    ensures kept { OnOk result (IsKept D.told (H.digest hash.now) kept.new) }
+    ensures moments { OnOk result (Leaves (StandsBetween (H.digest hash.now) kept.old.held.transactions kept.new.held.transactions) (D.told kept.old.journal.disk) (D.told kept.new.journal.disk)) }
+    ensures nothing { OnErr result (out.new.items ≡ out.old.items) }
+    ensures left { MayPlace (H.digest hash.now) (C.constant clock.old) line.command kept.old.held.transactions (D.told kept.old.journal.disk) (D.told kept.new.journal.disk) }
+    ensures cause { HasCommitCause (D.faults kept.old.journal.disk) (D.faults kept.new.journal.disk) result }
     ensures same { C.constant clock.new ≡ C.constant clock.old }
 {
     let Line { session, command } = line;
-    let reply = answer(alloc, hash, clock, ledger, command)?;
-    let text = reply_text(alloc, session.as_slice(), ledger.count(), reply.as_slice())?;
-    out.extend_from_slice(text.as_slice())
+    let reply = answer(alloc, hash, clock, kept, command)?;
+    let count = kept.ledger().count();
+    let text = reply_text(alloc, session.as_slice(), count, reply.as_slice())?;
+    out.extend_from_slice(text.as_slice())?;
+    Ok(())
 }
 
-/// A history, and what was written for the lines that made it.
+/// What a session left: the disk, what was written for the lines that were answered, and why it ended before
+/// the last line, if it did.
 #[derive(Drop)]
-pub struct Served {
-    pub history: Vec<Transaction>,
+pub struct Served<D: Disk> {
+    /// The disk.
+    pub disk: D,
+    /// The replies, one for each line that was answered, in order.
     pub out: Vec<u8>,
+    /// `Ok` where all lines were answered; else why the next one wasn't.
+    pub end: Result<(), CommitError>,
 }
 
-/// Answers the lines of a script in order by one session, from the empty history on. Each reply that is a
-/// message is read as the one that was asked for. The only error is want of memory.
-pub fn serve<H: Hash32, C: Clock>(
+/// Answers the lines of a script in order by one session, from the history that a disk keeps on. Each
+/// transaction is durable before its line gets its reply, and each reply that is a message is read as the one
+/// that was asked for. The first line that isn't answered ends the session: the disk then holds the history
+/// with what that line was to place, or without it.
+pub fn serve<D: Disk, H: Hash32, C: Clock>(
     alloc: Global,
     hash: &H,
     clock: &mut C,
+    mut kept: KeptLedger<D>,
     lines: Vec<Line>,
-) -> Result<Served, AllocError>
-    ensures report { IfOk result (λ served. Report (H.digest hash.now) [] served.history.items lines.items served.out.items) }
-    ensures again { IfOk result (λ served. (report : Report (H.digest hash.now) [] served.history.items lines.items served.out.items)
-        → HaveSessions lines.items → AreReadBack (H.digest hash.now) served.history.items report.answers) }
-    ensures timed { IfOk result (λ served. All (HasTime (C.constant clock.old)) served.history.items) }
+) -> Served<D>
+    requires kept { IsKept D.told (H.digest hash.now) kept }
+    requires filled { length kept.held.tree ≡ length kept.held.transactions }
+    ensures some { Serves (H.digest hash.now) (C.constant clock.old) kept.held.transactions lines.items (D.told kept.journal.disk) (D.told result.disk) result.out.items }
+    ensures all { OnOk result.end (ServesAll (H.digest hash.now) (C.constant clock.old) kept.held.transactions lines.items (D.told kept.journal.disk) (D.told result.disk) result.out.items) }
+    ensures cause { HasCommitCause (D.faults kept.journal.disk) (D.faults result.disk) result.end }
     ensures same { C.constant clock.new ≡ C.constant clock.old }
 {
-    let mut ledger = Ledger::new(alloc);
     let mut out = Vec::new(alloc);
     for line in lines {
-        turn(alloc, hash, clock, &mut ledger, &mut out, line)?;
+        if let Err(error) = turn(alloc, hash, clock, &mut kept, &mut out, line) {
+            return Served {
+                disk: kept.into_disk(),
+                out,
+                end: Err(error),
+            };
+        }
     }
-    Ok(Served {
-        history: ledger.into_transactions(),
+    Served {
+        disk: kept.into_disk(),
         out,
-    })
+        end: Ok(()),
+    }
 }

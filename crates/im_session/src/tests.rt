@@ -6,9 +6,20 @@
 //! fourth, whose tree of a0 and 42 has the root e3. An Alh adds its number and the Alh before it: a0, 42, e6
 //! and 71.
 
-use crate::serve::serve;
+ghost use Rattle.std.specs.Prelude.{◌≡◌, length, IfOk, Some};
+ghost use Rattle.im_digest.specs.Digests.{sum_digest};
+ghost use Rattle.im_disk.specs.Recorded.{told_by};
+ghost use Rattle.im_ledger.specs.Histories.{IsKept};
+
+use crate::serve::{Served, serve};
 use im_digest::Sum;
+use im_disk::memory::MemDisk;
 use im_edge::clock::FixedClock;
+use im_journal::journal::Journal;
+use im_ledger::errors::CommitError;
+use im_ledger::kept::KeptLedger;
+use im_ledger::ledger::Ledger;
+use im_octet::octets::Octets;
 use im_script::scripts::read_script;
 use std::alloc::{AllocError, Global};
 use std::test::Fail;
@@ -47,14 +58,73 @@ fn written_out(alloc: Global, parts: &[&[u8]]) -> Result<Vec<u8>, AllocError> {
     Ok(out)
 }
 
-// What a session at the time 0 writes for a script in two parts.
+// The empty history on a disk with a closed gate and nothing else, whose calls of these numbers fail.
+fn nothing_kept(alloc: Global, failing: Vec<u64>) -> Result<KeptLedger<MemDisk>, AllocError>
+    ensures kept { IfOk result (IsKept (λ disk. Some (told_by disk)) sum_digest) }
+    ensures filled { IfOk result (λ kept. length kept.held.tree ≡ length kept.held.transactions) }
+{
+    let gate = Octets::from_slice(alloc, &[0])?;
+    let files = vec![in alloc; Octets::new(alloc), gate]?;
+    let disk = MemDisk::from_files(alloc, files, failing)?;
+    let journal = Journal::resume(alloc, disk, [0; 6], 0);
+    Ok(KeptLedger::over(journal, Ledger::new(alloc), 1))
+}
+
+// What a session at the time 0 leaves for a script, on a disk whose calls of these numbers fail.
+fn session(alloc: Global, failing: Vec<u64>, script: &[u8]) -> Result<Served<MemDisk>, Fail> {
+    let Ok(lines) = read_script(alloc, script) else {
+        return Err(Fail::from("a script"));
+    };
+    let kept = nothing_kept(alloc, failing)?;
+    Ok(serve(alloc, &Sum, &mut FixedClock { time: 0 }, kept, lines))
+}
+
+// What it writes for a script in two parts.
 fn served(alloc: Global, first: &[u8], second: &[u8]) -> Result<Vec<u8>, Fail> {
     let mut script = Vec::from_slice(alloc, first)?;
     script.extend_from_slice(second)?;
-    let Ok(lines) = read_script(alloc, script.as_slice()) else {
-        return Err(Fail::from("a script"));
-    };
-    Ok(serve(alloc, &Sum, &mut FixedClock { time: 0 }, lines)?.out)
+    Ok(session(alloc, Vec::new(alloc), script.as_slice())?.out)
+}
+
+// One write for the value, one for the record and one for the batch, a sync, the gate, a sync.
+#[test]
+fn a_transaction_is_on_the_disk(rt: HostRuntime) -> Result<(), Fail> {
+    let alloc = rt.alloc();
+    let served = session(alloc, Vec::new(alloc), b"a: set k=abc\n")?;
+    assert_eq!(rt; served.end, Ok(()));
+    assert_eq!(rt; served.out.as_slice(), b"a 1 tx 1\n".as_slice());
+    assert_eq!(rt; served.disk.file(2), b"abc".as_slice());
+    assert_eq!(rt; served.disk.time(), 6);
+    Ok(())
+}
+
+#[test]
+fn a_line_whose_gate_is_not_written_has_no_reply(rt: HostRuntime) -> Result<(), Fail> {
+    let alloc = rt.alloc();
+    let served = session(alloc, vec![in alloc; 5]?, b"a: set k=1\n")?;
+    assert_eq!(rt; served.end, Err(CommitError::DiskFault));
+    assert_eq!(rt; served.out.as_slice(), b"".as_slice());
+    assert_eq!(rt; served.disk.file(1).first(), Some(&0));
+    assert_eq!(rt; served.disk.time(), 5);
+    Ok(())
+}
+
+// The replies to the lines before it stay, and those behind it aren't answered.
+#[test]
+fn a_fault_ends_the_session(rt: HostRuntime) -> Result<(), Fail> {
+    let alloc = rt.alloc();
+    let served = session(
+        alloc,
+        vec![in alloc; 11]?,
+        b"a: header 1\na: set k=1\na: set k=2\na: header 3\n",
+    )?;
+    assert_eq!(rt; served.end, Err(CommitError::DiskFault));
+    assert_eq!(rt;
+        served.out.as_slice(),
+        b"a 0 refused beyond 0\na 1 tx 1\n".as_slice()
+    );
+    assert_eq!(rt; served.disk.time(), 11);
+    Ok(())
 }
 
 #[test]

@@ -1,36 +1,62 @@
-use Rattle.std.proofs.Common.{◌≡◌, ℕ, ℤ, List, Option, Ok, Err, IfOk, OnOk, subst, inl, inr}
-use Rattle.std.proofs.lemmas.Result.{IfOk-weaker}
+use Rattle.std.proofs.Common.{◌≡◌, ℕ, ℤ, List, Option, refl, subst, sym, inl, inr}
+use Rattle.im_digest.specs.Digests.{Hash}
 use Rattle.im_draft.specs.Drafts.{AreFree, IsReserved}
 use Rattle.im_draft.specs.declared.drafts.Draft.{Draft}
-use Rattle.im_draft.specs.declared.refusals.PrepareError.TheVariants.{Memory}
-use Rattle.im_report.specs.Replies.{refused_reply}
 use Rattle.im_script.specs.declared.commands.Command.TheVariants.{Set}
-use Rattle.im_session.specs.Ledgers.{Held}
-use Rattle.im_session.specs.Turns.{Answers}
+use Rattle.im_ledger.specs.Histories.{KeptHistory}
+use Rattle.im_session.proofs.KeptLemmas.{between-same, nothing-placed}
 use Rattle.im_session.proofs.TurnLemmas.{refused-answers, reserved-answers}
 use Rattle.im_session.proofs.answers.answer_set.Goals as goal
+
+pub returns-in_err-reserved_text-clause-left : goal.returns-in_err-reserved_text-clause-left
+returns-in_err-reserved_text-clause-left g c =
+    let kept : KeptHistory g.row.D.Denot = c.args.kept.now in
+    nothing-placed g.D.Disk.told (g.H.Hash32.digest c.args.hash.now) kept c.requires (g.C.Clock.constant c.args.clock.now) (Set c.args.drafts.items) kept.journal refl
 
 pub returns-in-Some-clause-answers : goal.returns-in-Some-clause-answers
 returns-in-Some-clause-answers g c =
     let P : List Draft → Type 0 = λ ds. IsReserved ds c.in-Some.i in
     let first = subst P c.deref.ensures.value c.in-Some.ensures.some in
-    IfOk-weaker c.reserved_text.result _ _
-    (λ reply e. reserved-answers (g.H.Hash32.digest c.args.hash.now) (g.C.Clock.constant c.args.clock.now) c.args.drafts.items c.in-Some.i c.args.ledger.now reply.items c.requires first e)
-    c.reserved_text.ensures
+    reserved-answers (g.H.Hash32.digest c.args.hash.now) (g.C.Clock.constant c.args.clock.now) c.args.drafts.items c.in-Some.i c.args.kept.now.held c.in_ok-reserved_text.field-0.items c.requires.ledger first
+    c.in_ok-reserved_text.ensures
 
-pub returns-in-Err-clause-answers : goal.returns-in-Err-clause-answers
-returns-in-Err-clause-answers g c =
-    let hash : List ℕ → List ℕ = g.H.Hash32.digest c.args.hash.now in
-    let constant : Option ℤ = g.C.Clock.constant c.args.clock.now in
-    let drafts : List Draft = c.args.drafts.items in
-    let before : Held = c.args.ledger.now in
-    let why = c.in-Err.why in
+pub returns-in-Some-clause-moments : goal.returns-in-Some-clause-moments
+returns-in-Some-clause-moments g c =
+    let kept : KeptHistory g.row.D.Denot = c.args.kept.now in
+    between-same g.D.Disk.told (g.H.Hash32.digest c.args.hash.now) kept c.requires kept refl refl
+
+pub returns-in-Some-clause-left : goal.returns-in-Some-clause-left
+returns-in-Some-clause-left g c =
+    let kept : KeptHistory g.row.D.Denot = c.args.kept.now in
+    nothing-placed g.D.Disk.told (g.H.Hash32.digest c.args.hash.now) kept c.requires (g.C.Clock.constant c.args.clock.now) (Set c.args.drafts.items) kept.journal refl
+
+pub returns-in-Ok-clause-left : goal.returns-in-Ok-clause-left
+returns-in-Ok-clause-left g c =
     let F : List Draft → Type 0 = λ ds. AreFree ds in
-    let free : F drafts = subst F c.deref.ensures.value c.in_default.ensures.none in
-    elim c.refused_text.result as (λ r. IfOk r (λ t. t.items ≡ refused_reply why) → OnOk r (why ≡ Memory → ⊥) → IfOk r (λ t. Answers hash constant (Set drafts) before before t.items)) [
-      | Ok reply ↦ λ e given. elim c.in-Err.ensures.err [
-        | inl none ↦ absurd (given none)
-        | inr refuses ↦ refused-answers hash constant drafts why before reply.items c.requires free refuses e
-      ]
-      | Err _ ↦ λ e given. tt
-    ] c.refused_text.ensures.text c.refused_text.ensures.refused
+    c.place_prepared.ensures.left c.args.drafts.items (subst F c.deref.ensures.value c.in_default.ensures.none) c.in-Ok.ensures.entries c.in-Ok.ensures.ok
+
+pub returns-in_err-refused_text-in-Err-clause-left : goal.returns-in_err-refused_text-in-Err-clause-left
+returns-in_err-refused_text-in-Err-clause-left g c =
+    let kept : KeptHistory g.row.D.Denot = c.args.kept.now in
+    nothing-placed g.D.Disk.told (g.H.Hash32.digest c.args.hash.now) kept c.requires (g.C.Clock.constant c.args.clock.now) (Set c.args.drafts.items) kept.journal refl
+
+pub returns-in_ok-refused_text-in-Err-clause-answers : goal.returns-in_ok-refused_text-in-Err-clause-answers
+returns-in_ok-refused_text-in-Err-clause-answers g c =
+    let F : List Draft → Type 0 = λ ds. AreFree ds in
+    let free : F c.args.drafts.items = subst F c.deref.ensures.value c.in_default.ensures.none in
+    let done = c.in_ok-refused_text-in-Err in
+    elim c.in-Err.ensures.err [
+      | inl none ↦ absurd (done.ensures.refused none)
+      | inr refuses ↦ refused-answers (g.H.Hash32.digest c.args.hash.now) (g.C.Clock.constant c.args.clock.now) c.args.drafts.items c.in-Err.why c.args.kept.now.held done.field-0.items
+          c.requires.ledger free refuses done.ensures.text
+    ]
+
+pub returns-in_ok-refused_text-in-Err-clause-moments : goal.returns-in_ok-refused_text-in-Err-clause-moments
+returns-in_ok-refused_text-in-Err-clause-moments g c =
+    let kept : KeptHistory g.row.D.Denot = c.args.kept.now in
+    between-same g.D.Disk.told (g.H.Hash32.digest c.args.hash.now) kept c.requires kept refl refl
+
+pub returns-in_ok-refused_text-in-Err-clause-left : goal.returns-in_ok-refused_text-in-Err-clause-left
+returns-in_ok-refused_text-in-Err-clause-left g c =
+    let kept : KeptHistory g.row.D.Denot = c.args.kept.now in
+    nothing-placed g.D.Disk.told (g.H.Hash32.digest c.args.hash.now) kept c.requires (g.C.Clock.constant c.args.clock.now) (Set c.args.drafts.items) kept.journal refl

@@ -1,8 +1,8 @@
 use Rattle.std.proofs.Common.{◌≡◌, ◌≤◌, List, ℕ, length, subst, sym, ap, ◌∙◌, arith}
 use Rattle.im_model.specs.declared.headers.Header.{Header}
 use Rattle.im_dual.specs.Kept.{header_at}
-use Rattle.im_session.specs.Ledgers.{Held}
-use Rattle.im_session.proofs.LedgerLemmas.{headers-counted, trees-within}
+use Rattle.im_ledger.specs.Ledgers.{Held}
+use Rattle.im_ledger.proofs.LedgerLemmas.{headers-counted, trees-within}
 use Rattle.im_session.proofs.proofs.dual_between.Goals as goal
 
 pub build-requires-clause-within : goal.build-requires-clause-within

@@ -1,33 +1,58 @@
-use Rattle.std.proofs.lemmas.Result.{IfOk-weaker}
-use Rattle.im_session.proofs.TurnLemmas.{advance-answers, header-answers, item-answers, prove-answers, state-answers}
+use Rattle.std.proofs.Common.{◌≡◌, ℤ, ℕ, List, Option, Err, ap, refl, subst, ◌∙◌}
+use Rattle.std.proofs.lemmas.Result.{err_from_is_err_and}
+use Rattle.im_accept.specs.Messages.{IsReadBack}
+use Rattle.im_digest.specs.Digests.{Hash}
+use Rattle.im_model.specs.declared.transactions.Transaction.{Transaction}
+use Rattle.im_script.specs.declared.commands.Command.{Command}
+use Rattle.im_ledger.specs.Histories.{KeptHistory}
+use Rattle.im_ledger.specs.Ledgers.{Held}
+use Rattle.im_ledger.specs.declared.errors.CommitError.TheVariants.{Memory}
+use Rattle.im_session.specs.Turns.{Answers}
+use Rattle.im_session.proofs.KeptLemmas.{between-same, memory-cause, never-ok, nothing-placed, ok-cause}
 use Rattle.im_session.proofs.serve.answer.Goals as goal
 
-pub returns-in-Header-clause-answers : goal.returns-in-Header-clause-answers
-returns-in-Header-clause-answers g c =
-    rw c.in-Header.is (IfOk-weaker c.header_text.result _ _
-    (λ reply e. header-answers (g.H.Hash32.digest c.args.hash.now) (g.C.Clock.constant c.args.clock.now) c.in-Header.number c.args.ledger.now reply.items c.requires e)
-    c.header_text.ensures)
+pub returns-in_err-answer_link-in-Link-clause-left : goal.returns-in_err-answer_link-in-Link-clause-left
+returns-in_err-answer_link-in-Link-clause-left g c =
+    nothing-placed g.D.Disk.told (g.H.Hash32.digest c.args.hash.now) c.args.kept.now c.requires (g.C.Clock.constant c.args.clock.now) c.args.command c.answer_link.new.kept.journal c.answer_link.ensures.journal
 
-pub returns-in-State-clause-answers : goal.returns-in-State-clause-answers
-returns-in-State-clause-answers g c =
-    rw c.in-State.is (IfOk-weaker c.state_text.result _ _
-    (λ reply e. state-answers (g.H.Hash32.digest c.args.hash.now) (g.C.Clock.constant c.args.clock.now) c.args.ledger.now reply.items c.requires e)
-    c.state_text.ensures.reply)
+pub returns-in_ok-answer_link-in-Link-clause-moments : goal.returns-in_ok-answer_link-in-Link-clause-moments
+returns-in_ok-answer_link-in-Link-clause-moments g c =
+    between-same g.D.Disk.told (g.H.Hash32.digest c.args.hash.now) c.args.kept.now c.requires c.answer_link.new.kept c.answer_link.ensures.journal c.in_ok-answer_link-in-Link.ensures.same
 
-pub returns-in-Prove-clause-answers : goal.returns-in-Prove-clause-answers
-returns-in-Prove-clause-answers g c =
-    rw c.in-Prove.is (IfOk-weaker c.prove_text.result _ _
-    (λ reply e. prove-answers (g.H.Hash32.digest c.args.hash.now) (g.C.Clock.constant c.args.clock.now) c.in-Prove.source c.in-Prove.target c.args.ledger.now reply.items c.requires e)
-    c.prove_text.ensures.reply)
+pub returns-in_ok-answer_link-in-Link-clause-left : goal.returns-in_ok-answer_link-in-Link-clause-left
+returns-in_ok-answer_link-in-Link-clause-left g c =
+    nothing-placed g.D.Disk.told (g.H.Hash32.digest c.args.hash.now) c.args.kept.now c.requires (g.C.Clock.constant c.args.clock.now) c.args.command c.answer_link.new.kept.journal c.answer_link.ensures.journal
 
-pub returns-in-Advance-clause-answers : goal.returns-in-Advance-clause-answers
-returns-in-Advance-clause-answers g c =
-    rw c.in-Advance.is (IfOk-weaker c.advance_text.result _ _
-    (λ reply e. advance-answers (g.H.Hash32.digest c.args.hash.now) (g.C.Clock.constant c.args.clock.now) c.in-Advance.source c.in-Advance.target c.args.ledger.now reply.items c.requires e)
-    c.advance_text.ensures.reply)
+pub returns-in_err-read-in_default : goal.returns-in_err-read-in_default
+returns-in_err-read-in_default g c =
+    let kept : KeptHistory g.row.D.Denot = c.args.kept.now in
+    let given = c.from_residual-in_err-read-in_default.result in
+    let error = err_from_is_err_and given c.from_residual-in_err-read-in_default.ensures.1 in
+    record {
+      answers = never-ok _ given error.0 error.1;
+      again = never-ok _ given error.0 error.1;
+      kept = never-ok _ given error.0 error.1;
+      moments = never-ok _ given error.0 error.1;
+      left = nothing-placed g.D.Disk.told (g.H.Hash32.digest c.args.hash.now) kept c.requires (g.C.Clock.constant c.args.clock.now) c.args.command kept.journal refl;
+      cause = memory-cause (g.D.Disk.faults kept.journal.disk) given (error.1 ∙ ap Err error.2);
+      same = refl;
+    }
 
-pub returns-in-Item-clause-answers : goal.returns-in-Item-clause-answers
-returns-in-Item-clause-answers g c =
-    rw c.in-Item.is (IfOk-weaker c.item_text.result _ _
-    (λ reply e. item-answers (g.H.Hash32.digest c.args.hash.now) (g.C.Clock.constant c.args.clock.now) c.in-Item.number c.in-Item.index c.in-Item.under c.args.ledger.now reply.items c.requires e)
-    c.item_text.ensures.reply)
+pub returns-in_ok-read-in_default : goal.returns-in_ok-read-in_default
+returns-in_ok-read-in_default g c =
+    let hash : Hash = g.H.Hash32.digest c.args.hash.now in
+    let constant : Option ℤ = g.C.Clock.constant c.args.clock.now in
+    let kept : KeptHistory g.row.D.Denot = c.args.kept.now in
+    let done = c.in_ok-read-in_default in
+    let reply : List ℕ = done.field-0.items in
+    let A : Held → Type 0 = λ h. Answers hash constant c.args.command h h reply in
+    let R : Held → Type 0 = λ h. IsReadBack hash h.transactions c.args.command reply in
+    record {
+      answers = subst A c.ledger.ensures (done.ensures.answers constant);
+      again = subst R c.ledger.ensures done.ensures.again;
+      kept = c.requires;
+      moments = between-same g.D.Disk.told hash kept c.requires kept refl refl;
+      left = nothing-placed g.D.Disk.told hash kept c.requires constant c.args.command kept.journal refl;
+      cause = ok-cause (g.D.Disk.faults kept.journal.disk) _;
+      same = refl;
+    }

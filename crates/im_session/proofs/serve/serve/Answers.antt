@@ -1,32 +1,41 @@
-use Rattle.std.proofs.Common.{◌≡◌, ℤ, ℕ, List, [], All, Option, refl, sym, subst, ap, ◌∙◌, length, arith}
+use Rattle.std.proofs.Common.{◌≡◌, ◌≤◌, ℤ, ℕ, List, [], All, Option, Ok, Err, refl, sym, subst, ap, ◌∙◌, drop, length, arith}
+use Rattle.std.proofs.Math.Seq.{drop-length}
 use Rattle.std.proofs.lemmas.Iterator.Adapters.{YieldsList-from_vec}
-use Rattle.std.proofs.lemmas.Iterator.Consumers.{YieldsList-end}
+use Rattle.std.proofs.lemmas.Iterator.Consumers.{YieldsList-end, YieldsList-so_far, YieldsList-turn}
 use Rattle.std.proofs.lemmas.List.{map-id}
 use Rattle.im_digest.specs.Digests.{Hash}
+use Rattle.im_disk.specs.Disk.{Told as DiskTold}
+use Rattle.im_ledger.specs.Causes.{HasCommitCause}
+use Rattle.im_ledger.specs.Histories.{KeptHistory}
+use Rattle.im_ledger.proofs.GrowLemmas.{kept-images, kept-shown}
 use Rattle.im_model.specs.declared.transactions.Transaction.{Transaction}
 use Rattle.im_script.specs.declared.commands.Line.{Line}
-use Rattle.im_report.proofs.ReportLemmas.{Standing, Standing-first}
-use Rattle.im_session.specs.Ledgers.{Held}
+use Rattle.im_report.proofs.ReportLemmas.{Standing}
+use Rattle.im_session.specs.Moves.{MayPlace}
+use Rattle.im_session.specs.Served.{Serves, ServesAll}
 use Rattle.im_session.specs.Turns.{HasTime, Turn}
-use Rattle.im_session.proofs.AgainLemmas.{Told, Told-first, report-again, turn-told}
-use Rattle.im_session.proofs.TurnLemmas.{turn-report, turn-timed}
+use Rattle.im_session.proofs.AgainLemmas.{Told, Told-first, turn-told}
+use Rattle.im_session.proofs.KeptLemmas.{ok-cause}
+use Rattle.im_session.proofs.ServedLemmas.{found-standing, found-within, moments-first, moments-next, serves-ended, serves-stopped, timed-next}
+use Rattle.im_session.proofs.TurnLemmas.{turn-report}
 use Rattle.im_session.proofs.serve.serve.Goals as goal
 
 pub loop-line-init : goal.loop-line-init
 loop-line-init g c =
     let hash : Hash = g.H.Hash32.digest c.args.hash.now in
-    let nothing = c.new-ledger.ensures in
-    let P : List Transaction → Type 0 = λ txs. Standing hash [] txs [] c.new-out.result.items (length c.new-ledger.result.tree) in
-    let Q : List ℕ → Type 0 = λ o. Standing hash [] [] [] o (length c.new-ledger.result.tree) in
-    let R : ℕ → Type 0 = λ n. Standing hash [] [] [] [] n in
-    let U : List Transaction → Type 0 = λ txs. Told hash txs [] c.new-out.result.items in
-    let V : List ℕ → Type 0 = λ o. Told hash [] [] o in
+    let kept : KeptHistory g.row.D.Denot = c.args.kept in
+    let found : List Transaction = kept.held.transactions in
+    let now : Option DiskTold = g.D.Disk.told kept.journal.disk in
+    let Q : List ℕ → Type 0 = λ o. Standing hash found found [] o (length kept.held.tree) in
+    let V : List ℕ → Type 0 = λ o. Told hash found [] o in
     let T : List Transaction → Type 0 = λ txs. All (HasTime (g.C.Clock.constant c.args.clock.now)) txs in
     record {
-      standing = subst P (sym nothing.transactions) (subst Q (sym c.new-out.ensures.items) (subst R (sym (ap length nothing.tree)) (Standing-first hash)));
-      told = subst U (sym nothing.transactions) (subst V (sym c.new-out.ensures.items) (Told-first hash));
-      ledger = nothing.ledger hash;
-      timed = subst T (sym nothing.transactions) (λ i d h. absurd (omega arith));
+      standing = subst Q (sym c.new-out.ensures.items) (found-standing hash found (length kept.held.tree) c.requires.kept.ledger.history c.requires.filled);
+      told = subst V (sym c.new-out.ensures.items) (Told-first hash found);
+      kept = c.requires.kept;
+      timed = subst T (sym (drop-length found)) (λ i d h. absurd (omega arith));
+      moments = moments-first hash found now (kept-images g.D.Disk.told hash kept c.requires.kept);
+      faults = refl;
       same = refl;
     }
 
@@ -34,30 +43,82 @@ pub loop-line-preserved : goal.loop-line-preserved
 loop-line-preserved g c =
     let hash : Hash = g.H.Hash32.digest c.args.hash.now in
     let first : Option ℤ = g.C.Clock.constant c.args.clock.now in
-    let now : Option ℤ = g.C.Clock.constant c.loop-line.clock in
+    let clock : Option ℤ = g.C.Clock.constant c.loop-line.clock in
+    let found : List Transaction = c.args.kept.held.transactions in
     let line = c.in-Some.line in
-    let before : Held = c.loop-line.ledger in
-    let after : Held = c.turn.new.ledger in
+    let before : KeptHistory g.row.D.Denot = c.loop-line.kept in
+    let after : KeptHistory g.row.D.Denot = c.turn.new.kept in
     let old : List ℕ = c.loop-line.out.items in
     let new : List ℕ = c.turn.new.out.items in
-    let turn : Turn hash now line before after old new = c.in_ok-turn.ensures.turn in
-    let P : Option ℤ → Type 0 = λ o. Turn hash o line before after old new in
+    let turn : Turn hash clock line before.held after.held old new = c.in_default.ensures.turn in
+    let P : Option ℤ → Type 0 = λ o. Turn hash o line before.held after.held old new in
+    let most : length found ≤ length before.held.transactions = found-within hash found before.held.transactions c.loop-line.yielded old (length before.held.tree) c.loop-line.invariant.standing in
     record {
-      standing = turn-report hash now c.loop-line.yielded line before after old new c.loop-line.invariant.standing turn;
-      told = turn-told hash now c.loop-line.yielded line before after old new c.loop-line.invariant.told turn;
-      ledger = turn.answers.ledger;
-      timed = turn-timed hash first line before after old new (subst P c.loop-line.invariant.same turn) c.loop-line.invariant.timed;
-      same = c.in_ok-turn.ensures.same ∙ c.loop-line.invariant.same;
+      standing = turn-report hash clock found c.loop-line.yielded line before.held after.held old new c.loop-line.invariant.standing turn;
+      told = turn-told hash clock c.loop-line.yielded line before.held after.held old new c.loop-line.invariant.told turn;
+      kept = c.in_default.ensures.kept;
+      timed = timed-next hash first line (length found) before.held after.held old new most (subst P c.loop-line.invariant.same turn) c.loop-line.invariant.timed;
+      moments = moments-next hash (length found) before.held.transactions turn.answers.more after.held.transactions
+          (g.D.Disk.told c.args.kept.journal.disk) (g.D.Disk.told before.journal.disk) (g.D.Disk.told after.journal.disk) most turn.answers.grown c.loop-line.invariant.moments c.in_default.ensures.moments;
+      faults = c.in_default.ensures.cause.others (λ fault. cc) ∙ c.loop-line.invariant.faults;
+      same = c.turn.ensures.same ∙ c.loop-line.invariant.same;
     }
 
-pub returns-clause-again : goal.returns-clause-again
-returns-clause-again g c =
+pub returns-in-Err-clause-some : goal.returns-in-Err-clause-some
+returns-in-Err-clause-some g c =
     let hash : Hash = g.H.Hash32.digest c.args.hash.now in
+    let first : Option ℤ = g.C.Clock.constant c.args.clock.now in
+    let found : List Transaction = c.args.kept.held.transactions in
+    let lines : List Line = c.args.lines.items in
+    let done : List Line = c.loop-line.yielded in
+    let line : Line = c.in-Some.line in
+    let before : KeptHistory g.row.D.Denot = c.loop-line.kept in
+    let after : KeptHistory g.row.D.Denot = c.turn.new.kept in
+    let start : Option DiskTold = g.D.Disk.told c.args.kept.journal.disk in
+    let mid : Option DiskTold = g.D.Disk.told before.journal.disk in
+    let now : Option DiskTold = g.D.Disk.told after.journal.disk in
+    let out : List ℕ = c.loop-line.out.items in
     let gives = c.into_iter-line-iterator.ensures.into_iter_gives in
-    let all = YieldsList-from_vec {s = c.into_iter-line-iterator.result} c.args.lines.items gives.0 (gives.1 ∙ c.args.lines.ok.0) in
+    let all = YieldsList-from_vec {s = c.into_iter-line-iterator.result} lines gives.0 (gives.1 ∙ c.args.lines.ok.0) in
+    let front = sym (map-id done) ∙ YieldsList-so_far all done c.loop-line.line-iterator c.loop-line.yielded_by in
+    let here = YieldsList-turn all done c.loop-line.line-iterator c.loop-line.yielded_by c.next.result c.next.new.self line c.in-Some.is c.next.ensures.steps in
+    let P : Option ℤ → Type 0 = λ o. MayPlace hash o line.command before.held.transactions mid now in
+    let O : List ℕ → Type 0 = λ o. Serves hash first found lines start now o in
+    let E : g.row.D.Denot → Type 0 = λ d. Serves hash first found lines start (g.D.Disk.told d) c.turn.new.out.items in
+    subst E (sym c.into_disk.ensures) (subst O (sym c.in-Err.ensures.nothing)
+    (serves-stopped hash first found before.held.transactions lines done line start mid now out (length before.held.tree) front here.0 here.1
+    c.loop-line.invariant.standing c.loop-line.invariant.told c.loop-line.invariant.timed c.loop-line.invariant.moments (subst P c.loop-line.invariant.same c.turn.ensures.left)))
+
+pub returns-in-Err-clause-cause : goal.returns-in-Err-clause-cause
+returns-in-Err-clause-cause g c =
+    let E : g.row.D.Denot → Type 0 = λ d. HasCommitCause {T = Unit {0}} (g.D.Disk.faults c.args.kept.journal.disk) (g.D.Disk.faults d) (Err c.in-Err.error) in
+    let F : ℕ → Type 0 = λ n. HasCommitCause {T = Unit {0}} n (g.D.Disk.faults c.turn.new.kept.journal.disk) (Err c.in-Err.error) in
+    subst E (sym c.into_disk.ensures) (subst F c.loop-line.invariant.faults c.in-Err.ensures.cause)
+
+pub returns-clause-all : goal.returns-clause-all
+returns-clause-all g c =
+    let hash : Hash = g.H.Hash32.digest c.args.hash.now in
+    let first : Option ℤ = g.C.Clock.constant c.args.clock.now in
+    let found : List Transaction = c.args.kept.held.transactions in
+    let lines : List Line = c.args.lines.items in
+    let kept : KeptHistory g.row.D.Denot = c.loop-line.kept in
+    let start : Option DiskTold = g.D.Disk.told c.args.kept.journal.disk in
+    let now : Option DiskTold = g.D.Disk.told kept.journal.disk in
+    let gives = c.into_iter-line-iterator.ensures.into_iter_gives in
+    let all = YieldsList-from_vec {s = c.into_iter-line-iterator.result} lines gives.0 (gives.1 ∙ c.args.lines.ok.0) in
     let end = YieldsList-end all c.loop-line.yielded c.loop-line.line-iterator c.loop-line.yielded_by c.next.result c.next.new.self c.in-None.is c.next.ensures.steps in
-    let lines : c.loop-line.yielded ≡ c.args.lines.items = sym (map-id c.loop-line.yielded) ∙ end.0 in
-    let P : List Transaction → Type 0 = λ txs. Told hash txs c.args.lines.items c.loop-line.out.items in
-    let Q : List Line → Type 0 = λ ls. Told hash c.loop-line.ledger.transactions ls c.loop-line.out.items in
-    report-again hash c.into_transactions.result.items c.args.lines.items c.loop-line.out.items
-    (subst P (sym c.into_transactions.ensures) (subst Q lines c.loop-line.invariant.told))
+    let whole : c.loop-line.yielded ≡ lines = sym (map-id c.loop-line.yielded) ∙ end.0 in
+    let E : g.row.D.Denot → Type 0 = λ d. ServesAll hash first found lines start (g.D.Disk.told d) c.loop-line.out.items in
+    subst E (sym c.into_disk-2.ensures)
+    (serves-ended hash first found kept.held.transactions lines c.loop-line.yielded start now c.loop-line.out.items (length kept.held.tree) whole
+    c.loop-line.invariant.standing c.loop-line.invariant.told c.loop-line.invariant.timed c.loop-line.invariant.moments
+    (kept-images g.D.Disk.told hash kept c.loop-line.invariant.kept) (kept-shown g.D.Disk.told hash kept c.loop-line.invariant.kept))
+
+pub returns-clause-some : goal.returns-clause-some
+returns-clause-some g c = let all = returns-clause-all g c in all.serves
+
+pub returns-clause-cause : goal.returns-clause-cause
+returns-clause-cause g c =
+    let E : g.row.D.Denot → Type 0 = λ d. HasCommitCause {T = Unit {0}} (g.D.Disk.faults c.args.kept.journal.disk) (g.D.Disk.faults d) (Ok tt) in
+    let F : ℕ → Type 0 = λ n. HasCommitCause {T = Unit {0}} n (g.D.Disk.faults c.loop-line.kept.journal.disk) (Ok tt) in
+    subst E (sym c.into_disk-2.ensures) (subst F c.loop-line.invariant.faults (ok-cause (g.D.Disk.faults c.loop-line.kept.journal.disk) tt))

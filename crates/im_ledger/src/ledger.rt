@@ -2,6 +2,7 @@ ghost use Rattle.std.specs.Prelude.{◌≡◌, ◌≤◌, length, take, OnOk};
 
 use im_atree::trees::Tree;
 use im_digest::{D32, Hash32};
+use im_format::records::Record;
 use im_header::alh;
 use im_model::headers::Header;
 use im_model::transactions::Transaction;
@@ -9,8 +10,8 @@ use im_plain::history::header_after;
 use std::alloc::{AllocError, Global};
 use std::marker::Model;
 
-/// What a session has of its history: the transactions, the header and the Alh of each, and the tree of
-/// the first of these Alh. A clause sees the lists.
+/// A history in memory: the transactions, the header and the Alh of each, and the tree of the first of these
+/// Alh. A clause sees the lists.
 #[derive(Drop)]
 pub struct Ledger {
     transactions: Vec<Transaction>,
@@ -20,7 +21,7 @@ pub struct Ledger {
 }
 
 impl Model for Ledger {
-    ghost use Rattle.im_session.specs.Ledgers.{Held};
+    ghost use Rattle.im_ledger.specs.Ledgers.{Held};
 
     ghost Value = { Held };
 
@@ -28,10 +29,13 @@ impl Model for Ledger {
 }
 
 impl Ledger {
-    ghost use Rattle.std.specs.Prelude.{◌≡◌, ◌+◌, ◌<◌, ◌≤◌, [], ◌∷◌, ◌++◌, length, min, OnOk};
+    ghost use Rattle.std.specs.Prelude.{◌≡◌, ◌+◌, ◌<◌, ◌≤◌, [], ◌∷◌, ◌++◌, length, map, min, IfOk, OnOk};
     ghost use Rattle.im_digest.specs.Digests.{Hash};
-    ghost use Rattle.im_model.specs.History.{header_of, transaction_of, IsTransaction};
-    ghost use Rattle.im_session.specs.Ledgers.{IsLedger};
+    ghost use Rattle.im_format.specs.Records.{AreRecords};
+    ghost use Rattle.im_model.specs.Headers.{alh};
+    ghost use Rattle.im_model.specs.History.{header_of, next_header, transaction_of, IsHistory, IsTransaction};
+    ghost use Rattle.im_proof.specs.Built.{headers_of};
+    ghost use Rattle.im_ledger.specs.Ledgers.{IsLedger};
 
     /// The ledger of the empty history. It takes no memory.
     pub fn new(alloc: Global) -> Self
@@ -45,6 +49,35 @@ impl Ledger {
             alhs: Vec::new(alloc),
             tree: Tree::new(alloc),
         }
+    }
+
+    /// The ledger of a history whose records and headers were read. Its tree has every transaction. It hashes
+    /// nothing. Its only error is want of memory.
+    pub fn from_records(
+        alloc: Global,
+        records: Vec<Record>,
+        headers: Vec<Header>,
+    ) -> Result<Self, AllocError>
+        ensures ledger { (hash : Hash) → IsHistory (map (λ r. r.tx) records.items) → AreRecords hash (map (λ r. r.tx) records.items) 1 records.items
+            → headers.items ≡ headers_of hash (map (λ r. r.tx) records.items) → IfOk result (IsLedger hash) }
+        ensures transactions { IfOk result (λ ledger. ledger.transactions ≡ map (λ r. r.tx) records.items) }
+        ensures tree { IfOk result (λ ledger. ledger.tree ≡ ledger.alhs) }
+    {
+        let mut transactions = Vec::with_capacity(alloc, records.len())?;
+        let mut alhs = Vec::with_capacity(alloc, records.len())?;
+        let mut tree = Tree::new(alloc);
+        for record in records {
+            let Record { tx, refs: _, alh } = record;
+            tree.append(&alh)?;
+            alhs.push(alh)?;
+            transactions.push(tx)?;
+        }
+        Ok(Ledger {
+            transactions,
+            headers,
+            alhs,
+            tree,
+        })
     }
 
     /// The number of transactions.
@@ -87,6 +120,36 @@ impl Ledger {
         &self.tree
     }
 
+    /// The header that a transaction has behind the others. It hashes its entries and the tree. Its only error
+    /// is want of memory.
+    pub fn header_for<H: Hash32>(
+        &self,
+        alloc: Global,
+        hash: &H,
+        tx: &Transaction,
+    ) -> Result<Header, AllocError>
+        requires ledger { IsLedger (H.digest hash.now) self.now }
+        requires room { length self.now.transactions < 1048576 }
+        requires limits { IsTransaction (length self.now.transactions) tx.now }
+        ensures { IfOk result (λ header. header ≡ next_header (H.digest hash.now) self.now.alhs tx.now) }
+    {
+        header_after(alloc, hash, self.alhs.as_slice(), tx)
+    }
+
+    /// Takes a transaction behind the others, with its header and its Alh. It hashes nothing. Its only error is
+    /// want of memory.
+    pub fn push(&mut self, tx: Transaction, header: Header, digest: D32) -> Result<(), AllocError>
+        ensures grown { OnOk result (self.new.transactions ≡ self.old.transactions ++ tx ∷ []) }
+        ensures tree { OnOk result (self.new.tree ≡ self.old.tree) }
+        ensures ledger { (hash : Hash) → IsLedger hash self.old → length self.old.transactions < 1048576 → IsTransaction (length self.old.transactions) tx
+            → tx.bl ≡ length self.old.tree → header ≡ next_header hash self.old.alhs tx → digest ≡ alh hash header → OnOk result (IsLedger hash self.new) }
+    {
+        self.alhs.push(digest)?;
+        self.headers.push(header)?;
+        self.transactions.push(tx)?;
+        Ok(())
+    }
+
     /// Places a transaction behind the others. It hashes its entries, its header and the tree, and nothing
     /// else. Its only error is want of memory.
     pub fn place<H: Hash32>(
@@ -103,10 +166,9 @@ impl Ledger {
         ensures tree { OnOk result (self.new.tree ≡ self.old.tree) }
         ensures ledger { OnOk result (IsLedger (H.digest hash.now) self.new) }
     {
-        let header = header_after(alloc, hash, self.alhs.as_slice(), &tx)?;
-        self.alhs.push(alh(hash, &header))?;
-        self.headers.push(header)?;
-        self.transactions.push(tx)?;
+        let header = self.header_for(alloc, hash, &tx)?;
+        let digest = alh(hash, &header);
+        self.push(tx, header, digest)?;
         Ok(())
     }
 

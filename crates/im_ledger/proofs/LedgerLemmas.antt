@@ -11,10 +11,10 @@ use Rattle.im_model.proofs.HistoryLemmas.{length-alhs_of}
 use Rattle.im_proof.specs.Built.{headers_of}
 use Rattle.im_proof.proofs.HeaderLemmas.{alhs-next, headers-length, headers-next, headers-nth}
 use Rattle.im_dual.specs.Kept.{header_at, no_header}
-use Rattle.im_session.specs.Ledgers.{Held, IsLedger}
+use Rattle.im_ledger.specs.Ledgers.{Held, IsLedger}
 
 -- what is so of lists is so of equal ones
-held-same : (P : Held → Type 0) (a b : Held) → a.transactions ≡ b.transactions → a.headers ≡ b.headers → a.alhs ≡ b.alhs → a.tree ≡ b.tree → P b → P a
+pub held-same : (P : Held → Type 0) (a b : Held) → a.transactions ≡ b.transactions → a.headers ≡ b.headers → a.alhs ≡ b.alhs → a.tree ≡ b.tree → P b → P a
 held-same P a b transactions headers alhs tree p =
     let A : List Transaction → Type 0 = λ txs. P (record { transactions = txs; headers = a.headers; alhs = a.alhs; tree = a.tree }) in
     let B : List Header → Type 0 = λ hs. P (record { transactions = b.transactions; headers = hs; alhs = a.alhs; tree = a.tree }) in

@@ -1,8 +1,8 @@
 use Rattle.std.proofs.Common.{◌≡◌, ◌-◌, length, get_or, ap, ◌∙◌, sym, arith}
 use Rattle.im_model.specs.declared.headers.Header.{Header}
 use Rattle.im_proof.proofs.HeaderLemmas.{headers-length, headers-nth}
-use Rattle.im_session.specs.Ledgers.{Held}
-use Rattle.im_session.proofs.ledger.Ledger.header.Goals as goal
+use Rattle.im_ledger.specs.Ledgers.{Held}
+use Rattle.im_ledger.proofs.ledger.Ledger.header.Goals as goal
 
 pub index-requires : goal.index-requires
 index-requires c =

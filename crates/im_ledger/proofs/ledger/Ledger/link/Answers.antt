@@ -2,8 +2,8 @@ use Rattle.std.proofs.Common.{◌≡◌, ◌≤◌, ◌+◌, ℕ, List, length, 
 use Rattle.std.proofs.lemmas.List.{length-take-le}
 use Rattle.std.proofs.lemmas.Result.{on_ok_weaker}
 use Rattle.im_model.proofs.HistoryLemmas.{length-alhs_of}
-use Rattle.im_session.specs.Ledgers.{Held}
-use Rattle.im_session.proofs.ledger.Ledger.link.Goals as goal
+use Rattle.im_ledger.specs.Ledgers.{Held}
+use Rattle.im_ledger.proofs.ledger.Ledger.link.Goals as goal
 
 pub raise-requires-clause-within : goal.raise-requires-clause-within
 raise-requires-clause-within c =

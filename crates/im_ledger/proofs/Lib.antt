@@ -1,0 +1,6 @@
+pub mod CommitLemmas
+pub mod DurableLemmas
+pub mod GrowLemmas
+pub mod LedgerLemmas
+pub mod PlaceLemmas
+pub mod ReadLemmas

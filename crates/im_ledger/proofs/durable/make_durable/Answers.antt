@@ -1,0 +1,85 @@
+use Rattle.std.proofs.Common.{◌≡◌, ◌∙◌, ◌+◌, ℕ, length, refl, ap, inl}
+use Rattle.im_disk.specs.Moments.{Leaves}
+use Rattle.im_journal.specs.Kept.{StandsBy}
+use Rattle.im_journal.specs.declared.batches.Step.TheVariants.{Gated}
+use Rattle.im_ledger.proofs.DurableLemmas.{at-last, one-more}
+use Rattle.im_ledger.proofs.durable.make_durable.Goals as goal
+
+pub returns-in_err-stage-clause-any_moment : goal.returns-in_err-stage-clause-any_moment
+returns-in_err-stage-clause-any_moment g c hash history batches rest next =
+    let told = g.D.Disk.told in
+    let old = c.args.journal.now in
+    let rs = c.args.records.now in
+    at-last old.batch.step hash history old.durable old.durable (length rs) (told old.disk) (told c.stage.new.self.disk) refl
+    (c.stage.ensures.any_moment hash history batches rs (inl (rest, next, refl)))
+
+pub seal-requires : goal.seal-requires
+seal-requires g c =
+    let m = c.requires.next in
+    record { staged = λ zero. (c.in_ok-stage.ensures.staged m.0 m.1 m.2 c.args.records.now (inl (m.3, m.4, refl))).1 }
+
+pub returns-in_err-seal-clause-any_moment : goal.returns-in_err-seal-clause-any_moment
+returns-in_err-seal-clause-any_moment g c hash history batches rest next =
+    let told = g.D.Disk.told in
+    let old = c.args.journal.now in
+    let staged = c.stage.new.self in
+    let rs = c.args.records.now in
+    let batch = c.in_ok-stage.ensures.staged hash history batches rs (inl (rest, next, refl)) in
+    one-more staged.batch.step hash history old.durable staged.durable (length rs) (told old.disk) (told staged.disk) (told c.seal.new.self.disk) c.stage.ensures.kept.1
+    (at-last old.batch.step hash history old.durable old.durable (length rs) (told old.disk) (told staged.disk) refl
+    (c.stage.ensures.any_moment hash history batches rs (inl (rest, next, refl))))
+    (c.seal.ensures.any_moment hash history batches rs batch.0)
+
+pub settle-requires-clause-sealed : goal.settle-requires-clause-sealed
+settle-requires-clause-sealed g c zero =
+    let m = c.requires.next in
+    let rs = c.args.records.now in
+    let batch = c.in_ok-stage.ensures.staged m.0 m.1 m.2 rs (inl (m.3, m.4, refl)) in
+    (c.in_ok-seal.ensures.sealed m.0 m.1 m.2 rs batch.0).1
+
+pub settle-requires-clause-mid : goal.settle-requires-clause-mid
+settle-requires-clause-mid g c zero =
+    let m = c.requires.next in
+    let rs = c.args.records.now in
+    let batch = c.in_ok-stage.ensures.staged m.0 m.1 m.2 rs (inl (m.3, m.4, refl)) in
+    (m.0, m.1, m.2, rs, (c.in_ok-seal.ensures.sealed m.0 m.1 m.2 rs batch.0).0)
+
+pub returns-in_err-settle-clause-any_moment : goal.returns-in_err-settle-clause-any_moment
+returns-in_err-settle-clause-any_moment g c hash history batches rest next =
+    let told = g.D.Disk.told in
+    let old = c.args.journal.now in
+    let staged = c.stage.new.self in
+    let sealed = c.seal.new.self in
+    let rs = c.args.records.now in
+    let batch = c.in_ok-stage.ensures.staged hash history batches rs (inl (rest, next, refl)) in
+    let safe = c.in_ok-seal.ensures.sealed hash history batches rs batch.0 in
+    one-more Gated hash history old.durable sealed.durable (length rs) (told old.disk) (told sealed.disk) (told c.settle.new.self.disk) (c.seal.ensures.kept.1 ∙ c.stage.ensures.kept.1)
+    (one-more staged.batch.step hash history old.durable staged.durable (length rs) (told old.disk) (told staged.disk) (told sealed.disk) c.stage.ensures.kept.1
+    (at-last old.batch.step hash history old.durable old.durable (length rs) (told old.disk) (told staged.disk) refl
+    (c.stage.ensures.any_moment hash history batches rs (inl (rest, next, refl))))
+    (c.seal.ensures.any_moment hash history batches rs batch.0))
+    (c.settle.ensures.any_moment hash history batches rs safe.0)
+
+pub returns-clause-settled : goal.returns-clause-settled
+returns-clause-settled g c hash history batches rest next =
+    let rs = c.args.records.now in
+    let batch = c.in_ok-stage.ensures.staged hash history batches rs (inl (rest, next, refl)) in
+    let safe = c.in_ok-seal.ensures.sealed hash history batches rs batch.0 in
+    let done = c.in_ok-settle.ensures.settled hash history batches rs safe.0 in
+    (done.0, done.1 ∙ ap (λ (n : ℕ). n + length rs) (c.seal.ensures.kept.1 ∙ c.stage.ensures.kept.1))
+
+pub returns-clause-any_moment : goal.returns-clause-any_moment
+returns-clause-any_moment g c hash history batches rest next =
+    let told = g.D.Disk.told in
+    let old = c.args.journal.now in
+    let staged = c.stage.new.self in
+    let sealed = c.seal.new.self in
+    let rs = c.args.records.now in
+    let batch = c.in_ok-stage.ensures.staged hash history batches rs (inl (rest, next, refl)) in
+    let safe = c.in_ok-seal.ensures.sealed hash history batches rs batch.0 in
+    one-more Gated hash history old.durable sealed.durable (length rs) (told old.disk) (told sealed.disk) (told c.settle.new.self.disk) (c.seal.ensures.kept.1 ∙ c.stage.ensures.kept.1)
+    (one-more staged.batch.step hash history old.durable staged.durable (length rs) (told old.disk) (told staged.disk) (told sealed.disk) c.stage.ensures.kept.1
+    (at-last old.batch.step hash history old.durable old.durable (length rs) (told old.disk) (told staged.disk) refl
+    (c.stage.ensures.any_moment hash history batches rs (inl (rest, next, refl))))
+    (c.seal.ensures.any_moment hash history batches rs batch.0))
+    (c.settle.ensures.any_moment hash history batches rs safe.0)

@@ -1,0 +1,11 @@
+use Rattle.im_ledger.proofs.PlaceLemmas.{ends-behind, room-behind}
+use Rattle.im_ledger.proofs.records.record_behind.Goals as goal
+
+pub append_values-requires-clause-room : goal.append_values-requires-clause-room
+append_values-requires-clause-room g c =
+    let m = c.requires.first in
+    room-behind (g.H.Hash32.digest c.args.hash.now) m.0 m.1 c.args.durable c.args.ends.now m.2
+
+pub returns-clause-put : goal.returns-clause-put
+returns-clause-put g c history batches first =
+    c.in_ok-refs.ensures.appended _ (ends-behind (g.H.Hash32.digest c.args.hash.now) history batches c.args.durable c.args.ends.now first)

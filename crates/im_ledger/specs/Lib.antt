@@ -1,0 +1,3 @@
+pub mod Causes
+pub mod Histories
+pub mod Ledgers

@@ -1,0 +1,155 @@
+ghost use Rattle.std.specs.Prelude.{◌≡◌};
+
+use crate::durable::make_durable;
+use crate::errors::CommitError;
+use crate::ledger::Ledger;
+use crate::records::record_behind;
+use im_digest::Hash32;
+use im_disk::disk::Disk;
+use im_format::records::Record;
+use im_header::alh;
+use im_journal::journal::Journal;
+use im_model::headers::Header;
+use im_model::transactions::Transaction;
+use std::alloc::{AllocError, Global};
+use std::marker::Model;
+
+/// A ledger that is kept on a disk: each transaction is durable before the ledger takes it. A clause sees the
+/// journal, the ledger's lists, and the number of value logs.
+#[derive(Drop)]
+pub struct KeptLedger<D: Disk> {
+    journal: Journal<D>,
+    ledger: Ledger,
+    logs: u8,
+}
+
+impl<D: Disk> Model for KeptLedger<D> {
+    ghost use Rattle.im_ledger.specs.Histories.{KeptHistory};
+
+    ghost Value = { KeptHistory D };
+
+    ghost view = { λ k. record { journal = k.journal; held = k.ledger; logs = k.logs } };
+}
+
+impl<D: Disk> KeptLedger<D> {
+    ghost use Rattle.std.specs.Prelude.{◌≡◌, ◌<◌, ◌≤◌, ◌+◌, [], ◌∷◌, ◌++◌, List, length, min, IfOk, OnOk};
+    ghost use Rattle.im_digest.specs.Digests.{Hash};
+    ghost use Rattle.im_disk.specs.Moments.{Leaves, LeavesNow};
+    ghost use Rattle.im_format.specs.Standing.{Stands};
+    ghost use Rattle.im_format.specs.declared.records.Record.{Record};
+    ghost use Rattle.im_journal.specs.Kept.{IsAtRest};
+    ghost use Rattle.im_model.specs.History.{next_header, IsTransaction};
+    ghost use Rattle.im_ledger.specs.Causes.{HasCommitCause};
+    ghost use Rattle.im_ledger.specs.Histories.{HasCommitted, IsKept, IsNextRecord, StandsWithin};
+    ghost use Rattle.im_ledger.specs.Ledgers.{IsLedger};
+
+    /// A ledger over a journal at rest whose disk holds exactly its transactions. Values are put over so many
+    /// value logs, 1 to 4. It takes no memory.
+    pub fn over(journal: Journal<D>, ledger: Ledger, logs: u8) -> Self
+        ensures given { (result.journal ≡ journal) × (result.held ≡ ledger) × (result.logs ≡ logs) }
+        ensures kept { (hash : Hash) (batches : List (List Record)) → IsLedger hash ledger → IsAtRest D.told hash ledger.transactions batches journal
+            → journal.durable ≡ length ledger.transactions → journal.failures ≡ 0 → 1 ≤ logs → logs ≤ 4 → IsKept D.told hash result }
+    {
+        KeptLedger {
+            journal,
+            ledger,
+            logs,
+        }
+    }
+
+    /// The ledger.
+    pub fn ledger(&self) -> &Ledger
+        ensures { result.now ≡ self.now.held }
+    {
+        &self.ledger
+    }
+
+    /// Places a transaction behind the others: writes its record as a batch of its own, makes it durable, and
+    /// only then takes it into the ledger. It hashes the entries, the values, the header and the tree, once.
+    ///
+    /// # Errors
+    ///
+    /// After an error the ledger isn't used again; the disk then holds the history with the transaction or
+    /// without it.
+    pub fn commit<H: Hash32>(
+        &mut self,
+        alloc: Global,
+        hash: &H,
+        tx: Transaction,
+    ) -> Result<(), CommitError>
+        requires kept { IsKept D.told (H.digest hash.now) self.old }
+        requires room { length self.old.held.transactions < 1048576 }
+        requires limits { IsTransaction (length self.old.held.transactions) tx }
+        requires over { tx.bl ≡ length self.old.held.tree }
+        ensures grown { OnOk result (self.new.held.transactions ≡ self.old.held.transactions ++ tx ∷ []) }
+        ensures tree { OnOk result (self.new.held.tree ≡ self.old.held.tree) }
+        ensures kept { OnOk result (IsKept D.told (H.digest hash.now) self.new) }
+        ensures logs { self.new.logs ≡ self.old.logs }
+        ensures put { (batches : List (List Record)) → IsAtRest D.told (H.digest hash.now) self.old.held.transactions batches self.old.journal
+            → OnOk result (HasCommitted D.told (H.digest hash.now) self.new.held.transactions batches self.old.logs tx self.new.journal) }
+        ensures any_moment { Leaves (StandsWithin (H.digest hash.now) self.old.held.transactions tx) (D.told self.old.journal.disk) (D.told self.new.journal.disk) }
+        ensures durable { OnOk result (LeavesNow (λ image. Stands (H.digest hash.now) image self.new.held.transactions) (D.told self.new.journal.disk)) }
+        ensures cause { HasCommitCause (D.faults self.old.journal.disk) (D.faults self.new.journal.disk) result }
+    {
+        let (header, mut batch) = self.next_batch(alloc, hash, tx)?;
+        make_durable(&mut self.journal, alloc, batch.as_slice())?;
+        let Record { tx, refs: _, alh } = batch.pop().unwrap();
+        self.ledger.push(tx, header, alh)?;
+        Ok(())
+    }
+
+    // The header of a transaction that is placed next, and the batch of its record.
+    fn next_batch<H: Hash32>(
+        &self,
+        alloc: Global,
+        hash: &H,
+        tx: Transaction,
+    ) -> Result<(Header, Vec<Record>), AllocError>
+        requires kept { IsKept D.told (H.digest hash.now) self.now }
+        requires room { length self.now.held.transactions < 1048576 }
+        requires limits { IsTransaction (length self.now.held.transactions) tx }
+        ensures header { IfOk result (λ next. next.0 ≡ next_header (H.digest hash.now) self.now.held.alhs tx) }
+        ensures batch { IfOk result (λ next. (r : Record) × (next.1.items ≡ r ∷ []) × IsNextRecord (H.digest hash.now) self.now tx r) }
+    {
+        let header = self.ledger.header_for(alloc, hash, &tx)?;
+        let digest = alh(hash, &header);
+        let durable = self.journal.durable();
+        let ends = self.journal.ends();
+        let record = record_behind(alloc, hash, self.logs, ends, durable, tx, digest)?;
+        Ok((header, vec![in alloc; record]?))
+    }
+
+    /// Raises the tree by so many transactions, at most to the last one, and leaves the disk as it is. Its only
+    /// error is want of memory.
+    pub fn link(&mut self, count: u64) -> Result<(), AllocError>
+        requires { (hash : Hash) × IsLedger hash self.old.held }
+        ensures journal { self.new.journal ≡ self.old.journal }
+        ensures logs { self.new.logs ≡ self.old.logs }
+        ensures same { OnOk result (self.new.held.transactions ≡ self.old.held.transactions) }
+        ensures size { OnOk result (length self.new.held.tree ≡ min (length self.old.held.tree + count) (length self.old.held.transactions)) }
+        ensures kept { (hash : Hash) → IsKept D.told hash self.old → OnOk result (IsKept D.told hash self.new) }
+    {
+        self.ledger.link(count)?;
+        Ok(())
+    }
+
+    /// Hands the journal and the ledger back. It takes no memory.
+    pub fn into_parts(self) -> (Journal<D>, Ledger)
+        ensures { (result.0 ≡ self.journal) × (result.1 ≡ self.held) }
+    {
+        let KeptLedger {
+            journal,
+            ledger,
+            logs: _,
+        } = self;
+        (journal, ledger)
+    }
+
+    /// Hands the disk back. It takes no memory.
+    pub fn into_disk(self) -> D
+        ensures { result ≡ self.journal.disk }
+    {
+        let (journal, _) = self.into_parts();
+        journal.into_disk()
+    }
+}

@@ -1,0 +1,160 @@
+-- What a session has answered so far, over the history that it found.
+use Rattle.std.proofs.Common.{◌≡◌, ◌<◌, ◌≤◌, ◌+◌, ◌-◌, ◌∙◌, ℕ, ℤ, suc, List, [], ◌∷◌, ◌++◌, length, refl, sym, ap, subst, inl, inr, arith, get_or, length-append, append-nil, drop-cons}
+use Rattle.std.specs.Prelude.{map, take, drop, All, Option, Some, None, IfSome}
+use Rattle.std.specs.List.{range_with_len}
+use Rattle.std.proofs.Math.Seq.{take-length, drop-length}
+use Rattle.std.proofs.lemmas.List.{drop-append-le, length-take, take-append-le}
+use Rattle.std.proofs.lemmas.List.Elements.{All-append}
+use Rattle.im_digest.specs.Digests.{Hash}
+use Rattle.im_disk.specs.Disk.{Files, Told as DiskTold, seen}
+use Rattle.im_disk.specs.Moments.{Leaves, LeavesNow}
+use Rattle.im_disk.proofs.Leaving.{leaves_both, leaves_nothing, leaves_weaker}
+use Rattle.im_format.specs.Standing.{Stands}
+use Rattle.im_ledger.specs.Ledgers.{Held}
+use Rattle.im_model.specs.History.{IsHistory}
+use Rattle.im_model.specs.declared.transactions.Transaction.{Transaction}
+use Rattle.im_report.specs.Report.{Report, floor_after}
+use Rattle.im_report.proofs.ReportLemmas.{Standing}
+use Rattle.im_script.specs.declared.commands.Line.{Line}
+use Rattle.im_session.specs.Moves.{MayPlace, StandsBetween}
+use Rattle.im_session.specs.Served.{IsLeft, Serves, ServesAll, StandsFrom, StandsWith}
+use Rattle.im_session.specs.Turns.{HasTime, Turn}
+use Rattle.im_session.proofs.AgainLemmas.{Told, report-again}
+
+-- nothing is written for no line over the history that was found
+found-report : (hash : Hash) (found : List Transaction) → IsHistory found → Report hash found found [] []
+found-report hash found history =
+    let none : length found - length found ≡ 0 = omega arith in
+    record {
+      history = history;
+      answers = [];
+      lines_are = refl;
+      octets_are = refl;
+      each = λ i d h. absurd (omega arith);
+      begins = take-length found;
+      placed = sym (ap (range_with_len (length found + 1)) none);
+      within = λ i d h. absurd (omega arith);
+      rising = λ i j d below h. absurd (omega arith);
+      floor = ap (map (λ (tx : Transaction). tx.bl)) (drop-length found);
+    }
+
+-- over its whole tree
+pub found-standing : (hash : Hash) (found : List Transaction) (size : ℕ) → IsHistory found → size ≡ length found → Standing hash found found [] [] size
+unfolding found-report
+found-standing hash found size history filled = record { report = found-report hash found history; size_is = sym filled }
+
+-- what was found begins the history
+pub found-within : (hash : Hash) (found history : List Transaction) (lines : List Line) (octets : List ℕ) (size : ℕ) → Standing hash found history lines octets size → length found ≤ length history
+found-within hash found history lines octets size s = omega (arith, ap length s.report.begins, length-take (length found) history)
+
+-- an image that stands for a history stands for its own front part
+stands-whole : (hash : Hash) (least : ℕ) (history left : List Transaction) → least ≤ length history → (image : Files) → Stands hash image history → StandsFrom hash least (history ++ left) image
+stands-whole hash least history left most image h =
+    let P : List Transaction → Type 0 = λ txs. Stands hash image txs in
+    let sizes : length (history ++ left) ≡ length history + length left = length-append history left in
+    let front : take (length history) (history ++ left) ≡ history = take-append-le (length history) history left (omega arith) ∙ take-length history in
+    record { count = length history; no_fewer = most; no_more = omega arith; stands = subst P (sym front) h }
+
+-- so does one that stands for it with what was left
+stands-left : (hash : Hash) (least : ℕ) (history left : List Transaction) → least ≤ length history → (image : Files) → StandsWith hash history left image → StandsFrom hash least (history ++ left) image
+stands-left hash least history left most image (inl h) = stands-whole hash least history left most image h
+stands-left hash least history left most image (inr h) =
+    let sizes : length (history ++ left) ≡ length history + length left = length-append history left in
+    let all : least ≤ length (history ++ left) = omega arith in
+    let P : List Transaction → Type 0 = λ txs. StandsFrom hash least txs image in
+    subst P (append-nil (history ++ left)) (stands-whole hash least (history ++ left) [] all image h)
+
+-- a front part of a history is one of a longer history
+stands-longer : (hash : Hash) (least : ℕ) (history left : List Transaction) (image : Files) → StandsFrom hash least history image → StandsFrom hash least (history ++ left) image
+stands-longer hash least history left image s =
+    let P : List Transaction → Type 0 = λ txs. Stands hash image txs in
+    let most : s.count ≤ length history = s.no_more in
+    let sizes : length (history ++ left) ≡ length history + length left = length-append history left in
+    record { count = s.count; no_fewer = s.no_fewer; no_more = omega arith; stands = subst P (sym (take-append-le s.count history left most)) s.stands }
+
+-- the moments before a line, and those of the line, whose end may have been placed
+pub moments-left : (hash : Hash) (least : ℕ) (history left : List Transaction) (before mid now : Option DiskTold) → least ≤ length history
+    → Leaves (StandsFrom hash least history) before mid → Leaves (StandsWith hash history left) mid now → Leaves (StandsFrom hash least (history ++ left)) before now
+moments-left hash least history left before mid now most so_far more =
+    leaves_both (StandsFrom hash least (history ++ left)) before mid now
+    (leaves_weaker (StandsFrom hash least history) (StandsFrom hash least (history ++ left)) (stands-longer hash least history left) before mid so_far)
+    (leaves_weaker (StandsWith hash history left) (StandsFrom hash least (history ++ left)) (stands-left hash least history left most) mid now more)
+
+-- those of a line that was answered
+pub moments-next : (hash : Hash) (least : ℕ) (history more after : List Transaction) (before mid now : Option DiskTold) → least ≤ length history → after ≡ history ++ more
+    → Leaves (StandsFrom hash least history) before mid → Leaves (StandsBetween hash history after) mid now → Leaves (StandsFrom hash least after) before now
+moments-next hash least history more after before mid now most grown so_far line =
+    let P : List Transaction → Type 0 = λ txs. Leaves (StandsFrom hash least txs) before now in
+    let Q : List Transaction → Type 0 = λ txs. Leaves (StandsBetween hash history txs) mid now in
+    subst P (sym grown) (moments-left hash least history more before mid now most so_far (subst Q grown line))
+
+-- before any line each image stands for what was found
+pub moments-first : (hash : Hash) (found : List Transaction) (now : Option DiskTold) → LeavesNow (λ image. Stands hash image found) now → Leaves (StandsFrom hash (length found) found) now now
+moments-first hash found now images =
+    let S : Files → Type 0 = λ image. Stands hash image found in
+    let P : List Transaction → Type 0 = λ txs. Leaves (StandsFrom hash (length found) txs) now now in
+    subst P (append-nil found)
+    (leaves_weaker S (StandsFrom hash (length found) (found ++ [])) (stands-whole hash (length found) found [] (omega arith)) now now (leaves_nothing S now, images))
+
+-- each new transaction has the clock's time
+pub timed-next : (hash : Hash) (constant : Option ℤ) (line : Line) (least : ℕ) (before after : Held) (old new : List ℕ) → least ≤ length before.transactions
+    → Turn hash constant line before after old new → All (HasTime constant) (drop least before.transactions) → All (HasTime constant) (drop least after.transactions)
+timed-next hash constant line least before after old new most t timed =
+    let P : List Transaction → Type 0 = λ txs. All (HasTime constant) txs in
+    let same : drop least after.transactions ≡ drop least before.transactions ++ t.answers.more =
+    ap (drop least) t.answers.grown ∙ drop-append-le least before.transactions t.answers.more most in
+    subst P (sym same) (All-append (HasTime constant) (drop least before.transactions) t.answers.more timed t.answers.timed)
+
+-- a line got no reply
+pub serves-stopped : (hash : Hash) (constant : Option ℤ) (found history : List Transaction) (lines done : List Line) (line : Line) (before mid now : Option DiskTold) (octets : List ℕ) (size : ℕ)
+    → done ≡ take (length done) lines → length done < length lines → line ≡ get_or lines (length done) line
+    → Standing hash found history done octets size → Told hash history done octets → All (HasTime constant) (drop (length found) history)
+    → Leaves (StandsFrom hash (length found) history) before mid → MayPlace hash constant line.command history mid now → Serves hash constant found lines before now octets
+serves-stopped hash constant found history lines done line before mid now octets size front less here standing told timed so_far m =
+    let P : List Line → Type 0 = λ ls. Standing hash found history ls octets size in
+    let Q : List Line → Type 0 = λ ls. Told hash history ls octets in
+    let R : List Line → Type 0 = λ ls. IsLeft constant ls m.left in
+    let I : Line → Type 0 = λ l. IsLeft constant (l ∷ drop (suc (length done)) lines) m.left in
+    let report : Report hash found history (take (length done) lines) octets = (subst P front standing).report in
+    record {
+      count = length done;
+      within = omega arith;
+      history = history;
+      report = report;
+      again = report-again hash found history (take (length done) lines) octets (subst Q front told) report;
+      timed = timed;
+      left = m.left;
+      left_is = subst R (sym (drop-cons lines (length done) line less)) (subst I here m.left_is);
+      images = m.moments.1;
+      moments = moments-left hash (length found) history m.left before mid now (found-within hash found history done octets size standing) so_far m.moments;
+    }
+
+-- all lines were answered
+pub serves-ended : (hash : Hash) (constant : Option ℤ) (found history : List Transaction) (lines done : List Line) (before now : Option DiskTold) (octets : List ℕ) (size : ℕ)
+    → done ≡ lines → Standing hash found history done octets size → Told hash history done octets → All (HasTime constant) (drop (length found) history)
+    → Leaves (StandsFrom hash (length found) history) before now → LeavesNow (λ image. Stands hash image history) now → IfSome now (λ t. Stands hash (seen t) history)
+    → ServesAll hash constant found lines before now octets
+serves-ended hash constant found history lines done before now octets size whole standing told timed so_far images here =
+    let P : List Line → Type 0 = λ ls. Standing hash found history ls octets size in
+    let Q : List Line → Type 0 = λ ls. Told hash history ls octets in
+    let R : List Line → Type 0 = λ ls. IsLeft constant ls [] in
+    let M : List Transaction → Type 0 = λ txs. Leaves (StandsFrom hash (length found) txs) before now in
+    let S : Files → Type 0 = λ image. Stands hash image history in
+    let all : done ≡ take (length lines) lines = whole ∙ sym (take-length lines) in
+    let report : Report hash found history (take (length lines) lines) octets = (subst P all standing).report in
+    record {
+      serves = record {
+        count = length lines;
+        within = omega arith;
+        history = history;
+        report = report;
+        again = report-again hash found history (take (length lines) lines) octets (subst Q all told) report;
+        timed = timed;
+        left = [];
+        left_is = subst R (sym (drop-length lines)) refl;
+        images = (leaves_weaker S (StandsWith hash history []) (λ image h. inl h) now now (leaves_nothing S now, images)).1;
+        moments = subst M (sym (append-nil history)) so_far;
+      };
+      all = refl;
+      here = here;
+    }

@@ -1,0 +1,68 @@
+-- What a session made of the lines of a script, and what it left on the disk.
+use Rattle.std.specs.Prelude.{◌≡◌, ◌⊎◌, ℤ, ℕ, ◌≤◌, List, [], ◌∷◌, ◌++◌, length, map, take, drop, All, Option, IfSome}
+use Rattle.im_digest.specs.Digests.{Hash}
+use Rattle.im_disk.specs.Disk.{Files, Told, seen}
+use Rattle.im_disk.specs.Moments.{Leaves, LeavesNow}
+use Rattle.im_format.specs.Standing.{Stands}
+use Rattle.im_model.specs.declared.transactions.Transaction.{Transaction}
+use Rattle.im_draft.specs.Drafts.{entry_of, AreEntries, AreFree}
+use Rattle.im_draft.specs.declared.drafts.Draft.{Draft}
+use Rattle.im_script.specs.declared.commands.Line.{Line}
+use Rattle.im_script.specs.declared.commands.Command.{Command}
+use Rattle.im_script.specs.declared.commands.Command.TheVariants.{Set}
+use Rattle.im_report.specs.Report.{Report}
+use Rattle.im_accept.specs.Taken.{AreReadBack, HaveSessions}
+use Rattle.im_session.specs.Turns.{HasTime}
+
+-- the image stands for the first transactions of a history: at least so many of them
+pub record StandsFrom (hash : Hash) (least : ℕ) (history : List Transaction) (image : Files) : Type 0 where
+  pub count : ℕ
+  pub no_fewer : least ≤ count
+  pub no_more : count ≤ length history
+  pub stands : Stands hash image (take count history)
+
+-- the image stands for a history, or for it with what was placed behind it
+abbrev pub StandsWith : Hash → List Transaction → List Transaction → Files → Type 0
+StandsWith hash history left image = Stands hash image history ⊎ Stands hash image (history ++ left)
+
+-- this one transaction has the entries of the `set`, and the clock's time where it tells one
+pub record IsOneLeft (constant : Option ℤ) (command : Command) (left : List Transaction) : Type 0 where
+  pub drafts : List Draft
+  pub asks : command ≡ Set drafts
+  pub free : AreFree drafts
+  pub are : AreEntries drafts
+  pub tx : Transaction
+  pub one : left ≡ tx ∷ []
+  pub writes : tx.entries ≡ map entry_of drafts
+  pub timed : HasTime constant tx
+
+-- what a command without a reply placed: nothing, or one transaction
+abbrev pub IsLeftBy : Option ℤ → Command → List Transaction → Type 0
+IsLeftBy constant command left = (left ≡ []) ⊎ IsOneLeft constant command left
+
+-- what the first of the lines without a reply placed
+abbrev pub IsLeft : Option ℤ → List Line → List Transaction → Type 0
+IsLeft constant [] left = left ≡ []
+IsLeft constant (line ∷ lines) left = IsLeftBy constant line.command left
+
+-- The first `count` lines were answered, over the history that was found: their report, whose messages are read as
+-- those that were asked for. Each image of the disk now stands for the history, or for it with what the next line
+-- placed, which got no reply; and each image of each moment stood for the first transactions of these, those that
+-- were found among them.
+pub record Serves (hash : Hash) (constant : Option ℤ) (found : List Transaction) (lines : List Line) (before now : Option Told) (octets : List ℕ) : Type 0 where
+  pub count : ℕ
+  pub within : count ≤ length lines
+  pub history : List Transaction
+  pub report : Report hash found history (take count lines) octets
+  pub again : HaveSessions (take count lines) → AreReadBack hash history report.answers
+  pub timed : All (HasTime constant) (drop (length found) history)
+  pub left : List Transaction
+  pub left_is : IsLeft constant (drop count lines) left
+  pub images : LeavesNow (StandsWith hash history left) now
+  pub moments : Leaves (StandsFrom hash (length found) (history ++ left)) before now
+
+-- all lines were answered, and what reads give stands for the history too
+pub record ServesAll (hash : Hash) (constant : Option ℤ) (found : List Transaction) (lines : List Line) (before now : Option Told) (octets : List ℕ) : Type 0 where
+  pub serves : Serves hash constant found lines before now octets
+  pub all : serves.count ≡ length lines
+  pub here : IfSome now (λ t. Stands hash (seen t) serves.history)
