@@ -2,5 +2,6 @@ pub mod CommitLemmas
 pub mod DurableLemmas
 pub mod GrowLemmas
 pub mod LedgerLemmas
+pub mod OpenLemmas
 pub mod PlaceLemmas
 pub mod ReadLemmas
