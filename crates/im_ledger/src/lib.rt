@@ -7,3 +7,5 @@ pub mod kept;
 pub mod laws;
 pub mod ledger;
 mod records;
+#[cfg(test)]
+mod tests;
