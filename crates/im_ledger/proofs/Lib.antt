@@ -1,3 +1,4 @@
+pub mod BlankLemmas
 pub mod CommitLemmas
 pub mod DurableLemmas
 pub mod GrowLemmas

@@ -8,3 +8,5 @@ pub mod laws;
 pub mod ledger;
 pub mod opening;
 mod records;
+#[cfg(test)]
+mod tests;
