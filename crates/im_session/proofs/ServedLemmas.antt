@@ -1,6 +1,6 @@
 -- What a session has answered so far, over the history that it found.
 use Rattle.std.proofs.Common.{◌≡◌, ◌<◌, ◌≤◌, ◌+◌, ◌-◌, ◌∙◌, ℕ, ℤ, suc, List, [], ◌∷◌, ◌++◌, length, refl, sym, ap, subst, inl, inr, arith, get_or, length-append, append-nil, drop-cons}
-use Rattle.std.specs.Prelude.{map, take, drop, All, Option, Some, None, IfSome}
+use Rattle.std.specs.Prelude.{map, take, drop, All, Option, IfSome}
 use Rattle.std.specs.List.{range_with_len}
 use Rattle.std.proofs.Math.Seq.{take-length, drop-length}
 use Rattle.std.proofs.lemmas.List.{drop-append-le, length-take, take-append-le}
@@ -13,7 +13,7 @@ use Rattle.im_format.specs.Standing.{Stands}
 use Rattle.im_ledger.specs.Ledgers.{Held}
 use Rattle.im_model.specs.History.{IsHistory}
 use Rattle.im_model.specs.declared.transactions.Transaction.{Transaction}
-use Rattle.im_report.specs.Report.{Report, floor_after}
+use Rattle.im_report.specs.Report.{Report}
 use Rattle.im_report.proofs.ReportLemmas.{Standing}
 use Rattle.im_script.specs.declared.commands.Line.{Line}
 use Rattle.im_session.specs.Moves.{MayPlace, StandsBetween}

@@ -1,12 +1,9 @@
-use Rattle.std.proofs.Common.{◌≡◌, ℤ, ℕ, List, Option, Err, ap, refl, subst, ◌∙◌}
+use Rattle.std.proofs.Common.{ℤ, ℕ, List, Option, Err, ap, refl, subst, ◌∙◌}
 use Rattle.std.proofs.lemmas.Result.{err_from_is_err_and}
 use Rattle.im_accept.specs.Messages.{IsReadBack}
 use Rattle.im_digest.specs.Digests.{Hash}
-use Rattle.im_model.specs.declared.transactions.Transaction.{Transaction}
-use Rattle.im_script.specs.declared.commands.Command.{Command}
 use Rattle.im_ledger.specs.Histories.{KeptHistory}
 use Rattle.im_ledger.specs.Ledgers.{Held}
-use Rattle.im_ledger.specs.declared.errors.CommitError.TheVariants.{Memory}
 use Rattle.im_session.specs.Turns.{Answers}
 use Rattle.im_session.proofs.KeptLemmas.{between-same, memory-cause, never-ok, nothing-placed, ok-cause}
 use Rattle.im_session.proofs.serve.answer.Goals as goal
