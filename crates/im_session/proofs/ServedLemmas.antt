@@ -1,6 +1,6 @@
 -- What a session has answered so far, over the history that it found.
 use Rattle.std.proofs.Common.{◌≡◌, ◌<◌, ◌≤◌, ◌+◌, ◌-◌, ◌∙◌, ℕ, ℤ, suc, List, [], ◌∷◌, ◌++◌, length, refl, sym, ap, subst, inl, inr, arith, get_or, length-append, append-nil, drop-cons}
-use Rattle.std.specs.Prelude.{map, take, drop, All, Option, Some, None, IfSome}
+use Rattle.std.specs.Prelude.{map, take, drop, All, Option, IfSome}
 use Rattle.std.specs.List.{range_with_len}
 use Rattle.std.proofs.Math.Seq.{take-length, drop-length}
 use Rattle.std.proofs.lemmas.List.{drop-append-le, length-take, take-append-le}
@@ -11,13 +11,16 @@ use Rattle.im_disk.specs.Moments.{Leaves, LeavesNow}
 use Rattle.im_disk.proofs.Leaving.{leaves_both, leaves_nothing, leaves_weaker}
 use Rattle.im_format.specs.Standing.{Stands}
 use Rattle.im_ledger.specs.Ledgers.{Held}
+use Rattle.im_ledger.specs.declared.errors.CommitError.{CommitError}
+use Rattle.im_ledger.specs.declared.errors.CommitError.TheVariants.{DiskFault, Memory}
 use Rattle.im_model.specs.History.{IsHistory}
 use Rattle.im_model.specs.declared.transactions.Transaction.{Transaction}
-use Rattle.im_report.specs.Report.{Report, floor_after}
+use Rattle.im_report.specs.Report.{Report}
 use Rattle.im_report.proofs.ReportLemmas.{Standing}
+use Rattle.im_script.specs.declared.commands.Command.{Command}
 use Rattle.im_script.specs.declared.commands.Line.{Line}
 use Rattle.im_session.specs.Moves.{MayPlace, StandsBetween}
-use Rattle.im_session.specs.Served.{IsLeft, Serves, ServesAll, StandsFrom, StandsWith}
+use Rattle.im_session.specs.Served.{IsLeft, IsWhy, ReachesDisk, Serves, ServesAll, ServesFront, StandsFrom, StandsWith}
 use Rattle.im_session.specs.Turns.{HasTime, Turn}
 use Rattle.im_session.proofs.AgainLemmas.{Told, report-again}
 
@@ -127,6 +130,30 @@ serves-stopped hash constant found history lines done line before mid now octets
       left_is = subst R (sym (drop-cons lines (length done) line less)) (subst I here m.left_is);
       images = m.moments.1;
       moments = moments-left hash (length found) history m.left before mid now (found-within hash found history done octets size standing) so_far m.moments;
+    }
+
+-- what is known where the disk failed, and nothing where memory ran out
+pub is-why : (why : CommitError) (history : List Transaction) (command : Command) → (why ≡ DiskFault → ReachesDisk history command) → IsWhy why history command
+is-why DiskFault history command reaches = reaches refl
+is-why Memory history command reaches = tt
+
+-- and it is the next line that got no reply
+pub front-stopped : (hash : Hash) (constant : Option ℤ) (found history : List Transaction) (lines done : List Line) (line : Line) (before mid now : Option DiskTold) (octets : List ℕ) (size : ℕ) (why : CommitError)
+    → done ≡ take (length done) lines → length done < length lines → line ≡ get_or lines (length done) line
+    → Standing hash found history done octets size → Told hash history done octets → All (HasTime constant) (drop (length found) history)
+    → Leaves (StandsFrom hash (length found) history) before mid → MayPlace hash constant line.command history mid now → IsWhy why history line.command
+    → ServesFront hash constant found lines before now octets why
+unfolding serves-stopped
+front-stopped hash constant found history lines done line before mid now octets size why front less here standing told timed so_far m because =
+    let rest : List Line = drop (suc (length done)) lines in
+    record {
+      serves = serves-stopped hash constant found history lines done line before mid now octets size front less here standing told timed so_far m;
+      stops = record {
+        line = line;
+        rest = rest;
+        next = drop-cons lines (length done) line less ∙ ap (λ (l : Line). l ∷ rest) (sym here);
+        because = because;
+      };
     }
 
 -- all lines were answered

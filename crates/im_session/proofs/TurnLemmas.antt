@@ -3,7 +3,7 @@ use Rattle.std.proofs.Common.{◌≡◌, ◌≤◌, length, ℕ, ◌+◌, ◌-�
 use Rattle.std.specs.Int.{w64}
 use Rattle.std.specs.Str.{bytes_eq}
 use Rattle.std.proofs.Math.Seq.{get_or-append_seam, take-length}
-use Rattle.std.proofs.lemmas.List.Elements.{All-append, All-push}
+use Rattle.std.proofs.lemmas.List.Elements.{All-push}
 use Rattle.im_digest.specs.Digests.{Hash}
 use Rattle.im_model.specs.History.{no_transaction, IsEntry, IsHistory, IsTransaction}
 use Rattle.im_model.specs.declared.entries.Entry.{Entry}

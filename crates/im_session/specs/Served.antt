@@ -1,5 +1,5 @@
 -- What a session made of the lines of a script, and what it left on the disk.
-use Rattle.std.specs.Prelude.{◌≡◌, ◌⊎◌, ℤ, ℕ, ◌≤◌, List, [], ◌∷◌, ◌++◌, length, map, take, drop, All, Option, IfSome}
+use Rattle.std.specs.Prelude.{◌≡◌, ◌⊎◌, ℤ, ℕ, ◌<◌, ◌≤◌, List, [], ◌∷◌, ◌++◌, length, map, take, drop, All, Option, IfSome}
 use Rattle.im_digest.specs.Digests.{Hash}
 use Rattle.im_disk.specs.Disk.{Files, Told, seen}
 use Rattle.im_disk.specs.Moments.{Leaves, LeavesNow}
@@ -12,6 +12,8 @@ use Rattle.im_script.specs.declared.commands.Command.{Command}
 use Rattle.im_script.specs.declared.commands.Command.TheVariants.{Set}
 use Rattle.im_report.specs.Report.{Report}
 use Rattle.im_accept.specs.Taken.{AreReadBack, HaveSessions}
+use Rattle.im_ledger.specs.declared.errors.CommitError.{CommitError}
+use Rattle.im_ledger.specs.declared.errors.CommitError.TheVariants.{DiskFault, Memory}
 use Rattle.im_session.specs.Turns.{HasTime}
 
 -- the image stands for the first transactions of a history: at least so many of them
@@ -60,6 +62,32 @@ pub record Serves (hash : Hash) (constant : Option ℤ) (found : List Transactio
   pub left_is : IsLeft constant (drop count lines) left
   pub images : LeavesNow (StandsWith hash history left) now
   pub moments : Leaves (StandsFrom hash (length found) (history ++ left)) before now
+
+-- a `set` that reaches the disk: its drafts are the entries of a transaction, and the history has room for it
+pub record ReachesDisk (history : List Transaction) (command : Command) : Type 0 where
+  pub drafts : List Draft
+  pub asks : command ≡ Set drafts
+  pub free : AreFree drafts
+  pub are : AreEntries drafts
+  pub room : length history < 1048576
+
+-- why a command behind this history got no reply: the disk fails only at one that reaches it, and memory may run
+-- out at any
+abbrev pub IsWhy : CommitError → List Transaction → Command → Type 0
+IsWhy DiskFault history command = ReachesDisk history command
+IsWhy Memory history command = Unit {0}
+
+-- behind the lines that were answered there is one that got no reply
+pub record StopsAt (why : CommitError) (history : List Transaction) (lines : List Line) : Type 0 where
+  pub line : Line
+  pub rest : List Line
+  pub next : lines ≡ line ∷ rest
+  pub because : IsWhy why history line.command
+
+-- the lines before the first one without a reply were answered
+pub record ServesFront (hash : Hash) (constant : Option ℤ) (found : List Transaction) (lines : List Line) (before now : Option Told) (octets : List ℕ) (why : CommitError) : Type 0 where
+  pub serves : Serves hash constant found lines before now octets
+  pub stops : StopsAt why serves.history (drop serves.count lines)
 
 -- all lines were answered, and what reads give stands for the history too
 pub record ServesAll (hash : Hash) (constant : Option ℤ) (found : List Transaction) (lines : List Line) (before now : Option Told) (octets : List ℕ) : Type 0 where

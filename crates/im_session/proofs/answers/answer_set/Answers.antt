@@ -1,5 +1,4 @@
-use Rattle.std.proofs.Common.{◌≡◌, ℕ, ℤ, List, Option, refl, subst, sym, inl, inr}
-use Rattle.im_digest.specs.Digests.{Hash}
+use Rattle.std.proofs.Common.{List, refl, subst, inl, inr}
 use Rattle.im_draft.specs.Drafts.{AreFree, IsReserved}
 use Rattle.im_draft.specs.declared.drafts.Draft.{Draft}
 use Rattle.im_script.specs.declared.commands.Command.TheVariants.{Set}

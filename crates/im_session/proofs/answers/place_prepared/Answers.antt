@@ -1,6 +1,5 @@
-use Rattle.std.proofs.Common.{◌≡◌, ◌≤◌, List, length, ap, refl, subst, ◌∙◌, arith}
+use Rattle.std.proofs.Common.{◌≡◌, ◌≤◌, List, length, ap, refl, subst, arith}
 use Rattle.std.proofs.lemmas.Result.{IfOk-weaker}
-use Rattle.im_draft.specs.declared.drafts.Draft.{Draft}
 use Rattle.im_model.specs.declared.entries.Entry.{Entry}
 use Rattle.im_script.specs.declared.commands.Command.TheVariants.{Set}
 use Rattle.im_ledger.specs.Histories.{KeptHistory}

@@ -1,14 +1,12 @@
-use Rattle.std.proofs.Common.{◌≡◌, ℤ, ℕ, List, Option, Err, ap, refl, subst, ◌∙◌}
+use Rattle.std.proofs.Common.{ℤ, ℕ, List, Option, Err, ap, refl, subst, ◌∙◌}
 use Rattle.std.proofs.lemmas.Result.{err_from_is_err_and}
 use Rattle.im_accept.specs.Messages.{IsReadBack}
 use Rattle.im_digest.specs.Digests.{Hash}
-use Rattle.im_model.specs.declared.transactions.Transaction.{Transaction}
-use Rattle.im_script.specs.declared.commands.Command.{Command}
 use Rattle.im_ledger.specs.Histories.{KeptHistory}
 use Rattle.im_ledger.specs.Ledgers.{Held}
-use Rattle.im_ledger.specs.declared.errors.CommitError.TheVariants.{Memory}
+use Rattle.im_ledger.specs.declared.errors.CommitError.TheVariants.{DiskFault}
 use Rattle.im_session.specs.Turns.{Answers}
-use Rattle.im_session.proofs.KeptLemmas.{between-same, memory-cause, never-ok, nothing-placed, ok-cause}
+use Rattle.im_session.proofs.KeptLemmas.{between-same, memory-cause, never-err, never-fault, never-ok, nothing-placed, ok-cause}
 use Rattle.im_session.proofs.serve.answer.Goals as goal
 
 pub returns-in_err-answer_link-in-Link-clause-left : goal.returns-in_err-answer_link-in-Link-clause-left
@@ -35,6 +33,7 @@ returns-in_err-read-in_default g c =
       moments = never-ok _ given error.0 error.1;
       left = nothing-placed g.D.Disk.told (g.H.Hash32.digest c.args.hash.now) kept c.requires (g.C.Clock.constant c.args.clock.now) c.args.command kept.journal refl;
       cause = memory-cause (g.D.Disk.faults kept.journal.disk) given (error.1 ∙ ap Err error.2);
+      why = λ fault. absurd (never-fault given (error.1 ∙ ap Err error.2) fault);
       same = refl;
     }
 
@@ -54,5 +53,6 @@ returns-in_ok-read-in_default g c =
       moments = between-same g.D.Disk.told hash kept c.requires kept refl refl;
       left = nothing-placed g.D.Disk.told hash kept c.requires constant c.args.command kept.journal refl;
       cause = ok-cause (g.D.Disk.faults kept.journal.disk) _;
+      why = λ fault. absurd (never-err done.field-0 DiskFault fault);
       same = refl;
     }

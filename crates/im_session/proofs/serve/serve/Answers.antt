@@ -1,4 +1,4 @@
-use Rattle.std.proofs.Common.{◌≡◌, ◌≤◌, ℤ, ℕ, List, [], All, Option, Ok, Err, refl, sym, subst, ap, ◌∙◌, drop, length, arith}
+use Rattle.std.proofs.Common.{◌≡◌, ◌≤◌, ℤ, ℕ, List, [], All, Option, Ok, Err, refl, sym, subst, ◌∙◌, length, arith}
 use Rattle.std.proofs.Math.Seq.{drop-length}
 use Rattle.std.proofs.lemmas.Iterator.Adapters.{YieldsList-from_vec}
 use Rattle.std.proofs.lemmas.Iterator.Consumers.{YieldsList-end, YieldsList-so_far, YieldsList-turn}
@@ -7,16 +7,17 @@ use Rattle.im_digest.specs.Digests.{Hash}
 use Rattle.im_disk.specs.Disk.{Told as DiskTold}
 use Rattle.im_ledger.specs.Causes.{HasCommitCause}
 use Rattle.im_ledger.specs.Histories.{KeptHistory}
+use Rattle.im_ledger.specs.declared.errors.CommitError.TheVariants.{DiskFault}
 use Rattle.im_ledger.proofs.GrowLemmas.{kept-images, kept-shown}
 use Rattle.im_model.specs.declared.transactions.Transaction.{Transaction}
 use Rattle.im_script.specs.declared.commands.Line.{Line}
 use Rattle.im_report.proofs.ReportLemmas.{Standing}
 use Rattle.im_session.specs.Moves.{MayPlace}
-use Rattle.im_session.specs.Served.{Serves, ServesAll}
+use Rattle.im_session.specs.Served.{ReachesDisk, ServesAll, ServesFront}
 use Rattle.im_session.specs.Turns.{HasTime, Turn}
 use Rattle.im_session.proofs.AgainLemmas.{Told, Told-first, turn-told}
-use Rattle.im_session.proofs.KeptLemmas.{ok-cause}
-use Rattle.im_session.proofs.ServedLemmas.{found-standing, found-within, moments-first, moments-next, serves-ended, serves-stopped, timed-next}
+use Rattle.im_session.proofs.KeptLemmas.{error-is, never-err, ok-cause}
+use Rattle.im_session.proofs.ServedLemmas.{found-standing, found-within, front-stopped, is-why, moments-first, moments-next, serves-ended, timed-next}
 use Rattle.im_session.proofs.TurnLemmas.{turn-report}
 use Rattle.im_session.proofs.serve.serve.Goals as goal
 
@@ -64,8 +65,8 @@ loop-line-preserved g c =
       same = c.turn.ensures.same ∙ c.loop-line.invariant.same;
     }
 
-pub returns-in-Err-clause-some : goal.returns-in-Err-clause-some
-returns-in-Err-clause-some g c =
+pub returns-in-Err-clause-front : goal.returns-in-Err-clause-front
+returns-in-Err-clause-front g c why is =
     let hash : Hash = g.H.Hash32.digest c.args.hash.now in
     let first : Option ℤ = g.C.Clock.constant c.args.clock.now in
     let found : List Transaction = c.args.kept.held.transactions in
@@ -83,11 +84,16 @@ returns-in-Err-clause-some g c =
     let front = sym (map-id done) ∙ YieldsList-so_far all done c.loop-line.line-iterator c.loop-line.yielded_by in
     let here = YieldsList-turn all done c.loop-line.line-iterator c.loop-line.yielded_by c.next.result c.next.new.self line c.in-Some.is c.next.ensures.steps in
     let P : Option ℤ → Type 0 = λ o. MayPlace hash o line.command before.held.transactions mid now in
-    let O : List ℕ → Type 0 = λ o. Serves hash first found lines start now o in
-    let E : g.row.D.Denot → Type 0 = λ d. Serves hash first found lines start (g.D.Disk.told d) c.turn.new.out.items in
+    let O : List ℕ → Type 0 = λ o. ServesFront hash first found lines start now o why in
+    let E : g.row.D.Denot → Type 0 = λ d. ServesFront hash first found lines start (g.D.Disk.told d) c.turn.new.out.items why in
+    let fault : why ≡ DiskFault → ReachesDisk before.held.transactions line.command = λ w. c.in-Err.ensures.why (error-is c.in-Err.error why DiskFault is w) in
     subst E (sym c.into_disk.ensures) (subst O (sym c.in-Err.ensures.nothing)
-    (serves-stopped hash first found before.held.transactions lines done line start mid now out (length before.held.tree) front here.0 here.1
-    c.loop-line.invariant.standing c.loop-line.invariant.told c.loop-line.invariant.timed c.loop-line.invariant.moments (subst P c.loop-line.invariant.same c.turn.ensures.left)))
+    (front-stopped hash first found before.held.transactions lines done line start mid now out (length before.held.tree) why front here.0 here.1
+    c.loop-line.invariant.standing c.loop-line.invariant.told c.loop-line.invariant.timed c.loop-line.invariant.moments (subst P c.loop-line.invariant.same c.turn.ensures.left)
+    (is-why why before.held.transactions line.command fault)))
+
+pub returns-in-Err-clause-some : goal.returns-in-Err-clause-some
+returns-in-Err-clause-some g c = let front = returns-in-Err-clause-front g c c.in-Err.error refl in front.serves
 
 pub returns-in-Err-clause-cause : goal.returns-in-Err-clause-cause
 returns-in-Err-clause-cause g c =
@@ -113,6 +119,9 @@ returns-clause-all g c =
     (serves-ended hash first found kept.held.transactions lines c.loop-line.yielded start now c.loop-line.out.items (length kept.held.tree) whole
     c.loop-line.invariant.standing c.loop-line.invariant.told c.loop-line.invariant.timed c.loop-line.invariant.moments
     (kept-images g.D.Disk.told hash kept c.loop-line.invariant.kept) (kept-shown g.D.Disk.told hash kept c.loop-line.invariant.kept))
+
+pub returns-clause-front : goal.returns-clause-front
+returns-clause-front g c why is = absurd (never-err tt why is)
 
 pub returns-clause-some : goal.returns-clause-some
 returns-clause-some g c = let all = returns-clause-all g c in all.serves
