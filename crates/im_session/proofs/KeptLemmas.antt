@@ -1,6 +1,6 @@
 -- What a command that touches no disk leaves, and what a placed transaction does.
-use Rattle.std.proofs.Common.{◌≡◌, ◌<◌, length, ◌∙◌, ℕ, ℤ, List, [], ◌∷◌, ◌++◌, refl, sym, subst, inl, inr}
-use Rattle.std.specs.Prelude.{map, Option, IfErr, IfOk, Result, Ok, Err, IsErrOf}
+use Rattle.std.proofs.Common.{◌≡◌, ◌∙◌, ℕ, ℤ, List, [], ◌∷◌, ◌++◌, refl, sym, subst, inl, inr}
+use Rattle.std.specs.Prelude.{map, Option, IfOk, Result, Ok, Err, IsErrOf}
 use Rattle.im_digest.specs.Digests.{Hash}
 use Rattle.im_disk.specs.Disk.{Files, Told}
 use Rattle.im_disk.specs.Moments.{Leaves}
@@ -19,7 +19,7 @@ use Rattle.im_model.specs.declared.transactions.Transaction.{Transaction}
 use Rattle.im_script.specs.declared.commands.Command.{Command}
 use Rattle.im_script.specs.declared.commands.Command.TheVariants.{Set}
 use Rattle.im_session.specs.Moves.{MayPlace, MayPlaceOne, StandsBetween}
-use Rattle.im_session.specs.Served.{IsWhy, StandsWith}
+use Rattle.im_session.specs.Served.{StandsWith}
 
 module _ {D : Type 0} (told : D → Option Told) (hash : Hash) (k : KeptHistory D) (is : IsKept told hash k) where
   -- nothing happens to the disk
@@ -62,17 +62,6 @@ between-grown hash before after tx told now grown moments =
     let P : List Transaction → Type 0 = λ h. Leaves (StandsBetween hash before h) told now in
     subst P (sym grown) moments
 
--- drafts that may be placed reach the disk
-pub why-placed : {T : Type 0} (drafts : List Draft) (history : List Transaction) (result : Result T CommitError)
-    → AreFree drafts → AreEntries drafts → (IsErrOf result DiskFault → length history < 1048576) → IfErr result (λ why. IsWhy why history (Set drafts))
-why-placed drafts history (Ok x) free are room = tt
-why-placed drafts history (Err DiskFault) free are room = record { drafts = drafts; asks = refl; free = free; are = are; room = room refl }
-why-placed drafts history (Err Memory) free are room = tt
-
--- memory may run out at any command
-pub why-memory : {T : Type 0} (history : List Transaction) (command : Command) (result : Result T CommitError) → result ≡ Err Memory → IfErr result (λ why. IsWhy why history command)
-why-memory history command result is = subst (λ r. IfErr r (λ why. IsWhy why history command)) (sym is) tt
-
 -- an error has no value
 pub never-ok : {T E : Type 0} (P : T → Type 0) (result : Result T E) (error : E) → result ≡ Err error → IfOk result P
 never-ok P result error is = subst (λ r. IfOk r P) (sym is) tt
@@ -86,3 +75,15 @@ ok-cause n x = no-fault n n (Ok x) (λ fault. cc) refl
 
 pub memory-cause : {T : Type 0} (n : ℕ) (result : Result T CommitError) → result ≡ Err Memory → HasCommitCause n n result
 memory-cause n result is = no-fault n n result (λ fault. cc) refl
+
+-- an answer is no error
+pub never-err : {T : Type 0} (x : T) (why : CommitError) → IsErrOf {T = T} {E = CommitError} (Ok x) why → ⊥
+never-err x why is = cc
+
+-- where memory ran out the disk didn't fail
+pub never-fault : {T : Type 0} (result : Result T CommitError) → result ≡ Err Memory → IsErrOf result DiskFault → ⊥
+never-fault result is fault = cc
+
+-- the error that was answered is this one
+pub error-is : (error why wanted : CommitError) → IsErrOf {T = Unit {0}} {E = CommitError} (Err error) why → why ≡ wanted → IsErrOf {T = Unit {0}} {E = CommitError} (Err error) wanted
+error-is error why wanted is same = cc

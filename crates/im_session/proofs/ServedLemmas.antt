@@ -12,13 +12,15 @@ use Rattle.im_disk.proofs.Leaving.{leaves_both, leaves_nothing, leaves_weaker}
 use Rattle.im_format.specs.Standing.{Stands}
 use Rattle.im_ledger.specs.Ledgers.{Held}
 use Rattle.im_ledger.specs.declared.errors.CommitError.{CommitError}
+use Rattle.im_ledger.specs.declared.errors.CommitError.TheVariants.{DiskFault, Memory}
 use Rattle.im_model.specs.History.{IsHistory}
 use Rattle.im_model.specs.declared.transactions.Transaction.{Transaction}
 use Rattle.im_report.specs.Report.{Report}
 use Rattle.im_report.proofs.ReportLemmas.{Standing}
+use Rattle.im_script.specs.declared.commands.Command.{Command}
 use Rattle.im_script.specs.declared.commands.Line.{Line}
 use Rattle.im_session.specs.Moves.{MayPlace, StandsBetween}
-use Rattle.im_session.specs.Served.{IsLeft, IsWhy, Serves, ServesAll, ServesFront, StandsFrom, StandsWith}
+use Rattle.im_session.specs.Served.{IsLeft, IsWhy, ReachesDisk, Serves, ServesAll, ServesFront, StandsFrom, StandsWith}
 use Rattle.im_session.specs.Turns.{HasTime, Turn}
 use Rattle.im_session.proofs.AgainLemmas.{Told, report-again}
 
@@ -130,7 +132,12 @@ serves-stopped hash constant found history lines done line before mid now octets
       moments = moments-left hash (length found) history m.left before mid now (found-within hash found history done octets size standing) so_far m.moments;
     }
 
--- and this is why
+-- what is known where the disk failed, and nothing where memory ran out
+pub is-why : (why : CommitError) (history : List Transaction) (command : Command) → (why ≡ DiskFault → ReachesDisk history command) → IsWhy why history command
+is-why DiskFault history command reaches = reaches refl
+is-why Memory history command reaches = tt
+
+-- and it is the next line that got no reply
 pub front-stopped : (hash : Hash) (constant : Option ℤ) (found history : List Transaction) (lines done : List Line) (line : Line) (before mid now : Option DiskTold) (octets : List ℕ) (size : ℕ) (why : CommitError)
     → done ≡ take (length done) lines → length done < length lines → line ≡ get_or lines (length done) line
     → Standing hash found history done octets size → Told hash history done octets → All (HasTime constant) (drop (length found) history)

@@ -1,4 +1,4 @@
-ghost use Rattle.std.specs.Prelude.{◌≡◌, ◌<◌, ℤ, List, length, map, FitsSigned, IfErr, IfOk, IsErrOf, OnOk, Option};
+ghost use Rattle.std.specs.Prelude.{◌≡◌, ◌<◌, ℤ, List, length, map, FitsSigned, IfOk, IsErrOf, OnOk, Option};
 ghost use Rattle.std.specs.Int.{w64};
 ghost use Rattle.im_digest.specs.Digests.{Hash};
 ghost use Rattle.im_disk.specs.Moments.{Leaves};
@@ -9,8 +9,9 @@ ghost use Rattle.im_script.specs.declared.commands.Command.TheVariants.{Set, Lin
 ghost use Rattle.im_ledger.specs.Causes.{HasCommitCause};
 ghost use Rattle.im_ledger.specs.Histories.{IsKept};
 ghost use Rattle.im_ledger.specs.Ledgers.{IsLedger};
+ghost use Rattle.im_ledger.specs.declared.errors.CommitError.TheVariants.{DiskFault};
 ghost use Rattle.im_session.specs.Moves.{MayPlace, MayPlaceOne, StandsBetween};
-ghost use Rattle.im_session.specs.Served.{IsWhy};
+ghost use Rattle.im_session.specs.Served.{ReachesDisk};
 ghost use Rattle.im_session.specs.Turns.{Answers, HasTime, Placed};
 
 use im_digest::Hash32;
@@ -81,8 +82,8 @@ fn place_prepared<D: Disk, H: Hash32, C: Clock>(
     ensures moments { OnOk result (Leaves (StandsBetween (H.digest hash.now) kept.old.held.transactions kept.new.held.transactions) (D.told kept.old.journal.disk) (D.told kept.new.journal.disk)) }
     ensures left { (drafts : List TheDraft) → AreFree drafts → AreEntries drafts → prepared.entries ≡ map entry_of drafts
         → MayPlace (H.digest hash.now) (C.constant clock.old) (Set drafts) kept.old.held.transactions (D.told kept.old.journal.disk) (D.told kept.new.journal.disk) }
-    ensures room { IsErrOf result CommitError.DiskFault → length kept.old.held.transactions < 1048576 }
     ensures cause { HasCommitCause (D.faults kept.old.journal.disk) (D.faults kept.new.journal.disk) result }
+    ensures why { IsErrOf result DiskFault → length kept.old.held.transactions < 1048576 }
     ensures same { C.constant clock.new ≡ C.constant clock.old }
 {
     if kept.ledger().count() >= MOST_TRANSACTIONS {
@@ -104,8 +105,8 @@ pub(crate) fn answer_set<D: Disk, H: Hash32, C: Clock>(
     ensures kept { OnOk result (IsKept D.told (H.digest hash.now) kept.new) }
     ensures moments { OnOk result (Leaves (StandsBetween (H.digest hash.now) kept.old.held.transactions kept.new.held.transactions) (D.told kept.old.journal.disk) (D.told kept.new.journal.disk)) }
     ensures left { MayPlace (H.digest hash.now) (C.constant clock.old) (Set drafts.items) kept.old.held.transactions (D.told kept.old.journal.disk) (D.told kept.new.journal.disk) }
-    ensures why { IfErr result (λ why. IsWhy why kept.old.held.transactions (Set drafts.items)) }
     ensures cause { HasCommitCause (D.faults kept.old.journal.disk) (D.faults kept.new.journal.disk) result }
+    ensures why { IsErrOf result DiskFault → ReachesDisk kept.old.held.transactions (Set drafts.items) }
     ensures same { C.constant clock.new ≡ C.constant clock.old }
 {
     if let Some(i) = first_reserved(&drafts) {

@@ -1,12 +1,13 @@
-ghost use Rattle.std.specs.Prelude.{◌≡◌, ℤ, length, Option, Err, IfErr, IfOk, OnOk, OnErr};
+ghost use Rattle.std.specs.Prelude.{◌≡◌, ℤ, length, Option, IfOk, IsErrOf, OnOk, OnErr};
 ghost use Rattle.im_disk.specs.Moments.{Leaves};
 ghost use Rattle.im_accept.specs.Messages.{IsReadBack};
 ghost use Rattle.im_ledger.specs.Causes.{HasCommitCause};
 ghost use Rattle.im_ledger.specs.Histories.{IsKept};
 ghost use Rattle.im_ledger.specs.Ledgers.{IsLedger};
 ghost use Rattle.im_ledger.specs.declared.errors.CommitError.{CommitError as Why};
+ghost use Rattle.im_ledger.specs.declared.errors.CommitError.TheVariants.{DiskFault};
 ghost use Rattle.im_session.specs.Moves.{MayPlace, StandsBetween};
-ghost use Rattle.im_session.specs.Served.{IsWhy, Serves, ServesAll, ServesFront};
+ghost use Rattle.im_session.specs.Served.{ReachesDisk, Serves, ServesAll, ServesFront};
 ghost use Rattle.im_session.specs.Turns.{Answers, IsReading, Turn};
 
 use crate::answers::{answer_link, answer_set, header_text};
@@ -61,8 +62,8 @@ fn answer<D: Disk, H: Hash32, C: Clock>(
     ensures kept { OnOk result (IsKept D.told (H.digest hash.now) kept.new) }
     ensures moments { OnOk result (Leaves (StandsBetween (H.digest hash.now) kept.old.held.transactions kept.new.held.transactions) (D.told kept.old.journal.disk) (D.told kept.new.journal.disk)) }
     ensures left { MayPlace (H.digest hash.now) (C.constant clock.old) command kept.old.held.transactions (D.told kept.old.journal.disk) (D.told kept.new.journal.disk) }
-    ensures why { IfErr result (λ why. IsWhy why kept.old.held.transactions command) }
     ensures cause { HasCommitCause (D.faults kept.old.journal.disk) (D.faults kept.new.journal.disk) result }
+    ensures why { IsErrOf result DiskFault → ReachesDisk kept.old.held.transactions command }
     ensures same { C.constant clock.new ≡ C.constant clock.old }
 {
     match command {
@@ -87,8 +88,8 @@ fn turn<D: Disk, H: Hash32, C: Clock>(
     ensures moments { OnOk result (Leaves (StandsBetween (H.digest hash.now) kept.old.held.transactions kept.new.held.transactions) (D.told kept.old.journal.disk) (D.told kept.new.journal.disk)) }
     ensures nothing { OnErr result (out.new.items ≡ out.old.items) }
     ensures left { MayPlace (H.digest hash.now) (C.constant clock.old) line.command kept.old.held.transactions (D.told kept.old.journal.disk) (D.told kept.new.journal.disk) }
-    ensures why { IfErr result (λ why. IsWhy why kept.old.held.transactions line.command) }
     ensures cause { HasCommitCause (D.faults kept.old.journal.disk) (D.faults kept.new.journal.disk) result }
+    ensures why { IsErrOf result DiskFault → ReachesDisk kept.old.held.transactions line.command }
     ensures same { C.constant clock.new ≡ C.constant clock.old }
 {
     let Line { session, command } = line;
@@ -125,9 +126,8 @@ pub fn serve<D: Disk, H: Hash32, C: Clock>(
     requires kept { IsKept D.told (H.digest hash.now) kept }
     requires filled { length kept.held.tree ≡ length kept.held.transactions }
     ensures some { Serves (H.digest hash.now) (C.constant clock.old) kept.held.transactions lines.items (D.told kept.journal.disk) (D.told result.disk) result.out.items }
-    ensures front { (why : Why) → result.end ≡ Err why
-        → ServesFront (H.digest hash.now) (C.constant clock.old) kept.held.transactions lines.items (D.told kept.journal.disk) (D.told result.disk) result.out.items why }
     ensures all { OnOk result.end (ServesAll (H.digest hash.now) (C.constant clock.old) kept.held.transactions lines.items (D.told kept.journal.disk) (D.told result.disk) result.out.items) }
+    ensures front { (why : Why) → result.end ≡ Err why → ServesFront (H.digest hash.now) (C.constant clock.old) kept.held.transactions lines.items (D.told kept.journal.disk) (D.told result.disk) result.out.items why }
     ensures cause { HasCommitCause (D.faults kept.journal.disk) (D.faults result.disk) result.end }
     ensures same { C.constant clock.new ≡ C.constant clock.old }
 {

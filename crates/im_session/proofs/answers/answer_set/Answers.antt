@@ -3,7 +3,7 @@ use Rattle.im_draft.specs.Drafts.{AreFree, IsReserved}
 use Rattle.im_draft.specs.declared.drafts.Draft.{Draft}
 use Rattle.im_script.specs.declared.commands.Command.TheVariants.{Set}
 use Rattle.im_ledger.specs.Histories.{KeptHistory}
-use Rattle.im_session.proofs.KeptLemmas.{between-same, nothing-placed, why-placed}
+use Rattle.im_session.proofs.KeptLemmas.{between-same, nothing-placed}
 use Rattle.im_session.proofs.TurnLemmas.{refused-answers, reserved-answers}
 use Rattle.im_session.proofs.answers.answer_set.Goals as goal
 
@@ -33,11 +33,6 @@ pub returns-in-Ok-clause-left : goal.returns-in-Ok-clause-left
 returns-in-Ok-clause-left g c =
     let F : List Draft → Type 0 = λ ds. AreFree ds in
     c.place_prepared.ensures.left c.args.drafts.items (subst F c.deref.ensures.value c.in_default.ensures.none) c.in-Ok.ensures.entries c.in-Ok.ensures.ok
-
-pub returns-in-Ok-clause-why : goal.returns-in-Ok-clause-why
-returns-in-Ok-clause-why g c =
-    let F : List Draft → Type 0 = λ ds. AreFree ds in
-    why-placed c.args.drafts.items c.args.kept.now.held.transactions c.place_prepared.result (subst F c.deref.ensures.value c.in_default.ensures.none) c.in-Ok.ensures.entries c.place_prepared.ensures.room
 
 pub returns-in_err-refused_text-in-Err-clause-left : goal.returns-in_err-refused_text-in-Err-clause-left
 returns-in_err-refused_text-in-Err-clause-left g c =

@@ -4,8 +4,9 @@ use Rattle.im_accept.specs.Messages.{IsReadBack}
 use Rattle.im_digest.specs.Digests.{Hash}
 use Rattle.im_ledger.specs.Histories.{KeptHistory}
 use Rattle.im_ledger.specs.Ledgers.{Held}
+use Rattle.im_ledger.specs.declared.errors.CommitError.TheVariants.{DiskFault}
 use Rattle.im_session.specs.Turns.{Answers}
-use Rattle.im_session.proofs.KeptLemmas.{between-same, memory-cause, never-ok, nothing-placed, ok-cause, why-memory}
+use Rattle.im_session.proofs.KeptLemmas.{between-same, memory-cause, never-err, never-fault, never-ok, nothing-placed, ok-cause}
 use Rattle.im_session.proofs.serve.answer.Goals as goal
 
 pub returns-in_err-answer_link-in-Link-clause-left : goal.returns-in_err-answer_link-in-Link-clause-left
@@ -31,8 +32,8 @@ returns-in_err-read-in_default g c =
       kept = never-ok _ given error.0 error.1;
       moments = never-ok _ given error.0 error.1;
       left = nothing-placed g.D.Disk.told (g.H.Hash32.digest c.args.hash.now) kept c.requires (g.C.Clock.constant c.args.clock.now) c.args.command kept.journal refl;
-      why = why-memory kept.held.transactions c.args.command given (error.1 ∙ ap Err error.2);
       cause = memory-cause (g.D.Disk.faults kept.journal.disk) given (error.1 ∙ ap Err error.2);
+      why = λ fault. absurd (never-fault given (error.1 ∙ ap Err error.2) fault);
       same = refl;
     }
 
@@ -51,7 +52,7 @@ returns-in_ok-read-in_default g c =
       kept = c.requires;
       moments = between-same g.D.Disk.told hash kept c.requires kept refl refl;
       left = nothing-placed g.D.Disk.told hash kept c.requires constant c.args.command kept.journal refl;
-      why = tt;
       cause = ok-cause (g.D.Disk.faults kept.journal.disk) _;
+      why = λ fault. absurd (never-err done.field-0 DiskFault fault);
       same = refl;
     }

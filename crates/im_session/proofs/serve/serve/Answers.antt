@@ -6,18 +6,18 @@ use Rattle.std.proofs.lemmas.List.{map-id}
 use Rattle.im_digest.specs.Digests.{Hash}
 use Rattle.im_disk.specs.Disk.{Told as DiskTold}
 use Rattle.im_ledger.specs.Causes.{HasCommitCause}
-use Rattle.im_ledger.specs.declared.errors.CommitError.{CommitError}
 use Rattle.im_ledger.specs.Histories.{KeptHistory}
+use Rattle.im_ledger.specs.declared.errors.CommitError.TheVariants.{DiskFault}
 use Rattle.im_ledger.proofs.GrowLemmas.{kept-images, kept-shown}
 use Rattle.im_model.specs.declared.transactions.Transaction.{Transaction}
 use Rattle.im_script.specs.declared.commands.Line.{Line}
 use Rattle.im_report.proofs.ReportLemmas.{Standing}
 use Rattle.im_session.specs.Moves.{MayPlace}
-use Rattle.im_session.specs.Served.{IsWhy, ServesAll, ServesFront}
+use Rattle.im_session.specs.Served.{ReachesDisk, ServesAll, ServesFront}
 use Rattle.im_session.specs.Turns.{HasTime, Turn}
 use Rattle.im_session.proofs.AgainLemmas.{Told, Told-first, turn-told}
-use Rattle.im_session.proofs.KeptLemmas.{ok-cause}
-use Rattle.im_session.proofs.ServedLemmas.{found-standing, found-within, moments-first, moments-next, front-stopped, serves-ended, timed-next}
+use Rattle.im_session.proofs.KeptLemmas.{error-is, never-err, ok-cause}
+use Rattle.im_session.proofs.ServedLemmas.{found-standing, found-within, front-stopped, is-why, moments-first, moments-next, serves-ended, timed-next}
 use Rattle.im_session.proofs.TurnLemmas.{turn-report}
 use Rattle.im_session.proofs.serve.serve.Goals as goal
 
@@ -86,11 +86,11 @@ returns-in-Err-clause-front g c why is =
     let P : Option ℤ → Type 0 = λ o. MayPlace hash o line.command before.held.transactions mid now in
     let O : List ℕ → Type 0 = λ o. ServesFront hash first found lines start now o why in
     let E : g.row.D.Denot → Type 0 = λ d. ServesFront hash first found lines start (g.D.Disk.told d) c.turn.new.out.items why in
-    let W : CommitError → Type 0 = λ e. IsWhy e before.held.transactions line.command in
-    let same : c.in-Err.error ≡ why = cc in
+    let fault : why ≡ DiskFault → ReachesDisk before.held.transactions line.command = λ w. c.in-Err.ensures.why (error-is c.in-Err.error why DiskFault is w) in
     subst E (sym c.into_disk.ensures) (subst O (sym c.in-Err.ensures.nothing)
     (front-stopped hash first found before.held.transactions lines done line start mid now out (length before.held.tree) why front here.0 here.1
-    c.loop-line.invariant.standing c.loop-line.invariant.told c.loop-line.invariant.timed c.loop-line.invariant.moments (subst P c.loop-line.invariant.same c.turn.ensures.left) (subst W same c.in-Err.ensures.why)))
+    c.loop-line.invariant.standing c.loop-line.invariant.told c.loop-line.invariant.timed c.loop-line.invariant.moments (subst P c.loop-line.invariant.same c.turn.ensures.left)
+    (is-why why before.held.transactions line.command fault)))
 
 pub returns-in-Err-clause-some : goal.returns-in-Err-clause-some
 returns-in-Err-clause-some g c = let front = returns-in-Err-clause-front g c c.in-Err.error refl in front.serves
@@ -119,6 +119,9 @@ returns-clause-all g c =
     (serves-ended hash first found kept.held.transactions lines c.loop-line.yielded start now c.loop-line.out.items (length kept.held.tree) whole
     c.loop-line.invariant.standing c.loop-line.invariant.told c.loop-line.invariant.timed c.loop-line.invariant.moments
     (kept-images g.D.Disk.told hash kept c.loop-line.invariant.kept) (kept-shown g.D.Disk.told hash kept c.loop-line.invariant.kept))
+
+pub returns-clause-front : goal.returns-clause-front
+returns-clause-front g c why is = absurd (never-err tt why is)
 
 pub returns-clause-some : goal.returns-clause-some
 returns-clause-some g c = let all = returns-clause-all g c in all.serves
