@@ -1,3 +1,6 @@
+mod damages;
+mod growing;
+
 use crate::recovery::{Recovered, open};
 use im_digest::{D32, Sum};
 use im_disk::calls::Call;
