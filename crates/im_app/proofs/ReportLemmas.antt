@@ -15,7 +15,8 @@ use Rattle.im_script.specs.declared.commands.Line.{Line}
 use Rattle.im_accept.specs.Taken.{AreReadBack, HaveSessions}
 use Rattle.im_accept.proofs.CutLemmas.{report-texts, script-sessions}
 use Rattle.im_accept.proofs.TakenLemmas.{report-taken}
-use Rattle.im_session.specs.Served.{Serves, ServesAll, StandsFrom}
+use Rattle.im_ledger.specs.declared.errors.CommitError.{CommitError}
+use Rattle.im_session.specs.Served.{Serves, ServesAll, ServesFront, StandsFrom, StopsAt}
 use Rattle.im_app.specs.Runs.{IsGiven, IsReport, IsWhole}
 
 -- the first lines of a script have sessions' names too
@@ -87,6 +88,19 @@ is-whole hash constant script octets lines found before mid now given o s = reco
   report = is-report hash constant script octets lines found before mid now given o s.serves;
   all = s.all;
   here = s.here;
+}
+
+-- a report of the lines before one that got no reply
+pub record IsFront (hash : Hash) (constant : Option ℤ) (why : CommitError) (script octets : List ℕ) (before now : Option Told) : Type 0 where
+  pub report : IsReport hash constant script octets before now
+  pub stops : StopsAt why report.history (drop report.count report.lines)
+
+pub is-front : (hash : Hash) (constant : Option ℤ) (why : CommitError) (script octets : List ℕ) (lines : List Line) (found : List Transaction) (before mid now : Option Told)
+    → IsGiven script lines → Opens hash found before mid → ServesFront hash constant found lines mid now octets why → IsFront hash constant why script octets before now
+unfolding is-report
+is-front hash constant why script octets lines found before mid now given o s = record {
+  report = is-report hash constant script octets lines found before mid now given o s.serves;
+  stops = s.stops;
 }
 
 -- what is said of the octets that were read is said of what the source had

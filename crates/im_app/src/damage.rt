@@ -6,11 +6,7 @@ use im_talk::texts::{push_hex, push_number};
 use std::alloc::{AllocError, Global};
 
 // Adds what was wanted and what was found.
-fn push_difference(
-    alloc: Global,
-    out: &mut Vec<u8>,
-    found: Difference,
-) -> Result<(), AllocError>
+fn push_difference(alloc: Global, out: &mut Vec<u8>, found: Difference) -> Result<(), AllocError>
     ensures { OnOk result (out.new.items ≡ out.old.items ++ codes " " ++ difference_words found) }
 {
     match found {

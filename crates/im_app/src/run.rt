@@ -107,7 +107,7 @@ fn run_lines<H: Hash32, K: Sink, D: Disk, C: Clock>(
     ensures front { (script : List ℕ) (why : Why) → IsGiven script lines.items → result.status ≡ status_for why
         → ((sink.new ≡ sink.old) × LeavesFound (H.digest hash.now) (D.told disk) (D.told result.disk))
         ⊎ WritesFront (H.digest hash.now) (C.constant clock.old) why (Some script) (D.told disk) (D.told result.disk)
-            (K.written sink.old) (K.written sink.new) (K.faults sink.old) (K.faults sink.new) }
+        (K.written sink.old) (K.written sink.new) (K.faults sink.old) (K.faults sink.new) }
     ensures damaged { (damage : Damage) → result.status ≡ Status.Damaged damage → IfSome (D.told disk) (λ t.
         (first_fail (image_checks (H.digest hash.now) (seen t)) ≡ Err damage) × (D.told result.disk ≡ Some (after Synced t))) }
     ensures sound { (damage : Damage) (t : Told) (found : List Transaction) → D.told disk ≡ Some t → Stands (H.digest hash.now) (seen t) found
@@ -159,7 +159,7 @@ pub(crate) fn run<H: Hash32, S: Source, K: Sink, D: Disk, C: Clock>(
     ensures front { (why : Why) → result.status ≡ status_for why
         → ((sink.new ≡ sink.old) × LeavesFound (H.digest hash.now) (D.told disk) (D.told result.disk))
         ⊎ WritesFront (H.digest hash.now) (C.constant clock.old) why (S.left source.old) (D.told disk) (D.told result.disk)
-            (K.written sink.old) (K.written sink.new) (K.faults sink.old) (K.faults sink.new) }
+        (K.written sink.old) (K.written sink.new) (K.faults sink.old) (K.faults sink.new) }
     ensures given { EndsGiven result.status → GivesScript (S.left source.old) (S.left source.new) }
     ensures untouched { IfSome (S.left source.old) (λ script. ((lines : List TheLine) → IsGiven script lines → ⊥)
         → (sink.new ≡ sink.old) × ((clock.new ≡ clock.old) × (result.disk ≡ disk))) }

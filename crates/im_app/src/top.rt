@@ -53,7 +53,7 @@ fn carry_out<H: Hash32, S: Source, K: Sink, D: Disk, P: Keeper, C: Clock>(
     ensures front { (why : Why) → AsksRun (map string_bytes words.now) → result.status ≡ status_for why
         → ((sink.new ≡ sink.old) × LeavesFound (H.digest hash.now) (D.told disk) (D.told result.disk))
         ⊎ WritesFront (H.digest hash.now) (C.constant clock.old) why (S.left source.old) (D.told disk) (D.told result.disk)
-            (K.written sink.old) (K.written sink.new) (K.faults sink.old) (K.faults sink.new) }
+        (K.written sink.old) (K.written sink.new) (K.faults sink.old) (K.faults sink.new) }
     ensures given { AsksRun (map string_bytes words.now) → EndsGiven result.status → GivesScript (S.left source.old) (S.left source.new) }
     ensures unread { AsksRun (map string_bytes words.now) → IfSome (S.left source.old) (λ script. ((lines : List Line) → IsGiven script lines → ⊥)
         → (sink.new ≡ sink.old) × ((clock.new ≡ clock.old) × (result.disk ≡ disk))) }
@@ -176,7 +176,7 @@ pub fn top<
     ensures front { (why : Why) → AsksRun (map string_bytes words.now) → result.status ≡ status_for why
         → ((sink.new ≡ sink.old) × LeavesFound (H.digest hash.now) (D.told disk) (D.told result.disk))
         ⊎ WritesFront (H.digest hash.now) (C.constant clock) why (S.left source.old) (D.told disk) (D.told result.disk)
-            (K.written sink.old) (K.written sink.new) (K.faults sink.old) (K.faults sink.new) }
+        (K.written sink.old) (K.written sink.new) (K.faults sink.old) (K.faults sink.new) }
     ensures given { AsksRun (map string_bytes words.now) → EndsGiven result.status → GivesScript (S.left source.old) (S.left source.new) }
     ensures unread { AsksRun (map string_bytes words.now) → IfSome (S.left source.old) (λ script. ((lines : List Line) → IsGiven script lines → ⊥)
         → (sink.new ≡ sink.old) × ((result.clock ≡ clock) × (result.disk ≡ disk))) }
@@ -274,8 +274,9 @@ pub fn top<
     ensures idle { AsksVerify (map string_bytes words.now) ⊎ ((EndsReading result.status × (result.status ≡ Status.Memory → ⊥)) ⊎ ((d : Damage) × (result.status ≡ Status.Damaged d))) → result.clock ≡ clock }
 {
     let mut clock = clock;
-    let Ran { status, disk } =
-        carry_out(alloc, words, hash, source, sink, disk, keeper, &mut clock);
+    let Ran { status, disk } = carry_out(
+        alloc, words, hash, source, sink, disk, keeper, &mut clock,
+    );
     Done {
         status,
         disk,

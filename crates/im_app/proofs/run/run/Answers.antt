@@ -1,4 +1,4 @@
-use Rattle.std.proofs.Common.{◌≡◌, ℕ, ℤ, List, sym, ◌∙◌, subst, Option, Some, Err, inl, inr, refl, IfSome}
+use Rattle.std.proofs.Common.{◌≡◌, ℕ, ℤ, List, sym, ◌∙◌, ap, subst, Option, Some, Err, inl, inr, refl, IfSome}
 use Rattle.im_digest.specs.Digests.{Hash}
 use Rattle.im_disk.specs.Disk.{Told, after, seen}
 use Rattle.im_disk.proofs.Leaving.{if_told}
@@ -66,4 +66,4 @@ pub returns-in-Err-clause-fate : goal.returns-in-Err-clause-fate
 returns-in-Err-clause-fate g c = λ no_read no_write no_device.
     let read = c.in-Err.ensures in
     unread-told (g.H.Hash32.digest c.args.hash.now) (g.D.Disk.told c.args.disk) c.in-Err.status (g.S.Source.left c.args.source.now)
-    read.ends (λ e. no_read (read.read e)) (λ k e. read.script k e) (λ e. read.long e)
+    read.ends (λ e. no_read (read.read (ap Err e))) (λ k e. read.script k (ap Err e)) (λ e. read.long (ap Err e))

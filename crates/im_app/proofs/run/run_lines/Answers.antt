@@ -11,20 +11,17 @@ use Rattle.im_model.specs.declared.transactions.Transaction.{Transaction}
 use Rattle.im_session.specs.Served.{Serves, ServesAll}
 use Rattle.im_app.specs.Runs.{KeepsFound}
 use Rattle.im_app.proofs.FoundLemmas.{opened-keeps, served-keeps}
-use Rattle.im_app.proofs.ReportLemmas.{Opens, begins-left, is-report, is-whole, moments-both}
+use Rattle.im_app.proofs.ReportLemmas.{Opens, begins-left, is-front, is-whole, moments-both}
 use Rattle.im_app.proofs.RunLemmas.{damage-by, done-both, failed-behind, if-told, on-ok, stopped-for, wrote-either}
 use Rattle.im_app.proofs.run.run_lines.Goals as goal
 
 pub returns-in-Err-clause-sound : goal.returns-in-Err-clause-sound
 returns-in-Err-clause-sound g c = λ damage t found told stands e.
-    c.in-Err.ensures.sound damage t found told stands (damage-by c.in-Err.failed.error damage (sym c.status_of.ensures ∙ e))
+    c.in-Err.ensures.sound t found damage told stands (damage-by c.in-Err.failed.error damage (sym c.status_of.ensures ∙ e))
 
 pub returns-in-Err-clause-any_moment : goal.returns-in-Err-clause-any_moment
 returns-in-Err-clause-any_moment g c = λ t found told stands.
     opened-keeps (g.H.Hash32.digest c.args.hash.now) found t (g.D.Disk.told c.in-Err.failed.disk) (c.in-Err.ensures.off t found told stands)
-
-pub serve-disk-requires-clause-stub : goal.serve-disk-requires-clause-stub
-serve-disk-requires-clause-stub g c = ?
 
 pub returns-clause-report : goal.returns-clause-report
 returns-clause-report g c = λ script given e.
@@ -102,12 +99,13 @@ returns-clause-front g c = λ script why given e.
     } in
     let wrote : W c.as_slice.result.now = wrote-either c.write_all-wrote.result (A c.as_slice.result.now) (faults_now ≡ faults_before) (B c.as_slice.result.now) (Rose faults_before faults_now)
     c.write_all-wrote.ensures.whole c.write_all-wrote.ensures.same c.write_all-wrote.ensures.part c.write_all-wrote.ensures.failed in
+    let told = is-front hash constant why script out c.args.lines.items found before mid now given opens front in
     inr (record {
       script = script;
       script_is = refl;
       octets = out;
-      report = is-report hash constant script out c.args.lines.items found before mid now given opens front.serves;
-      stops = front.stops;
+      report = told.report;
+      stops = told.stops;
       wrote = subst W c.as_slice.ensures.value wrote;
     })
 
