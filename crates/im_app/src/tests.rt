@@ -4,6 +4,7 @@
 mod exchange;
 mod faults;
 mod proofs;
+mod stored;
 mod taken;
 
 use crate::status::{Done, Status};
@@ -15,6 +16,7 @@ use im_edge::gate::OpenGate;
 use im_edge::keeper::MemKeeper;
 use im_edge::sink::{Given, Sink, Writing};
 use im_edge::source::{Reading, Source, Taken};
+use im_format::damages::{Damage, Difference};
 use std::alloc::Global;
 use std::process::Abort;
 use std::test::Fail;
@@ -345,12 +347,19 @@ fn entries_and_values_above_the_limits(rt: HostRuntime) -> Result<(), Fail> {
 
 #[test]
 fn how_each_end_is_told(rt: HostRuntime) -> Result<(), Fail> {
+    let damage = Damage {
+        file: 0,
+        at: 0,
+        found: Difference::Numbers { want: 1, got: 2 },
+    };
     let ends = [
         (Status::Ok, 0, ""),
         (Status::Usage, 2, "usage"),
         (Status::Script { line: 7 }, 3, "script"),
         (Status::ReadFault, 4, "read fault"),
         (Status::WriteFault, 5, "write fault"),
+        (Status::DiskFault, 6, "disk fault"),
+        (Status::Damaged(damage), 7, "damaged"),
         (Status::KeeperFault, 8, "keeper fault"),
         (Status::Refused, 9, "refused"),
         (Status::Memory, 11, "memory"),

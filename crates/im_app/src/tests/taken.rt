@@ -96,3 +96,40 @@ fn another_value_is_refused_under_sha_256(rt: HostRuntime) -> Result<(), Fail> {
     assert_eq!(rt; written.as_slice(), want.as_slice());
     Ok(())
 }
+
+// Transactions 1 and 2 are in the tree of 4, whose last Alh is that of 2: what is said of it is judged twice.
+const AT_THE_END_OF_THE_TREE: &[u8] =
+    b"a: set k=1\na: set k=2\na: set k=3\na: link 2\na: set k=4\na: state\na: prove 2 4\n";
+
+// Another sum makes another root of the tree: 1 + a0 + 43 is e4, in hex. One of the same sum, 1 + 41 for 42, makes
+// the same root, and isn't the source's Alh.
+#[test]
+fn another_end_of_the_tree_is_refused(rt: HostRuntime) -> Result<(), Fail> {
+    let (_, report) = run(&rt, &Sum, AT_THE_END_OF_THE_TREE)?;
+    let cases: [(&[u8], &[u8]); 3] = [
+        (
+            b"\"targetBlTxAlh\":\"0000000000000000000000000000000000000000000000000000000000000042",
+            b"ok 6 state 4\nok 7 dual 2 4\n",
+        ),
+        (
+            b"\"targetBlTxAlh\":\"0000000000000000000000000000000000000000000000000000000000000043",
+            b"ok 6 state 4\nrefused 7 last-root 00000000000000000000000000000000000000000000000000000000000000e3 00000000000000000000000000000000000000000000000000000000000000e4\n",
+        ),
+        (
+            b"\"targetBlTxAlh\":\"0000000000000000000000000000000000000000000000000000000000000141",
+            b"ok 6 state 4\nrefused 7 bl-alh 0000000000000000000000000000000000000000000000000000000000000042 0000000000000000000000000000000000000000000000000000000000000141\n",
+        ),
+    ];
+    for (told, want) in cases {
+        let stream = replaced(
+            rt.alloc(),
+            report.as_slice(),
+            b"\"targetBlTxAlh\":\"",
+            b"\"},\"type\":\"dual",
+            told,
+        )?;
+        let (_, written) = verdict_of(&rt, &Sum, stream.as_slice())?;
+        assert_eq!(rt; written.as_slice(), want);
+    }
+    Ok(())
+}

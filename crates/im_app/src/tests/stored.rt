@@ -1,0 +1,246 @@
+//! Runs over a disk: what stays from run to run, and what a disk that failed or was spoilt leaves.
+
+use super::Narrow;
+use crate::damage::damage_text;
+use crate::status::{Done, Status};
+use crate::top::top;
+use im_digest::{D32, Sum};
+use im_disk::disk::Disk;
+use im_disk::memory::MemDisk;
+use im_edge::clock::FixedClock;
+use im_edge::gate::OpenGate;
+use im_edge::keeper::MemKeeper;
+use im_edge::sink::{Sink, Writing};
+use im_edge::source::Reading;
+use im_format::damages::{Damage, Difference};
+use im_octet::octets::Octets;
+use std::alloc::{AllocError, Global};
+use std::process::Abort;
+use std::test::Fail;
+
+// Runs `im run` with so many value logs on a script, a sink and a disk, at the time 0 and under the sum.
+fn run_with<K: Sink, D: Disk + Send>(
+    rt: &(impl Abort + Alloc<A = Global>),
+    logs: &str,
+    script: &[u8],
+    sink: &mut K,
+    disk: D,
+) -> Result<(Status, D), Fail> {
+    let mut words = Vec::new(rt.alloc());
+    for word in ["im", "run", "--logs", logs] {
+        words.push(String::from_str(rt.alloc(), word)?)?;
+    }
+    let mut source = Reading::new(script);
+    let mut keeper = MemKeeper::new(rt.alloc());
+    let Done { status, disk, .. } = top(
+        rt,
+        rt.alloc(),
+        words.as_slice(),
+        &Sum,
+        &mut source,
+        sink,
+        disk,
+        &mut keeper,
+        FixedClock { time: 0 },
+        &OpenGate,
+    );
+    Ok((status, disk))
+}
+
+// What a run writes, with one value log.
+fn run_over(
+    rt: &(impl Abort + Alloc<A = Global>),
+    script: &[u8],
+    disk: MemDisk,
+) -> Result<(Status, Vec<u8>, MemDisk), Fail> {
+    let mut sink = Writing::new(Vec::new(rt.alloc()));
+    let (status, disk) = run_with(rt, "1", script, &mut sink, disk)?;
+    let Writing { inner, .. } = sink;
+    Ok((status, inner, disk))
+}
+
+// A disk with the first three files of another one.
+fn copied(alloc: Global, disk: &MemDisk) -> Result<Vec<Octets>, AllocError> {
+    let mut files = Vec::new(alloc);
+    for file in 0..3 {
+        files.push(Octets::from_slice(alloc, disk.file(file))?)?;
+    }
+    Ok(files)
+}
+
+// The header of `k=abc`, whose Alh is 95, in hex.
+const HEADER: &[u8] =
+    b"a 1 header 0000000000000000000000000000000000000000000000000000000000000095 {\"blRoot\":\"0000000000000000000000000000000000000000000000000000000000000000\",\"blTxId\":0,\"eh\":\"0000000000000000000000000000000000000000000000000000000000000092\",\"id\":1,\"md\":\"\",\"nentries\":1,\"prevAlh\":\"0000000000000000000000000000000000000000000000000000000000000000\",\"ts\":0,\"version\":1}\n";
+
+#[test]
+fn a_transaction_stays_from_run_to_run(rt: HostRuntime) -> Result<(), Fail> {
+    let disk = MemDisk::new(rt.alloc(), Vec::new(rt.alloc()))?;
+    let (status, written, disk) = run_over(&rt, b"a: set k=abc\n", disk)?;
+    assert_eq!(rt; status, Status::Ok);
+    assert_eq!(rt; written.as_slice(), b"a 1 tx 1\n".as_slice());
+    assert_eq!(rt; disk.time(), 9);
+    let (status, written, disk) = run_over(&rt, b"a: header 1\n", disk)?;
+    assert_eq!(rt; status, Status::Ok);
+    assert_eq!(rt; written.as_slice(), HEADER);
+    assert_eq!(rt; disk.time(), 10);
+    assert_eq!(rt; disk.file(2), b"abc".as_slice());
+    Ok(())
+}
+
+// Opening makes the calls 1 to 3, and the `set` 4 to 9: the value log, the transaction log, the commit log, a
+// sync, the gate, a sync.
+#[test]
+fn a_disk_that_fails_holds_what_was_told(rt: HostRuntime) -> Result<(), Fail> {
+    let cases: [(u64, &[u8]); 4] = [
+        (1, b"a 0 refused beyond 0\n"),
+        (4, b"a 0 refused beyond 0\n"),
+        (8, b"a 0 refused beyond 0\n"),
+        (9, b"a 1 refused beyond 1\n"),
+    ];
+    for (failing, found) in cases {
+        let mut calls = Vec::new(rt.alloc());
+        calls.push(failing)?;
+        let disk = MemDisk::new(rt.alloc(), calls)?;
+        let (status, written, disk) = run_over(&rt, b"a: set k=abc\n", disk)?;
+        assert_eq!(rt; status, Status::DiskFault);
+        assert!(rt; written.is_empty());
+        let (status, written, _) = run_over(&rt, b"a: header 9\n", disk)?;
+        assert_eq!(rt; status, Status::Ok);
+        assert_eq!(rt; written.as_slice(), found);
+    }
+    Ok(())
+}
+
+// The second `set` makes the calls 10 to 15. A sink of nine octets takes the first line and no more.
+#[test]
+fn the_lines_before_a_fault_are_told(rt: HostRuntime) -> Result<(), Fail> {
+    let script = b"a: set k=1\na: header 9\na: set k=2\na: header 1\n";
+    let mut calls = Vec::new(rt.alloc());
+    calls.push(12)?;
+    let disk = MemDisk::new(rt.alloc(), calls)?;
+    let (status, written, disk) = run_over(&rt, script, disk)?;
+    assert_eq!(rt; status, Status::DiskFault);
+    assert_eq!(rt;
+        written.as_slice(),
+        b"a 1 tx 1\na 1 refused beyond 1\n".as_slice()
+    );
+    assert_eq!(rt; disk.time(), 12);
+    let mut sink = Narrow { room: 9, faults: 0 };
+    let mut calls = Vec::new(rt.alloc());
+    calls.push(12)?;
+    let disk = MemDisk::new(rt.alloc(), calls)?;
+    let (status, _) = run_with(&rt, "1", script, &mut sink, disk)?;
+    assert_eq!(rt; status, Status::DiskFault);
+    assert_eq!(rt; sink.room, 0);
+    Ok(())
+}
+
+#[test]
+fn a_batch_behind_a_closed_gate_is_left_out(rt: HostRuntime) -> Result<(), Fail> {
+    let disk = MemDisk::new(rt.alloc(), Vec::new(rt.alloc()))?;
+    let script = b"a: set k=abc\na: set k=abc\na: set k=abc\n";
+    let (_, written, disk) = run_over(&rt, script, disk)?;
+    assert_eq!(rt;
+        written.as_slice(),
+        b"a 1 tx 1\na 2 tx 2\na 3 tx 3\n".as_slice()
+    );
+    let mut files = copied(rt.alloc(), &disk)?;
+    let mut commits = Vec::from_slice(rt.alloc(), disk.file(1))?;
+    if commits.len() == 76 {
+        commits[25] = 0;
+    }
+    files[1] = Octets::from_vec(commits);
+    let disk = MemDisk::from_files(rt.alloc(), files, Vec::new(rt.alloc()))?;
+    let (status, written, _) = run_over(&rt, b"a: header 1\na: header 2\n", disk)?;
+    assert_eq!(rt; status, Status::Ok);
+    assert!(rt; written.starts_with(HEADER));
+    assert!(rt; written.ends_with(b"a 1 refused beyond 1\n"));
+    Ok(())
+}
+
+#[test]
+fn a_commit_log_cut_short_holds_nothing(rt: HostRuntime) -> Result<(), Fail> {
+    let disk = MemDisk::new(rt.alloc(), Vec::new(rt.alloc()))?;
+    let (_, _, disk) = run_over(&rt, b"a: set k=abc\n", disk)?;
+    let mut files = copied(rt.alloc(), &disk)?;
+    let Some((_, commits)) = disk.file(1).split_last() else {
+        return Err(Fail::from("a commit log"));
+    };
+    assert_eq!(rt; commits.len(), 25);
+    files[1] = Octets::from_slice(rt.alloc(), commits)?;
+    let disk = MemDisk::from_files(rt.alloc(), files, Vec::new(rt.alloc()))?;
+    let (status, written, disk) = run_over(&rt, b"a: state\na: set k=abc\n", disk)?;
+    assert_eq!(rt; status, Status::Ok);
+    assert_eq!(rt;
+        written.as_slice(),
+        b"a 0 refused empty\na 1 tx 1\n".as_slice()
+    );
+    let (_, written, _) = run_over(&rt, b"a: header 1\n", disk)?;
+    assert_eq!(rt; written.as_slice(), HEADER);
+    Ok(())
+}
+
+// A digest under the sum.
+fn sum(last: u8) -> D32 {
+    let mut digest = [0u8; 32];
+    digest[31] = last;
+    digest
+}
+
+#[test]
+fn a_spoilt_value_is_told(rt: HostRuntime) -> Result<(), Fail> {
+    let disk = MemDisk::new(rt.alloc(), Vec::new(rt.alloc()))?;
+    let (_, _, disk) = run_over(&rt, b"a: set k=abc\n", disk)?;
+    let mut files = copied(rt.alloc(), &disk)?;
+    files[2] = Octets::from_slice(rt.alloc(), b"bbc")?;
+    let disk = MemDisk::from_files(rt.alloc(), files, Vec::new(rt.alloc()))?;
+    let (status, written, disk) = run_over(&rt, b"a: set k=abd\n", disk)?;
+    let damage = Damage {
+        file: 2,
+        at: 0,
+        found: Difference::Digests {
+            want: sum(0x26),
+            got: sum(0x27),
+        },
+    };
+    assert_eq!(rt; status, Status::Damaged(damage));
+    assert!(rt; written.is_empty());
+    assert_eq!(rt; disk.time(), 1);
+    assert_eq!(rt;
+        damage_text(rt.alloc(), &damage)?.as_slice(),
+        b"2 0 0000000000000000000000000000000000000000000000000000000000000026 0000000000000000000000000000000000000000000000000000000000000027".as_slice()
+    );
+    let numbers = Damage {
+        file: 1,
+        at: 9,
+        found: Difference::Numbers {
+            want: 1048576,
+            got: 2097153,
+        },
+    };
+    assert_eq!(rt;
+        damage_text(rt.alloc(), &numbers)?.as_slice(),
+        b"1 9 1048576 2097153".as_slice()
+    );
+    Ok(())
+}
+
+// Value i of transaction `id` goes to log (id + i) mod 2: that of the first transaction to log 1, those of the
+// second to the logs 0 and 1.
+#[test]
+fn values_go_round_the_logs(rt: HostRuntime) -> Result<(), Fail> {
+    let mut sink = Writing::new(Vec::new(rt.alloc()));
+    let disk = MemDisk::new(rt.alloc(), Vec::new(rt.alloc()))?;
+    let (status, disk) = run_with(
+        &rt,
+        "2",
+        b"a: set k=abc\na: set k=de i=fgh\n",
+        &mut sink,
+        disk,
+    )?;
+    assert_eq!(rt; status, Status::Ok);
+    assert_eq!(rt; disk.file(2), b"de".as_slice());
+    assert_eq!(rt; disk.file(3), b"abcfgh".as_slice());
+    assert!(rt; disk.file(4).is_empty());
+    Ok(())
+}
