@@ -8,10 +8,10 @@ ghost use Rattle.im_script.specs.declared.commands.Command.TheVariants.{Set, Lin
 ghost use Rattle.im_ledger.specs.Ledgers.{IsLedger};
 ghost use Rattle.im_session.specs.Turns.{Answers, HasTime, Placed};
 
-use im_ledger::ledger::Ledger;
 use im_digest::Hash32;
 use im_draft::drafts::Draft;
 use im_edge::clock::Clock;
+use im_ledger::ledger::Ledger;
 use im_model::entries::Entries;
 use im_model::transactions::Transaction;
 use im_report::replies::{beyond_text, header_shown, refused_text, reserved_text, tx_text};

@@ -12,10 +12,10 @@ ghost use Rattle.im_wire.specs.Texts.{text};
 ghost use Rattle.im_wire.specs.declared.messages.Message.TheVariants.{Item};
 ghost use Rattle.im_ledger.specs.Ledgers.{IsLedger};
 
-use im_ledger::ledger::Ledger;
 use im_digest::{D32, Hash32};
 use im_dual::build::build;
 use im_entry::digests::digest;
+use im_ledger::ledger::Ledger;
 use im_model::entries::Entry;
 use im_mtree::paths::path;
 use im_proof::proofs::DualProof;

@@ -6,10 +6,10 @@ ghost use Rattle.im_ledger.specs.Ledgers.{IsLedger};
 ghost use Rattle.im_session.specs.Turns.{Answers, HasTime, Turn};
 
 use crate::answers::{answer_link, answer_set, header_text};
-use im_ledger::ledger::Ledger;
 use crate::proofs::{advance_text, item_text, prove_text, state_text};
 use im_digest::Hash32;
 use im_edge::clock::Clock;
+use im_ledger::ledger::Ledger;
 use im_model::transactions::Transaction;
 use im_report::replies::reply_text;
 use im_script::commands::{Command, Line};
