@@ -1,84 +1,168 @@
--- What the source holds decides how a run ends.
-use Rattle.std.proofs.Common.{◌≡◌, ◌<◌, ◌≤◌, length, ℕ, ◌+◌, List, arith, ap, ℤ, Option, Some, None, IfSome, inl, inr, ◌⊎◌, refl}
+-- What the source and the disk hold decides how a run ends.
+use Rattle.std.proofs.Common.{◌≡◌, ◌<◌, ◌≤◌, length, ℕ, ◌+◌, List, arith, ap, subst, ℤ, Option, Some, None, Err, IfSome, inl, inr, ◌⊎◌, refl}
 use Rattle.im_digest.specs.Digests.{Hash}
+use Rattle.im_disk.specs.Disk.{Told, seen}
+use Rattle.im_format.specs.Damages.{image_checks}
+use Rattle.im_format.specs.Standing.{Stands}
+use Rattle.im_format.specs.declared.damages.Damage.{Damage}
+use Rattle.im_model.specs.declared.transactions.Transaction.{Transaction}
+use Rattle.im_mtree.specs.Checks.{first_fail}
 use Rattle.im_script.specs.Script.{StopsAfter}
 use Rattle.im_script.specs.declared.commands.Line.{Line}
 use Rattle.im_script.proofs.Unique.{read-or-stop, one-stop}
-use Rattle.im_app.specs.Runs.{IsGiven, WritesReport}
-use Rattle.im_app.specs.Fates.{HasFate}
-use Rattle.im_app.specs.Statuses.{EndsRun}
+use Rattle.im_app.specs.Runs.{IsGiven}
+use Rattle.im_app.specs.Fates.{HasFate, IsDamaged}
+use Rattle.im_app.specs.Statuses.{EndsReading, EndsRun, EndsWriting}
 use Rattle.im_app.specs.declared.status.Status.{Status}
 use Rattle.im_app.specs.declared.status.Status.TheVariants as the
 
--- what is said of each way to end
-pub record Ends (status : Status) (script : List ℕ) : Type 0 where
-  pub given : (status ≡ the.Ok) ⊎ (status ≡ the.WriteFault) → (lines : List Line) × IsGiven script lines
+-- a bad line of a script that isn't too long
+abbrev pub IsBad : List ℕ → ℕ → Type 0
+IsBad script k = (length script ≤ 67108864) × ((n : ℕ) × (k ≡ n + 1) × StopsAfter script n)
+
+-- what is said of each way to end, where nothing failed
+pub record Ends (hash : Hash) (disk : Option Told) (status : Status) (script : List ℕ) : Type 0 where
+  pub given : status ≡ the.Ok → (lines : List Line) × IsGiven script lines
+  pub opened : (damage : Damage) → status ≡ the.Damaged damage → (lines : List Line) × IsGiven script lines
   pub ends : EndsRun status
   pub no_usage : status ≡ the.Usage → ⊥
   pub no_read : status ≡ the.ReadFault → ⊥
   pub no_write : status ≡ the.WriteFault → ⊥
-  pub bad : (k : ℕ) → status ≡ the.Script k → (length script ≤ 67108864) × ((n : ℕ) × (k ≡ n + 1) × StopsAfter script n)
+  pub no_device : status ≡ the.DiskFault → ⊥
+  pub bad : (k : ℕ) → status ≡ the.Script k → IsBad script k
   pub long : status ≡ the.Long → 67108864 < length script
+  pub damaged : (damage : Damage) → status ≡ the.Damaged damage → IfSome disk (λ t. first_fail (image_checks hash (seen t)) ≡ Err damage)
+  pub whole : status ≡ the.Ok → IfSome disk (λ t. (found : List Transaction) × Stands hash (seen t) found)
+  pub sound : (damage : Damage) (t : Told) (found : List Transaction) → disk ≡ Some t → Stands hash (seen t) found → status ≡ the.Damaged damage → ⊥
 
-runs-end : (status : Status) (script : List ℕ) → Ends status script → (lines : List Line) → IsGiven script lines → (status ≡ the.Ok) ⊎ (status ≡ the.Memory)
-runs-end the.Ok script e lines g = inl refl
-runs-end the.Usage script e lines g = absurd (e.no_usage refl)
-runs-end (the.Script k) script e lines g = absurd (let b = e.bad k refl in read-or-stop script lines b.1.0 g.read b.1.2)
-runs-end the.ReadFault script e lines g = absurd (e.no_read refl)
-runs-end the.WriteFault script e lines g = absurd (e.no_write refl)
-runs-end the.KeeperFault script e lines g = absurd e.ends
-runs-end the.Refused script e lines g = absurd e.ends
-runs-end the.Memory script e lines g = inr refl
-runs-end the.Long script e lines g = absurd (let short : length script ≤ 67108864 = g.short in let long : 67108864 < length script = e.long refl in omega arith)
-runs-end (the.Kept k) script e lines g = absurd e.ends
+runs-end : (hash : Hash) (disk : Option Told) (status : Status) (script : List ℕ) → Ends hash disk status script → (lines : List Line) → IsGiven script lines
+    → (status ≡ the.Ok) ⊎ ((status ≡ the.Memory) ⊎ IsDamaged hash disk status)
+runs-end hash disk the.Ok script e lines g = inl refl
+runs-end hash disk the.Usage script e lines g = absurd (e.no_usage refl)
+runs-end hash disk (the.Script k) script e lines g = absurd (let b = e.bad k refl in read-or-stop script lines b.1.0 g.read b.1.2)
+runs-end hash disk the.ReadFault script e lines g = absurd (e.no_read refl)
+runs-end hash disk the.WriteFault script e lines g = absurd (e.no_write refl)
+runs-end hash disk the.DiskFault script e lines g = absurd (e.no_device refl)
+runs-end hash disk (the.Damaged damage) script e lines g = inr (inr (record { damage = damage; is = refl; first = e.damaged damage refl }))
+runs-end hash disk the.KeeperFault script e lines g = absurd e.ends
+runs-end hash disk the.Refused script e lines g = absurd e.ends
+runs-end hash disk the.Memory script e lines g = inr (inl refl)
+runs-end hash disk the.Long script e lines g = absurd (let short : length script ≤ 67108864 = g.short in let long : 67108864 < length script = e.long refl in omega arith)
+runs-end hash disk (the.Kept k) script e lines g = absurd e.ends
 
-stops-end : (status : Status) (script : List ℕ) → Ends status script → (n : ℕ) → length script ≤ 67108864 → StopsAfter script n → (status ≡ the.Script (n + 1)) ⊎ (status ≡ the.Memory)
-stops-end the.Ok script e n short s = absurd (let g = e.given (inl refl) in read-or-stop script g.0 n g.1.read s)
-stops-end the.Usage script e n short s = absurd (e.no_usage refl)
-stops-end (the.Script k) script e n short s =
+-- of the ways that a run may end, none is damage where the files stand for a history
+stands-end : (hash : Hash) (disk : Option Told) (status : Status) (script : List ℕ) → Ends hash disk status script
+    → (t : Told) (found : List Transaction) → disk ≡ Some t → Stands hash (seen t) found
+    → (status ≡ the.Ok) ⊎ ((status ≡ the.Memory) ⊎ IsDamaged hash disk status) → (status ≡ the.Ok) ⊎ (status ≡ the.Memory)
+stands-end hash disk status script e t found told stands (inl ok) = inl ok
+stands-end hash disk status script e t found told stands (inr (inl memory)) = inr memory
+stands-end hash disk status script e t found told stands (inr (inr d)) = absurd (e.sound d.damage t found told stands d.is)
+
+-- none of them is a run that was done where the files stand for no history
+damaged-end : (hash : Hash) (disk : Option Told) (status : Status) (script : List ℕ) → Ends hash disk status script
+    → (t : Told) → disk ≡ Some t → ((found : List Transaction) → Stands hash (seen t) found → ⊥)
+    → (status ≡ the.Ok) ⊎ ((status ≡ the.Memory) ⊎ IsDamaged hash disk status) → (status ≡ the.Memory) ⊎ IsDamaged hash disk status
+damaged-end hash disk status script e t told none (inl ok) =
+    let P : Option Told → Type 0 = λ o. IfSome o (λ t. (found : List Transaction) × Stands hash (seen t) found) in
+    let s : P (Some t) = subst P told (e.whole ok) in
+    absurd (none s.0 s.1)
+damaged-end hash disk status script e t told none (inr other) = other
+
+stops-end : (hash : Hash) (disk : Option Told) (status : Status) (script : List ℕ) → Ends hash disk status script → (n : ℕ) → length script ≤ 67108864 → StopsAfter script n
+    → (status ≡ the.Script (n + 1)) ⊎ (status ≡ the.Memory)
+stops-end hash disk the.Ok script e n short s = absurd (let g = e.given refl in read-or-stop script g.0 n g.1.read s)
+stops-end hash disk the.Usage script e n short s = absurd (e.no_usage refl)
+stops-end hash disk (the.Script k) script e n short s =
     let b = e.bad k refl in
     let same : k ≡ n + 1 = (let one : b.1.0 ≡ n = one-stop script b.1.0 n b.1.2 s in let is : k ≡ b.1.0 + 1 = b.1.1 in omega arith) in
     inl (ap the.Script same)
-stops-end the.ReadFault script e n short s = absurd (e.no_read refl)
-stops-end the.WriteFault script e n short s = absurd (e.no_write refl)
-stops-end the.KeeperFault script e n short s = absurd e.ends
-stops-end the.Refused script e n short s = absurd e.ends
-stops-end the.Memory script e n short s = inr refl
-stops-end the.Long script e n short s = absurd (let long : 67108864 < length script = e.long refl in omega arith)
-stops-end (the.Kept k) script e n short s = absurd e.ends
+stops-end hash disk the.ReadFault script e n short s = absurd (e.no_read refl)
+stops-end hash disk the.WriteFault script e n short s = absurd (e.no_write refl)
+stops-end hash disk the.DiskFault script e n short s = absurd (e.no_device refl)
+stops-end hash disk (the.Damaged damage) script e n short s = absurd (let g = e.opened damage refl in read-or-stop script g.0 n g.1.read s)
+stops-end hash disk the.KeeperFault script e n short s = absurd e.ends
+stops-end hash disk the.Refused script e n short s = absurd e.ends
+stops-end hash disk the.Memory script e n short s = inr refl
+stops-end hash disk the.Long script e n short s = absurd (let long : 67108864 < length script = e.long refl in omega arith)
+stops-end hash disk (the.Kept k) script e n short s = absurd e.ends
 
-long-end : (status : Status) (script : List ℕ) → Ends status script → 67108864 < length script → (status ≡ the.Long) ⊎ (status ≡ the.Memory)
-long-end the.Ok script e long = absurd (let g = e.given (inl refl) in let short : length script ≤ 67108864 = g.1.short in omega arith)
-long-end the.Usage script e long = absurd (e.no_usage refl)
-long-end (the.Script k) script e long = absurd (let b = e.bad k refl in let short : length script ≤ 67108864 = b.0 in omega arith)
-long-end the.ReadFault script e long = absurd (e.no_read refl)
-long-end the.WriteFault script e long = absurd (e.no_write refl)
-long-end the.KeeperFault script e long = absurd e.ends
-long-end the.Refused script e long = absurd e.ends
-long-end the.Memory script e long = inr refl
-long-end the.Long script e long = inl refl
-long-end (the.Kept k) script e long = absurd e.ends
+long-end : (hash : Hash) (disk : Option Told) (status : Status) (script : List ℕ) → Ends hash disk status script → 67108864 < length script → (status ≡ the.Long) ⊎ (status ≡ the.Memory)
+long-end hash disk the.Ok script e long = absurd (let g = e.given refl in let short : length script ≤ 67108864 = g.1.short in omega arith)
+long-end hash disk the.Usage script e long = absurd (e.no_usage refl)
+long-end hash disk (the.Script k) script e long = absurd (let b = e.bad k refl in let short : length script ≤ 67108864 = b.0 in omega arith)
+long-end hash disk the.ReadFault script e long = absurd (e.no_read refl)
+long-end hash disk the.WriteFault script e long = absurd (e.no_write refl)
+long-end hash disk the.DiskFault script e long = absurd (e.no_device refl)
+long-end hash disk (the.Damaged damage) script e long = absurd (let g = e.opened damage refl in let short : length script ≤ 67108864 = g.1.short in omega arith)
+long-end hash disk the.KeeperFault script e long = absurd e.ends
+long-end hash disk the.Refused script e long = absurd e.ends
+long-end hash disk the.Memory script e long = inr refl
+long-end hash disk the.Long script e long = inl refl
+long-end hash disk (the.Kept k) script e long = absurd e.ends
 
--- so what the source holds decides
-pub fate : (status : Status) (script : List ℕ) → Ends status script → HasFate status script
-fate status script e = record { runs = runs-end status script e; stops = stops-end status script e; too_long = long-end status script e }
+-- so what the source and the disk hold decides
+pub fate : (hash : Hash) (disk : Option Told) (status : Status) (script : List ℕ) → Ends hash disk status script → HasFate hash disk status script
+fate hash disk status script e = record {
+  runs = runs-end hash disk status script e;
+  stands = λ lines g t found told stands. stands-end hash disk status script e t found told stands (runs-end hash disk status script e lines g);
+  damaged = λ lines g t told none. damaged-end hash disk status script e t told none (runs-end hash disk status script e lines g);
+  stops = stops-end hash disk status script e;
+  too_long = long-end hash disk status script e;
+}
 
--- the same where the source tells what it holds, of the clauses of a run
-pub fate-told : (hash : Hash) (constant : Option ℤ) (status : Status) (left before after : Option (List ℕ))
-    → EndsRun status → (status ≡ the.Usage → ⊥) → (status ≡ the.ReadFault → ⊥) → (status ≡ the.WriteFault → ⊥)
-    → (status ≡ the.Ok → IfSome left (λ s. WritesReport hash constant s before after))
-    → ((k : ℕ) → status ≡ the.Script k → IfSome left (λ s. (length s ≤ 67108864) × ((n : ℕ) × (k ≡ n + 1) × StopsAfter s n)))
-    → (status ≡ the.Long → IfSome left (λ s. 67108864 < length s)) → IfSome left (HasFate status)
-fate-told hash constant status None before after ends usage read write ok bad long = tt
-fate-told hash constant status (Some script) before after ends usage read write ok bad long = fate status script (record {
-  given = λ e. elim e [
-    | inl done ↦ ((ok done).report.lines, (ok done).report.given)
-    | inr fault ↦ absurd (write fault)
-  ];
-  ends = ends;
-  no_usage = usage;
-  no_read = read;
-  no_write = write;
+-- a run whose script was read doesn't end as one whose script wasn't
+pub writing-run : (status : Status) → EndsWriting status → EndsRun status
+writing-run the.Ok e = tt
+writing-run the.Usage e = tt
+writing-run (the.Script k) e = tt
+writing-run the.ReadFault e = tt
+writing-run the.WriteFault e = tt
+writing-run the.DiskFault e = tt
+writing-run (the.Damaged d) e = tt
+writing-run the.KeeperFault e = absurd e
+writing-run the.Refused e = absurd e
+writing-run the.Memory e = tt
+writing-run the.Long e = tt
+writing-run (the.Kept k) e = absurd e
+
+pub reading-run : (status : Status) → EndsReading status → EndsRun status
+reading-run the.Ok e = tt
+reading-run the.Usage e = tt
+reading-run (the.Script k) e = tt
+reading-run the.ReadFault e = tt
+reading-run the.WriteFault e = tt
+reading-run the.DiskFault e = tt
+reading-run (the.Damaged d) e = tt
+reading-run the.KeeperFault e = absurd e
+reading-run the.Refused e = absurd e
+reading-run the.Memory e = tt
+reading-run the.Long e = tt
+reading-run (the.Kept k) e = absurd e
+
+-- an end is none that its kind leaves out
+pub ends-other : (P : Status → Type 0) (status other : Status) → P status → status ≡ other → (P other → ⊥) → ⊥
+ends-other P status other p e none = none (subst P e p)
+
+-- a script that gave no lines
+unread : (hash : Hash) (disk : Option Told) (status : Status) (script : List ℕ) → EndsReading status → (status ≡ the.ReadFault → ⊥)
+    → ((k : ℕ) → status ≡ the.Script k → IsBad script k) → (status ≡ the.Long → 67108864 < length script) → Ends hash disk status script
+unread hash disk status script ends no_read bad long = record {
+  given = λ e. absurd (ends-other EndsReading status the.Ok ends e (λ x. x));
+  opened = λ d e. absurd (ends-other EndsReading status (the.Damaged d) ends e (λ x. x));
+  ends = reading-run status ends;
+  no_usage = λ e. ends-other EndsReading status the.Usage ends e (λ x. x);
+  no_read = no_read;
+  no_write = λ e. ends-other EndsReading status the.WriteFault ends e (λ x. x);
+  no_device = λ e. ends-other EndsReading status the.DiskFault ends e (λ x. x);
   bad = bad;
   long = long;
-})
+  damaged = λ d e. absurd (ends-other EndsReading status (the.Damaged d) ends e (λ x. x));
+  whole = λ e. absurd (ends-other EndsReading status the.Ok ends e (λ x. x));
+  sound = λ d t found told stands e. ends-other EndsReading status (the.Damaged d) ends e (λ x. x);
+}
+
+pub unread-told : (hash : Hash) (disk : Option Told) (status : Status) (left : Option (List ℕ)) → EndsReading status → (status ≡ the.ReadFault → ⊥)
+    → ((k : ℕ) → status ≡ the.Script k → IfSome left (λ script. IsBad script k)) → (status ≡ the.Long → IfSome left (λ script. 67108864 < length script))
+    → IfSome left (HasFate hash disk status)
+unread-told hash disk status None ends no_read bad long = tt
+unread-told hash disk status (Some script) ends no_read bad long = fate hash disk status script (unread hash disk status script ends no_read bad long)

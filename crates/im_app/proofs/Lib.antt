@@ -1,3 +1,5 @@
 pub mod FateLemmas
+pub mod FoundLemmas
 pub mod ReportLemmas
+pub mod RunLemmas
 pub mod VerdictLemmas

@@ -1,17 +1,35 @@
--- How the program ends, by what the source and the keeper hold.
-use Rattle.std.specs.Prelude.{◌≡◌, ◌⊎◌, ℕ, ◌+◌, ◌<◌, ◌≤◌, List, length}
+-- How the program ends, by what the source, the disk and the keeper hold.
+use Rattle.std.specs.Prelude.{◌≡◌, ◌⊎◌, ℕ, ◌+◌, ◌<◌, ◌≤◌, List, length, Option, Some, Err, IfSome}
 use Rattle.im_digest.specs.Digests.{Hash}
+use Rattle.im_disk.specs.Disk.{Told, seen}
+use Rattle.im_format.specs.Damages.{image_checks}
+use Rattle.im_format.specs.Standing.{Stands}
+use Rattle.im_format.specs.declared.damages.Damage.{Damage}
+use Rattle.im_model.specs.declared.transactions.Transaction.{Transaction}
+use Rattle.im_mtree.specs.Checks.{first_fail}
 use Rattle.im_client.specs.declared.outcomes.Outcome.{Outcome}
 use Rattle.im_script.specs.Script.{StopsAfter}
 use Rattle.im_script.specs.declared.commands.Line.{Line}
 use Rattle.im_verify.specs.Judged.{AreTaken, IsVerified, NoneRefused, SomeRefused, StopsKept}
 use Rattle.im_app.specs.Runs.{IsGiven}
 use Rattle.im_app.specs.declared.status.Status.{Status}
-use Rattle.im_app.specs.declared.status.Status.TheVariants.{Ok, Script, Refused, Memory, Long, Kept}
+use Rattle.im_app.specs.declared.status.Status.TheVariants.{Ok, Script, Damaged, Refused, Memory, Long, Kept}
 
--- a run of a script, with no fault, memory aside
-pub record HasFate (status : Status) (script : List ℕ) : Type 0 where
-  pub runs : (lines : List Line) → IsGiven script lines → (status ≡ Ok) ⊎ (status ≡ Memory)
+-- the files of the disk are damaged: this is the first check of them that fails
+pub record IsDamaged (hash : Hash) (disk : Option Told) (status : Status) : Type 0 where
+  pub damage : Damage
+  pub is : status ≡ Damaged damage
+  pub first : IfSome disk (λ t. first_fail (image_checks hash (seen t)) ≡ Err damage)
+
+-- A run of a script over what a disk holds, with no fault, memory aside: a script of the grammar is run where the
+-- files stand for a history, and else their damage is told; a script with a bad line stops at the first one, and one
+-- too long is refused.
+pub record HasFate (hash : Hash) (disk : Option Told) (status : Status) (script : List ℕ) : Type 0 where
+  pub runs : (lines : List Line) → IsGiven script lines → (status ≡ Ok) ⊎ ((status ≡ Memory) ⊎ IsDamaged hash disk status)
+  pub stands : (lines : List Line) → IsGiven script lines → (t : Told) (found : List Transaction) → disk ≡ Some t → Stands hash (seen t) found
+      → (status ≡ Ok) ⊎ (status ≡ Memory)
+  pub damaged : (lines : List Line) → IsGiven script lines → (t : Told) → disk ≡ Some t → ((found : List Transaction) → Stands hash (seen t) found → ⊥)
+      → (status ≡ Memory) ⊎ IsDamaged hash disk status
   pub stops : (n : ℕ) → length script ≤ 67108864 → StopsAfter script n → (status ≡ Script (n + 1)) ⊎ (status ≡ Memory)
   pub too_long : 67108864 < length script → (status ≡ Long) ⊎ (status ≡ Memory)
 

@@ -1,3 +1,4 @@
+pub mod Damages
 pub mod Fates
 pub mod Runs
 pub mod Statuses

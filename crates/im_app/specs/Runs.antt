@@ -1,14 +1,22 @@
 -- What a run of a script does.
-use Rattle.std.specs.Prelude.{ℤ, ℕ, ◌≤◌, List, [], length, map, All, Option}
+use Rattle.std.specs.Prelude.{◌≡◌, ◌⊎◌, ℤ, ℕ, ◌≤◌, List, [], ◌++◌, length, map, take, drop, All, Option, Some, IfSome}
 use Rattle.std.specs.Io.KnownBytes.{Appends}
 use Rattle.im_cuts.specs.Lines.{AreTexts}
+use Rattle.im_edge.specs.Counts.{Rose}
 use Rattle.im_edge.specs.Sinks.{AddsPart}
 use Rattle.im_digest.specs.Digests.{Hash}
+use Rattle.im_disk.specs.Disk.{Files, Told, after, seen}
+use Rattle.im_disk.specs.Moments.{Leaves, LeavesNow}
+use Rattle.im_disk.specs.declared.calls.Call.TheVariants.{Synced, Missed}
+use Rattle.im_format.specs.Standing.{Stands}
 use Rattle.im_model.specs.declared.transactions.Transaction.{Transaction}
 use Rattle.im_report.specs.Report.{Report}
 use Rattle.im_script.specs.Script.{IsScript}
 use Rattle.im_script.specs.declared.commands.Line.{Line}
 use Rattle.im_accept.specs.Taken.{line_text, AreTaken}
+use Rattle.im_ledger.specs.declared.errors.CommitError.{CommitError}
+use Rattle.im_opening.specs.Cut.{WasOpened}
+use Rattle.im_session.specs.Served.{IsLeft, StandsFrom, StandsWith, StopsAt}
 use Rattle.im_session.specs.Turns.{HasTime}
 
 -- these octets are a script that isn't too long
@@ -16,27 +24,90 @@ pub record IsGiven (script : List ℕ) (lines : List Line) : Type 0 where
   pub short : length script ≤ 67108864
   pub read : IsScript script lines
 
--- These octets are the report of a run on a script, at the clock's time where it tells one. Cut at each LF
--- they are its answered lines. Each of these that is a message is accepted by every client that it is for: a
--- state by one that keeps none or that very header, an advance by one that keeps its source, a dual proof and an
--- item by one that keeps its target. Behind an advance that client keeps its target. Every other line is passed over.
-pub record IsReport (hash : Hash) (constant : Option ℤ) (script octets : List ℕ) : Type 0 where
+-- These octets are the report of a run on the first `count` lines of a script, at the clock's time where it tells
+-- one, from the history that the disk was found with to another that begins with it. Cut at each LF they are the
+-- answered lines. Each of these that is a message is accepted by every client that it is for: a state by one that
+-- keeps none or that very header, an advance by one that keeps its source, a dual proof and an item by one that
+-- keeps its target. Behind an advance that client keeps its target. Every other line is passed over.
+-- Each image that a crash may leave of the disk now stands for the history, or for it with the one transaction
+-- of the next line, which got no reply. And at each moment since the first sync each image stood for the first
+-- transactions of these, those that were found among them.
+pub record IsReport (hash : Hash) (constant : Option ℤ) (script octets : List ℕ) (before now : Option Told) : Type 0 where
   pub lines : List Line
   pub given : IsGiven script lines
+  pub found : List Transaction
+  pub found_is : IfSome before (λ t. Stands hash (seen t) found)
+  pub count : ℕ
+  pub within : count ≤ length lines
   pub history : List Transaction
-  pub report : Report hash [] history lines octets
-  pub timed : All (HasTime constant) history
+  pub report : Report hash found history (take count lines) octets
+  pub timed : All (HasTime constant) (drop (length found) history)
   pub texts : AreTexts octets (map line_text report.answers)
   pub taken : AreTaken hash history report.answers
+  pub left : List Transaction
+  pub left_is : IsLeft constant (drop count lines) left
+  pub images : LeavesNow (StandsWith hash history left) now
+  pub moments : IfSome before (λ t. Leaves (StandsFrom hash (length found) (history ++ left)) (Some (after Synced t)) now)
 
--- the report of a run was written, and nothing else
-pub record WritesReport (hash : Hash) (constant : Option ℤ) (script : List ℕ) (before after : Option (List ℕ)) : Type 0 where
-  pub octets : List ℕ
-  pub report : IsReport hash constant script octets
-  pub whole : Appends before after octets
+-- all lines were answered, so that no transaction is without a reply, and what reads give stands for the history
+pub record IsWhole (hash : Hash) (constant : Option ℤ) (script octets : List ℕ) (before now : Option Told) : Type 0 where
+  pub report : IsReport hash constant script octets before now
+  pub all : report.count ≡ length report.lines
+  pub here : IfSome now (λ t. Stands hash (seen t) report.history)
 
--- a front part of the report of a run was written, and nothing else
-pub record WritesPart (hash : Hash) (constant : Option ℤ) (script : List ℕ) (before after : Option (List ℕ)) : Type 0 where
+-- The report of all lines of a script, which is what the source had where it tells, was written, and nothing else.
+pub record WritesReport (hash : Hash) (constant : Option ℤ) (source : Option (List ℕ)) (before now : Option Told) (sink_before sink_now : Option (List ℕ)) : Type 0 where
+  pub script : List ℕ
+  pub script_is : IfSome source (λ octets. octets ≡ script)
   pub octets : List ℕ
-  pub report : IsReport hash constant script octets
-  pub part : AddsPart octets before after
+  pub report : IsWhole hash constant script octets before now
+  pub whole : Appends sink_before sink_now octets
+
+-- A front part of the report of all lines was written, and nothing else.
+pub record WritesPart (hash : Hash) (constant : Option ℤ) (source : Option (List ℕ)) (before now : Option Told) (sink_before sink_now : Option (List ℕ)) : Type 0 where
+  pub script : List ℕ
+  pub script_is : IfSome source (λ octets. octets ≡ script)
+  pub octets : List ℕ
+  pub report : IsWhole hash constant script octets before now
+  pub part : AddsPart octets sink_before sink_now
+
+-- The report of the lines before the first one without a reply was written, and nothing else; or a front part of it
+-- where the sink failed.
+pub record WritesFront (hash : Hash) (constant : Option ℤ) (why : CommitError) (source : Option (List ℕ)) (before now : Option Told) (sink_before sink_now : Option (List ℕ)) (faults_before faults_now : ℕ) : Type 0 where
+  pub script : List ℕ
+  pub script_is : IfSome source (λ octets. octets ≡ script)
+  pub octets : List ℕ
+  pub report : IsReport hash constant script octets before now
+  pub stops : StopsAt why report.history (drop report.count report.lines)
+  pub wrote : (Appends sink_before sink_now octets × (faults_now ≡ faults_before))
+      ⊎ (AddsPart octets sink_before sink_now × Rose faults_before faults_now)
+
+-- the source gave a script of the grammar to its end, where it tells
+pub record GivesScript (before now : Option (List ℕ)) : Type 0 where
+  pub script : List ℕ
+  pub script_is : IfSome before (λ octets. octets ≡ script)
+  pub lines : List Line
+  pub given : IsGiven script lines
+  pub emptied : IfSome before (λ octets. now ≡ Some [])
+
+-- No line was answered: nothing was done to a disk whose reads gave an image that stands for a history, but a sync
+-- that failed; or it was synced, and since then at every moment each image has stood for that history.
+abbrev pub LeavesFound : Hash → Option Told → Option Told → Type 0
+LeavesFound hash before now =
+    (t : Told) (found : List Transaction) → before ≡ Some t → Stands hash (seen t) found → WasOpened hash found t now
+
+-- the image stands for a history that begins with this one
+pub record BeginsWith (hash : Hash) (found : List Transaction) (image : Files) : Type 0 where
+  pub history : List Transaction
+  pub stands : Stands hash image history
+  pub begins : take (length found) history ≡ found
+
+-- What a run did to a disk whose reads gave an image that stands for a history: nothing; a sync that failed, and
+-- nothing else; or, once a sync had succeeded, at every moment each image has stood for a history that begins with it.
+abbrev pub KeepsFound : Hash → List Transaction → Told → Option Told → Type 0
+KeepsFound hash found t now =
+    (now ≡ Some t) ⊎ ((now ≡ Some (after Missed t)) ⊎ Leaves (BeginsWith hash found) (Some (after Synced t)) now)
+
+-- what is done to a disk whose reads give an image that stands for no history: one sync at most, and nothing else
+abbrev pub SyncsAlone : Told → Option Told → Type 0
+SyncsAlone t now = (now ≡ Some t) ⊎ ((now ≡ Some (after Missed t)) ⊎ (now ≡ Some (after Synced t)))

@@ -1,7 +1,12 @@
 -- How the ends of a run are told.
-use Rattle.std.specs.Prelude.{ℕ, List, [], codes}
+use Rattle.std.specs.Prelude.{ℕ, List, [], codes, Result, Ok as Done, Err}
+use Rattle.im_edge.specs.declared.sink.WriteFault.{WriteFault as TheFault}
+use Rattle.im_ledger.specs.declared.errors.CommitError.{CommitError}
+use Rattle.im_ledger.specs.declared.errors.CommitError.TheVariants as commit
+use Rattle.im_opening.specs.declared.errors.OpenError.{OpenError}
+use Rattle.im_opening.specs.declared.errors.OpenError.TheVariants as opened
 use Rattle.im_app.specs.declared.status.Status.{Status}
-use Rattle.im_app.specs.declared.status.Status.TheVariants.{Ok, Usage, Script, ReadFault, WriteFault, KeeperFault, Refused, Memory, Long, Kept}
+use Rattle.im_app.specs.declared.status.Status.TheVariants.{Ok, Usage, Script, ReadFault, WriteFault, DiskFault, Damaged, KeeperFault, Refused, Memory, Long, Kept}
 
 -- the program's exit status
 unfoldable pub code_of : Status → ℕ
@@ -10,19 +15,24 @@ code_of Usage = 2
 code_of (Script line) = 3
 code_of ReadFault = 4
 code_of WriteFault = 5
+code_of DiskFault = 6
+code_of (Damaged damage) = 7
 code_of KeeperFault = 8
 code_of Refused = 9
 code_of Memory = 11
 code_of Long = 12
 code_of (Kept line) = 13
 
--- the words on standard error, where something is said there; the number of a line follows them
+-- the words on standard error, where something is said there; the number of a line or what is said of a
+-- damage follows them
 unfoldable pub words_of : Status → List ℕ
 words_of Ok = []
 words_of Usage = codes "usage"
 words_of (Script line) = codes "script"
 words_of ReadFault = codes "read fault"
 words_of WriteFault = codes "write fault"
+words_of DiskFault = codes "disk fault"
+words_of (Damaged damage) = codes "damaged"
 words_of KeeperFault = codes "keeper fault"
 words_of Refused = codes "refused"
 words_of Memory = codes "memory"
@@ -36,6 +46,8 @@ EndsRun Usage = Unit {0}
 EndsRun (Script line) = Unit {0}
 EndsRun ReadFault = Unit {0}
 EndsRun WriteFault = Unit {0}
+EndsRun DiskFault = Unit {0}
+EndsRun (Damaged damage) = Unit {0}
 EndsRun KeeperFault = ⊥
 EndsRun Refused = ⊥
 EndsRun Memory = Unit {0}
@@ -49,8 +61,73 @@ EndsVerify Usage = Unit {0}
 EndsVerify (Script line) = ⊥
 EndsVerify ReadFault = Unit {0}
 EndsVerify WriteFault = Unit {0}
+EndsVerify DiskFault = ⊥
+EndsVerify (Damaged damage) = ⊥
 EndsVerify KeeperFault = Unit {0}
 EndsVerify Refused = Unit {0}
 EndsVerify Memory = Unit {0}
 EndsVerify Long = Unit {0}
 EndsVerify (Kept line) = Unit {0}
+
+-- reading a script ends so where it gives no lines
+abbrev pub EndsReading : Status → Type 0
+EndsReading Ok = ⊥
+EndsReading Usage = ⊥
+EndsReading (Script line) = Unit {0}
+EndsReading ReadFault = Unit {0}
+EndsReading WriteFault = ⊥
+EndsReading DiskFault = ⊥
+EndsReading (Damaged damage) = ⊥
+EndsReading KeeperFault = ⊥
+EndsReading Refused = ⊥
+EndsReading Memory = Unit {0}
+EndsReading Long = Unit {0}
+EndsReading (Kept line) = ⊥
+
+-- a run whose script was read ends so
+abbrev pub EndsWriting : Status → Type 0
+EndsWriting Ok = Unit {0}
+EndsWriting Usage = ⊥
+EndsWriting (Script line) = ⊥
+EndsWriting ReadFault = ⊥
+EndsWriting WriteFault = Unit {0}
+EndsWriting DiskFault = Unit {0}
+EndsWriting (Damaged damage) = Unit {0}
+EndsWriting KeeperFault = ⊥
+EndsWriting Refused = ⊥
+EndsWriting Memory = Unit {0}
+EndsWriting Long = ⊥
+EndsWriting (Kept line) = ⊥
+
+-- the status of a disk that wasn't opened
+abbrev pub status_by : OpenError → Status
+status_by opened.DiskFault = DiskFault
+status_by (opened.Damaged damage) = Damaged damage
+status_by opened.Memory = Memory
+
+-- how a run ends: the line without a reply decides, and else whether the report was written
+abbrev pub status_behind : Result Unit CommitError → Result Unit TheFault → Status
+status_behind (Err commit.DiskFault) wrote = DiskFault
+status_behind (Err commit.Memory) wrote = Memory
+status_behind (Done done) (Done wrote) = Ok
+status_behind (Done done) (Err fault) = WriteFault
+
+-- the status of a line that got no reply
+abbrev pub status_for : CommitError → Status
+status_for commit.DiskFault = DiskFault
+status_for commit.Memory = Memory
+
+-- a run ends so only behind a script of the grammar
+abbrev pub EndsGiven : Status → Type 0
+EndsGiven Ok = Unit {0}
+EndsGiven Usage = ⊥
+EndsGiven (Script line) = ⊥
+EndsGiven ReadFault = ⊥
+EndsGiven WriteFault = Unit {0}
+EndsGiven DiskFault = Unit {0}
+EndsGiven (Damaged damage) = Unit {0}
+EndsGiven KeeperFault = ⊥
+EndsGiven Refused = ⊥
+EndsGiven Memory = ⊥
+EndsGiven Long = ⊥
+EndsGiven (Kept line) = ⊥

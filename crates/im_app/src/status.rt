@@ -1,6 +1,8 @@
 ghost use Rattle.std.specs.Prelude.{◌≡◌};
 ghost use Rattle.im_app.specs.Statuses.{code_of, words_of};
 
+use im_format::damages::Damage;
+
 /// How a run of the program ended. The program's exit status is the number at each.
 #[derive(Clone, Copy, Debug, PartialEq, Eq)]
 pub enum Status {
@@ -14,6 +16,10 @@ pub enum Status {
     ReadFault,
     /// 5: the sink failed.
     WriteFault,
+    /// 6: the disk failed. The lines before the first one without a reply were answered.
+    DiskFault,
+    /// 7: the disk's files don't hold what they should, first at this place. Nothing was run.
+    Damaged(Damage),
     /// 8: the keeper failed.
     KeeperFault,
     /// 9: each line of the stream was told, and some failed a check.
@@ -38,6 +44,8 @@ impl Status {
             Status::Script { .. } => 3,
             Status::ReadFault => 4,
             Status::WriteFault => 5,
+            Status::DiskFault => 6,
+            Status::Damaged(_) => 7,
             Status::KeeperFault => 8,
             Status::Refused => 9,
             Status::Memory => 11,
@@ -46,7 +54,8 @@ impl Status {
         }
     }
 
-    /// The words that tell of it on standard error, behind `im: `, and before the number of a line.
+    /// The words that tell of it on standard error, behind `im: `, and before the number of a line or what is
+    /// said of a damage.
     #[tactic(auto, unfolding(crate::specs::Statuses::words_of))]
     pub fn words(self) -> &'static str
         ensures { result.now ≡ words_of self }
@@ -57,6 +66,8 @@ impl Status {
             Status::Script { .. } => "script",
             Status::ReadFault => "read fault",
             Status::WriteFault => "write fault",
+            Status::DiskFault => "disk fault",
+            Status::Damaged(_) => "damaged",
             Status::KeeperFault => "keeper fault",
             Status::Refused => "refused",
             Status::Memory => "memory",

@@ -1,3 +1,4 @@
 pub mod Causes
 pub mod Histories
 pub mod Ledgers
+pub mod Openings

@@ -6,4 +6,7 @@ pub mod errors;
 pub mod kept;
 pub mod laws;
 pub mod ledger;
+pub mod opening;
 mod records;
+#[cfg(test)]
+mod tests;

@@ -6,9 +6,9 @@
 //! fourth, whose tree of a0 and 42 has the root e3. An Alh adds its number and the Alh before it: a0, 42, e6
 //! and 71.
 
-ghost use Rattle.std.specs.Prelude.{◌≡◌, length, IfOk, Some};
+ghost use Rattle.std.specs.Prelude.{◌≡◌, [], ◌∷◌, length, IfOk, Some};
 ghost use Rattle.im_digest.specs.Digests.{sum_digest};
-ghost use Rattle.im_disk.specs.Recorded.{told_by};
+ghost use Rattle.im_disk.specs.Recorded.{told_by, unchanged};
 ghost use Rattle.im_ledger.specs.Histories.{IsKept};
 
 use crate::serve::{Served, serve};
@@ -58,14 +58,21 @@ fn written_out(alloc: Global, parts: &[&[u8]]) -> Result<Vec<u8>, AllocError> {
     Ok(out)
 }
 
-// The empty history on a disk with a closed gate and nothing else, whose calls of these numbers fail.
+// A disk with a closed gate and nothing else, whose calls of these numbers fail.
+fn fresh(alloc: Global, failing: Vec<u64>) -> Result<MemDisk, AllocError>
+    ensures { IfOk result (λ disk. disk ≡ unchanged ([] ∷ (0 ∷ []) ∷ []) failing.items) }
+{
+    let gate = Octets::from_slice(alloc, &[0])?;
+    let files = vec![in alloc; Octets::new(alloc), gate]?;
+    MemDisk::from_files(alloc, files, failing)
+}
+
+// The empty history on such a disk.
 fn nothing_kept(alloc: Global, failing: Vec<u64>) -> Result<KeptLedger<MemDisk>, AllocError>
     ensures kept { IfOk result (IsKept (λ disk. Some (told_by disk)) sum_digest) }
     ensures filled { IfOk result (λ kept. length kept.held.tree ≡ length kept.held.transactions) }
 {
-    let gate = Octets::from_slice(alloc, &[0])?;
-    let files = vec![in alloc; Octets::new(alloc), gate]?;
-    let disk = MemDisk::from_files(alloc, files, failing)?;
+    let disk = fresh(alloc, failing)?;
     let journal = Journal::resume(alloc, disk, [0; 6], 0);
     Ok(KeptLedger::over(journal, Ledger::new(alloc), 1))
 }

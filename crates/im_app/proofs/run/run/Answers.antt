@@ -1,48 +1,69 @@
-use Rattle.std.proofs.Common.{ℤ, ℕ, List, Option, subst}
-use Rattle.std.specs.Io.KnownBytes.{Appends}
+use Rattle.std.proofs.Common.{◌≡◌, ℕ, ℤ, List, sym, ◌∙◌, subst, Option, Some, Err, inl, inr, refl, IfSome}
 use Rattle.im_digest.specs.Digests.{Hash}
-use Rattle.im_edge.specs.Sinks.{AddsPart}
-use Rattle.im_script.specs.Script.{IsScript}
-use Rattle.im_app.specs.Runs.{IsReport, WritesPart, WritesReport}
-use Rattle.im_app.proofs.ReportLemmas.{is-report, read-told}
+use Rattle.im_disk.specs.Disk.{Told, after, seen}
+use Rattle.im_disk.proofs.Leaving.{if_told}
+use Rattle.im_disk.specs.declared.calls.Call.TheVariants.{Synced}
+use Rattle.im_format.specs.Damages.{image_checks}
+use Rattle.im_format.specs.Standing.{Stands}
+use Rattle.im_format.specs.declared.damages.Damage.{Damage}
+use Rattle.im_model.specs.declared.transactions.Transaction.{Transaction}
+use Rattle.im_mtree.specs.Checks.{first_fail}
+use Rattle.im_script.specs.declared.commands.Line.{Line}
+use Rattle.im_app.specs.Fates.{HasFate}
+use Rattle.im_app.specs.Statuses.{EndsWriting}
+use Rattle.im_app.specs.declared.status.Status.{Status}
+use Rattle.im_app.specs.declared.status.Status.TheVariants as the
+use Rattle.im_app.proofs.FateLemmas.{Ends, ends-other, fate, unread-told, writing-run}
+use Rattle.im_app.proofs.ReportLemmas.{read-told}
+use Rattle.im_app.proofs.RunLemmas.{front-told, given-not}
 use Rattle.im_app.proofs.run.run.Goals as goal
 
-pub returns-in-Ok-write_all-clause-ok : goal.returns-in-Ok-write_all-clause-ok
-returns-in-Ok-write_all-clause-ok g c = λ done.
-    let hash : Hash = g.H.Hash32.digest c.args.hash.now in
-    let constant : Option ℤ = g.C.Clock.constant c.args.clock.now in
-    let script : List ℕ = c.in-Ok.octets.items in
-    let lines = c.in-Ok-read_script.lines.items in
-    let out : List ℕ = c.in-Ok-serve.served.out.items in
-    let before : Option (List ℕ) = g.K.Sink.written c.args.sink.now in
-    let after : Option (List ℕ) = g.K.Sink.written c.write_all.new.sink in
-    let served = c.in-Ok-serve.ensures in
-    let S : List ℕ → Type 0 = λ octets. IsScript octets lines in
-    let A : List ℕ → Type 0 = λ octets. Appends before after octets in
-    let report : IsReport hash constant script out =
-    is-report hash constant script out lines c.in-Ok-serve.served.history.items
-    (record { short = c.in-Ok.ensures.within; read = subst S c.as_slice.ensures.value c.in-Ok-read_script.ensures.ok })
-    served.report served.timed served.again in
-    let whole : A out = subst A c.as_slice-2.ensures.value c.in-Ok-write_all.ensures.whole in
-    read-told (g.S.Source.left c.args.source.now) script (λ octets. WritesReport hash constant octets before after) c.in-Ok.ensures.whole
-    (record { octets = out; report = report; whole = whole })
+pub returns-in-Ok-clause-front : goal.returns-in-Ok-clause-front
+returns-in-Ok-clause-front g c = λ why e.
+    let given = c.in-Ok.ensures.given in
+    elim (c.run_lines.ensures.front given.0 why given.2 e) [
+      | inl none ↦ inl none
+      | inr front ↦ inr (front-told (g.H.Hash32.digest c.args.hash.now) (g.C.Clock.constant c.args.clock.now) why (g.S.Source.left c.args.source.now) given.0
+          (g.D.Disk.told c.args.disk) (g.D.Disk.told c.run_lines.result.disk) (g.K.Sink.written c.args.sink.now) (g.K.Sink.written c.run_lines.new.sink)
+          (g.K.Sink.faults c.args.sink.now) (g.K.Sink.faults c.run_lines.new.sink) given.1 front)
+    ]
 
-pub returns-clause-part : goal.returns-clause-part
-returns-clause-part g c = λ failed.
+pub returns-in-Ok-clause-untouched : goal.returns-in-Ok-clause-untouched
+returns-in-Ok-clause-untouched g c =
+    let given = c.in-Ok.ensures.given in
+    given-not (g.S.Source.left c.args.source.now) given.0 c.in-Ok.lines.items
+    ((c.run_lines.new.sink ≡ c.args.sink.now) × ((c.run_lines.new.clock ≡ c.args.clock.now) × (c.run_lines.result.disk ≡ c.args.disk)))
+    given.1 given.2
+
+pub returns-in-Ok-clause-fate : goal.returns-in-Ok-clause-fate
+returns-in-Ok-clause-fate g c = λ no_read no_write no_device.
     let hash : Hash = g.H.Hash32.digest c.args.hash.now in
-    let constant : Option ℤ = g.C.Clock.constant c.args.clock.now in
-    let script : List ℕ = c.in-Ok.octets.items in
-    let lines = c.in-Ok-read_script.lines.items in
-    let out : List ℕ = c.in-Ok-serve.served.out.items in
-    let before : Option (List ℕ) = g.K.Sink.written c.args.sink.now in
-    let after : Option (List ℕ) = g.K.Sink.written c.write_all.new.sink in
-    let served = c.in-Ok-serve.ensures in
-    let S : List ℕ → Type 0 = λ octets. IsScript octets lines in
-    let A : List ℕ → Type 0 = λ octets. AddsPart octets before after in
-    let report : IsReport hash constant script out =
-    is-report hash constant script out lines c.in-Ok-serve.served.history.items
-    (record { short = c.in-Ok.ensures.within; read = subst S c.as_slice.ensures.value c.in-Ok-read_script.ensures.ok })
-    served.report served.timed served.again in
-    let part : A out = subst A c.as_slice-2.ensures.value c.write_all.ensures.part in
-    read-told (g.S.Source.left c.args.source.now) script (λ octets. WritesPart hash constant octets before after) c.in-Ok.ensures.whole
-    (record { octets = out; report = report; part = part })
+    let disk : Option Told = g.D.Disk.told c.args.disk in
+    let status : Status = c.run_lines.result.status in
+    let given = c.in-Ok.ensures.given in
+    let script : List ℕ = given.0 in
+    let lines : List Line = c.in-Ok.lines.items in
+    let ran = c.run_lines.ensures in
+    let ends : Ends hash disk status script = record {
+      given = λ e. (lines, given.2);
+      opened = λ d e. (lines, given.2);
+      ends = writing-run status ran.ends;
+      no_usage = λ e. ends-other EndsWriting status the.Usage ran.ends e (λ x. x);
+      no_read = λ e. ends-other EndsWriting status the.ReadFault ran.ends e (λ x. x);
+      no_write = λ e. no_write (ran.write e);
+      no_device = λ e. no_device (ran.device e);
+      bad = λ k e. absurd (ends-other EndsWriting status (the.Script k) ran.ends e (λ x. x));
+      long = λ e. absurd (ends-other EndsWriting status the.Long ran.ends e (λ x. x));
+      damaged = λ d e. if_told (λ t. (first_fail (image_checks hash (seen t)) ≡ Err d) × (g.D.Disk.told c.run_lines.result.disk ≡ Some (after Synced t)))
+          (λ t. first_fail (image_checks hash (seen t)) ≡ Err d) (λ t p. p.0) disk (ran.damaged d e);
+      whole = λ e. let w = ran.report script given.2 e in
+          if_told (λ t. Stands hash (seen t) w.report.report.found) (λ t. (found : List Transaction) × Stands hash (seen t) found) (λ t s. (w.report.report.found, s)) disk w.report.report.found_is;
+      sound = ran.sound;
+    } in
+    read-told (g.S.Source.left c.args.source.now) script (HasFate hash disk status) given.1 (fate hash disk status script ends)
+
+pub returns-in-Err-clause-fate : goal.returns-in-Err-clause-fate
+returns-in-Err-clause-fate g c = λ no_read no_write no_device.
+    let read = c.in-Err.ensures in
+    unread-told (g.H.Hash32.digest c.args.hash.now) (g.D.Disk.told c.args.disk) c.in-Err.status (g.S.Source.left c.args.source.now)
+    read.ends (λ e. no_read (read.read e)) (λ k e. read.script k e) (λ e. read.long e)

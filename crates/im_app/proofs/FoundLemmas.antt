@@ -1,0 +1,39 @@
+-- What a run leaves of the history that was found.
+use Rattle.std.proofs.Common.{◌≡◌, ◌≤◌, ℕ, List, ◌++◌, length, take, refl, arith, ap, subst, sym, ◌∙◌, Option, Some, None, inl, inr, ◌⊎◌}
+use Rattle.std.proofs.Math.Seq.{take-length}
+use Rattle.std.proofs.lemmas.List.{take-take}
+use Rattle.im_digest.specs.Digests.{Hash}
+use Rattle.im_disk.specs.Disk.{Files, Told, after, seen}
+use Rattle.im_disk.specs.Moments.{Leaves}
+use Rattle.im_disk.specs.declared.calls.Call.TheVariants.{Synced, Missed}
+use Rattle.im_disk.proofs.Leaving.{leaves_weaker}
+use Rattle.im_format.specs.Standing.{Stands}
+use Rattle.im_model.specs.declared.transactions.Transaction.{Transaction}
+use Rattle.im_opening.specs.Cut.{WasOpened}
+use Rattle.im_session.specs.Served.{StandsFrom}
+use Rattle.im_app.specs.Runs.{BeginsWith, KeepsFound}
+
+-- an image that stands for the history itself
+begins-itself : (hash : Hash) (found : List Transaction) (image : Files) → Stands hash image found → BeginsWith hash found image
+begins-itself hash found image s = record { history = found; stands = s; begins = take-length found }
+
+-- a disk that wasn't opened
+pub opened-keeps : (hash : Hash) (found : List Transaction) (t : Told) (now : Option Told) → WasOpened hash found t now → KeepsFound hash found t now
+opened-keeps hash found t now (inl same) = inl same
+opened-keeps hash found t now (inr (inl missed)) = inr (inl missed)
+opened-keeps hash found t now (inr (inr leaves)) =
+    inr (inr (leaves_weaker (λ image. Stands hash image found) (BeginsWith hash found) (begins-itself hash found) (Some (after Synced t)) now leaves))
+
+-- an image that stands for the first of all transactions, those that were found among them
+from-begins : (hash : Hash) (found all : List Transaction) → take (length found) all ≡ found → (image : Files) → StandsFrom hash (length found) all image → BeginsWith hash found image
+from-begins hash found all begins image s = record {
+  history = take s.count all;
+  stands = s.stands;
+  begins = take-take (length found) s.count all s.no_fewer ∙ begins;
+}
+
+-- a disk that a session worked on
+pub served-keeps : (hash : Hash) (found all : List Transaction) (t : Told) (now : Option Told) → take (length found) all ≡ found
+    → Leaves (StandsFrom hash (length found) all) (Some (after Synced t)) now → KeepsFound hash found t now
+served-keeps hash found all t now begins leaves =
+    inr (inr (leaves_weaker (StandsFrom hash (length found) all) (BeginsWith hash found) (from-begins hash found all begins) (Some (after Synced t)) now leaves))

@@ -1,0 +1,128 @@
+use Rattle.std.proofs.Common.{◌≡◌, ◌⊎◌, ℕ, ℤ, List, ◌++◌, length, take, sym, ◌∙◌, subst, Option, Some, inl, inr, refl, IfSome}
+use Rattle.std.specs.Io.KnownBytes.{Appends}
+use Rattle.im_digest.specs.Digests.{Hash}
+use Rattle.im_disk.specs.Disk.{Told, after, seen}
+use Rattle.im_disk.specs.Moments.{Leaves}
+use Rattle.im_disk.specs.declared.calls.Call.TheVariants.{Synced}
+use Rattle.im_edge.specs.Counts.{Rose}
+use Rattle.im_edge.specs.Sinks.{AddsPart}
+use Rattle.im_format.specs.Standing.{Stands}
+use Rattle.im_model.specs.declared.transactions.Transaction.{Transaction}
+use Rattle.im_session.specs.Served.{Serves, ServesAll}
+use Rattle.im_app.specs.Runs.{KeepsFound}
+use Rattle.im_app.proofs.FoundLemmas.{opened-keeps, served-keeps}
+use Rattle.im_app.proofs.ReportLemmas.{Opens, begins-left, is-report, is-whole, moments-both}
+use Rattle.im_app.proofs.RunLemmas.{damage-by, done-both, failed-behind, if-told, on-ok, stopped-for, wrote-either}
+use Rattle.im_app.proofs.run.run_lines.Goals as goal
+
+pub returns-in-Err-clause-sound : goal.returns-in-Err-clause-sound
+returns-in-Err-clause-sound g c = λ damage t found told stands e.
+    c.in-Err.ensures.sound damage t found told stands (damage-by c.in-Err.failed.error damage (sym c.status_of.ensures ∙ e))
+
+pub returns-in-Err-clause-any_moment : goal.returns-in-Err-clause-any_moment
+returns-in-Err-clause-any_moment g c = λ t found told stands.
+    opened-keeps (g.H.Hash32.digest c.args.hash.now) found t (g.D.Disk.told c.in-Err.failed.disk) (c.in-Err.ensures.off t found told stands)
+
+pub serve-disk-requires-clause-stub : goal.serve-disk-requires-clause-stub
+serve-disk-requires-clause-stub g c = ?
+
+pub returns-clause-report : goal.returns-clause-report
+returns-clause-report g c = λ script given e.
+    let hash : Hash = g.H.Hash32.digest c.args.hash.now in
+    let constant : Option ℤ = g.C.Clock.constant c.args.clock.now in
+    let before : Option Told = g.D.Disk.told c.args.disk in
+    let mid : Option Told = g.D.Disk.told c.in-Ok.kept.journal.disk in
+    let now : Option Told = g.D.Disk.told c.serve-disk.result.disk in
+    let found : List Transaction = c.in-Ok.kept.held.transactions in
+    let out : List ℕ = c.serve-disk.result.out.items in
+    let sink_before = g.K.Sink.written c.args.sink.now in
+    let sink_now = g.K.Sink.written c.write_all-wrote.new.sink in
+    let A : List ℕ → Type 0 = λ octets. Appends sink_before sink_now octets in
+    let both = done-both c.serve-disk.result.end c.write_all-wrote.result (sym c.status_after.ensures ∙ e) in
+    let opens : Opens hash found before mid = record {
+      found_is = if-told before (λ t. Stands hash (seen t) found) c.in-Ok.ensures.stands;
+      opened = if-told before (λ t. Leaves (λ image. Stands hash image found) (Some (after Synced t)) mid) c.in-Ok.ensures.moments;
+    } in
+    let all : ServesAll hash constant found c.args.lines.items mid now out =
+    on-ok c.serve-disk.result.end (ServesAll hash constant found c.args.lines.items mid now out) both.0 c.serve-disk.ensures.all in
+    record {
+      script = script;
+      script_is = refl;
+      octets = out;
+      report = is-whole hash constant script out c.args.lines.items found before mid now given opens all;
+      whole = subst A c.as_slice.ensures.value (on-ok c.write_all-wrote.result (A c.as_slice.result.now) both.1 c.write_all-wrote.ensures.whole);
+    }
+
+pub returns-clause-part : goal.returns-clause-part
+returns-clause-part g c = λ script given e.
+    let hash : Hash = g.H.Hash32.digest c.args.hash.now in
+    let constant : Option ℤ = g.C.Clock.constant c.args.clock.now in
+    let before : Option Told = g.D.Disk.told c.args.disk in
+    let mid : Option Told = g.D.Disk.told c.in-Ok.kept.journal.disk in
+    let now : Option Told = g.D.Disk.told c.serve-disk.result.disk in
+    let found : List Transaction = c.in-Ok.kept.held.transactions in
+    let out : List ℕ = c.serve-disk.result.out.items in
+    let A : List ℕ → Type 0 = λ octets. AddsPart octets (g.K.Sink.written c.args.sink.now) (g.K.Sink.written c.write_all-wrote.new.sink) in
+    let answered = failed-behind c.serve-disk.result.end c.write_all-wrote.result (sym c.status_after.ensures ∙ e) in
+    let opens : Opens hash found before mid = record {
+      found_is = if-told before (λ t. Stands hash (seen t) found) c.in-Ok.ensures.stands;
+      opened = if-told before (λ t. Leaves (λ image. Stands hash image found) (Some (after Synced t)) mid) c.in-Ok.ensures.moments;
+    } in
+    let all : ServesAll hash constant found c.args.lines.items mid now out =
+    on-ok c.serve-disk.result.end (ServesAll hash constant found c.args.lines.items mid now out) answered c.serve-disk.ensures.all in
+    record {
+      script = script;
+      script_is = refl;
+      octets = out;
+      report = is-whole hash constant script out c.args.lines.items found before mid now given opens all;
+      part = subst A c.as_slice.ensures.value c.write_all-wrote.ensures.part;
+    }
+
+pub returns-clause-front : goal.returns-clause-front
+returns-clause-front g c = λ script why given e.
+    let hash : Hash = g.H.Hash32.digest c.args.hash.now in
+    let constant : Option ℤ = g.C.Clock.constant c.args.clock.now in
+    let before : Option Told = g.D.Disk.told c.args.disk in
+    let mid : Option Told = g.D.Disk.told c.in-Ok.kept.journal.disk in
+    let now : Option Told = g.D.Disk.told c.serve-disk.result.disk in
+    let found : List Transaction = c.in-Ok.kept.held.transactions in
+    let out : List ℕ = c.serve-disk.result.out.items in
+    let sink_before = g.K.Sink.written c.args.sink.now in
+    let sink_now = g.K.Sink.written c.write_all-wrote.new.sink in
+    let faults_before : ℕ = g.K.Sink.faults c.args.sink.now in
+    let faults_now : ℕ = g.K.Sink.faults c.write_all-wrote.new.sink in
+    let A : List ℕ → Type 0 = λ octets. Appends sink_before sink_now octets in
+    let B : List ℕ → Type 0 = λ octets. AddsPart octets sink_before sink_now in
+    let W : List ℕ → Type 0 = λ octets. (A octets × (faults_now ≡ faults_before)) ⊎ (B octets × Rose faults_before faults_now) in
+    let stopped = stopped-for why c.serve-disk.result.end c.write_all-wrote.result (sym c.status_after.ensures ∙ e) in
+    let front = c.serve-disk.ensures.front why stopped in
+    let opens : Opens hash found before mid = record {
+      found_is = if-told before (λ t. Stands hash (seen t) found) c.in-Ok.ensures.stands;
+      opened = if-told before (λ t. Leaves (λ image. Stands hash image found) (Some (after Synced t)) mid) c.in-Ok.ensures.moments;
+    } in
+    let wrote : W c.as_slice.result.now = wrote-either c.write_all-wrote.result (A c.as_slice.result.now) (faults_now ≡ faults_before) (B c.as_slice.result.now) (Rose faults_before faults_now)
+    c.write_all-wrote.ensures.whole c.write_all-wrote.ensures.same c.write_all-wrote.ensures.part c.write_all-wrote.ensures.failed in
+    inr (record {
+      script = script;
+      script_is = refl;
+      octets = out;
+      report = is-report hash constant script out c.args.lines.items found before mid now given opens front.serves;
+      stops = front.stops;
+      wrote = subst W c.as_slice.ensures.value wrote;
+    })
+
+pub returns-clause-any_moment : goal.returns-clause-any_moment
+returns-clause-any_moment g c = λ t others told stands.
+    let hash : Hash = g.H.Hash32.digest c.args.hash.now in
+    let mid : Option Told = g.D.Disk.told c.in-Ok.kept.journal.disk in
+    let now : Option Told = g.D.Disk.told c.serve-disk.result.disk in
+    let found : List Transaction = c.in-Ok.kept.held.transactions in
+    let s = c.serve-disk.ensures.some in
+    let K : List Transaction → Type 0 = λ h. KeepsFound hash h t now in
+    subst K (c.in-Ok.ensures.one t others told stands)
+    (served-keeps hash found (s.history ++ s.left) t now (begins-left found s.history s.left s.report.begins)
+    (moments-both hash found s.history s.left (Some t) mid now s.report.begins (c.in-Ok.ensures.moments t told) s.moments))
+
+pub returns-clause-unharmed : goal.returns-clause-unharmed
+returns-clause-unharmed g c = λ t told none.
+    absurd (none c.in-Ok.kept.held.transactions (c.in-Ok.ensures.stands t told))

@@ -1,0 +1,48 @@
+use Rattle.std.proofs.Common.{◌≡◌, List, length, map, ap, subst, sym, ◌∙◌, Option, Some, inr}
+use Rattle.im_digest.specs.Digests.{Hash}
+use Rattle.im_disk.specs.Disk.{Told, after}
+use Rattle.im_disk.specs.Moments.{Leaves}
+use Rattle.im_disk.specs.declared.calls.Call.TheVariants.{Synced}
+use Rattle.im_format.specs.Standing.{Stands}
+use Rattle.im_journal.specs.Kept.{Kept}
+use Rattle.im_model.specs.declared.transactions.Transaction.{Transaction}
+use Rattle.im_opening.specs.Cut.{WasOpened}
+use Rattle.im_recovery.proofs.FoundLemmas.{if-err}
+use Rattle.im_ledger.specs.Ledgers.{Held}
+use Rattle.im_ledger.proofs.OpenLemmas.{found-filled, leaves-same}
+use Rattle.im_ledger.proofs.opening.open_ledger.Goals as goal
+
+pub returns-in-Ok-clause-filled : goal.returns-in-Ok-clause-filled
+returns-in-Ok-clause-filled g c =
+    let hash : Hash = g.H.Hash32.digest c.args.hash.now in
+    let filled : length c.in-Ok.ledger.tree ≡ length c.in-Ok.ledger.transactions =
+    found-filled g.D.Disk.told hash c.in_ok-journal.field-0.journal c.in_ok-journal.field-0.records.items c.in_ok-journal.field-0.headers.items c.in-Ok.ledger
+    c.in_ok-journal.ensures.rests c.in_ok-journal.ensures.headers (c.in-Ok.ensures.ledger hash) c.in-Ok.ensures.tree in
+    let F : Held → Type 0 = λ h. length h.tree ≡ length h.transactions in
+    subst F (sym c.over.ensures.given.1) filled
+
+pub returns-in-Ok-clause-moments : goal.returns-in-Ok-clause-moments
+returns-in-Ok-clause-moments g c = λ t told.
+    let hash : Hash = g.H.Hash32.digest c.args.hash.now in
+    let same : c.over.result.held.transactions ≡ map (λ r. r.tx) c.in_ok-journal.field-0.records.items =
+    ap (λ (h : Held). h.transactions) c.over.ensures.given.1 ∙ c.in-Ok.ensures.transactions in
+    let M : Kept g.row.D.Denot → Type 0 = λ j. Leaves (λ image. Stands hash image c.over.result.held.transactions) (Some (after Synced t)) (g.D.Disk.told j.disk) in
+    subst M (sym c.over.ensures.given.0)
+    (leaves-same hash (map (λ r. r.tx) c.in_ok-journal.field-0.records.items) c.over.result.held.transactions (Some (after Synced t)) (g.D.Disk.told c.in_ok-journal.field-0.journal.disk) same
+    (c.in_ok-journal.ensures.moments t told))
+
+pub returns-in-Ok-clause-one : goal.returns-in-Ok-clause-one
+returns-in-Ok-clause-one g c = λ t history told stands.
+    ap (λ (h : Held). h.transactions) c.over.ensures.given.1 ∙ c.in-Ok.ensures.transactions ∙ c.in_ok-journal.ensures.one t history told stands
+
+pub returns-in-Err-clause-off : goal.returns-in-Err-clause-off
+returns-in-Err-clause-off g c = λ t history told stands.
+    let hash : Hash = g.H.Hash32.digest c.args.hash.now in
+    let O : g.row.D.Denot → Type 0 = λ d. WasOpened hash history t (g.D.Disk.told d) in
+    subst O (sym c.into_disk.ensures)
+    (inr (inr (leaves-same hash (map (λ r. r.tx) c.in_ok-journal.field-0.records.items) history (Some (after Synced t)) (g.D.Disk.told c.in_ok-journal.field-0.journal.disk)
+    (sym (c.in_ok-journal.ensures.one t history told stands)) (c.in_ok-journal.ensures.moments t told))))
+
+pub returns-in_err-journal-clause-sound : goal.returns-in_err-journal-clause-sound
+returns-in_err-journal-clause-sound g c = λ t history damage told stands.
+    if-err _ c.from_residual.result c.in_err-journal.field-0.0 c.from_residual.ensures.1 (c.in_err-journal.ensures.sound t history damage told stands)
