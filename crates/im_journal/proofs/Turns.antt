@@ -136,3 +136,9 @@ stands hash history batches durable first image safe =
       history_is = IsHistory-take history durable first.history_is;
       records_are = records_front hash history durable 1 (joined batches) (omega arith) (omega (arith, number)) first.records_are;
     }
+
+-- with these very batches
+pub stands_batches : (hash : Hash) (history : List Transaction) (batches : List (List Record)) (durable : ℕ) (first : AreFirst hash history batches durable (ends_of batches))
+    → (image : Files) (safe : IsSafe (end_of (ends_of batches)) (spans_of batches) (gate_of (length batches)) image) → (stands hash history batches durable first image safe).batches ≡ batches
+unfolding stands
+stands_batches hash history batches durable first image safe = refl

@@ -33,10 +33,10 @@ const BATCH: &[u8] =
 
 // A disk with a closed gate, and nothing else.
 fn fresh(alloc: Global, failing: Vec<u64>) -> Result<MemDisk, AllocError>
-    ensures { IfOk result (λ disk. disk ≡ unchanged ([] ∷ (0 ∷ []) ∷ []) failing.items) }
+    ensures { IfOk result (λ disk. disk ≡ unchanged ([] ∷ (0 ∷ []) ∷ [] ∷ []) failing.items) }
 {
     let gate = Octets::from_slice(alloc, &[0])?;
-    let files = vec![in alloc; Octets::new(alloc), gate]?;
+    let files = vec![in alloc; Octets::new(alloc), gate, Octets::new(alloc)]?;
     MemDisk::from_files(alloc, files, failing)
 }
 

@@ -20,6 +20,7 @@ use Rattle.im_report.proofs.ReportLemmas.{Standing}
 use Rattle.im_script.specs.declared.commands.Command.{Command}
 use Rattle.im_script.specs.declared.commands.Line.{Line}
 use Rattle.im_session.specs.Moves.{MayPlace, StandsBetween}
+use Rattle.im_session.specs.Put.{StandsPut}
 use Rattle.im_session.specs.Served.{IsLeft, IsWhy, ReachesDisk, Serves, ServesAll, ServesFront, StandsFrom, StandsWith}
 use Rattle.im_session.specs.Turns.{HasTime, Turn}
 use Rattle.im_session.proofs.AgainLemmas.{Told, report-again}
@@ -157,11 +158,11 @@ front-stopped hash constant found history lines done line before mid now octets 
     }
 
 -- all lines were answered
-pub serves-ended : (hash : Hash) (constant : Option ℤ) (found history : List Transaction) (lines done : List Line) (before now : Option DiskTold) (octets : List ℕ) (size : ℕ)
+pub serves-ended : (hash : Hash) (constant : Option ℤ) (logs : ℕ) (found history : List Transaction) (lines done : List Line) (before now : Option DiskTold) (octets : List ℕ) (size : ℕ)
     → done ≡ lines → Standing hash found history done octets size → Told hash history done octets → All (HasTime constant) (drop (length found) history)
-    → Leaves (StandsFrom hash (length found) history) before now → LeavesNow (λ image. Stands hash image history) now → IfSome now (λ t. Stands hash (seen t) history)
-    → ServesAll hash constant found lines before now octets
-serves-ended hash constant found history lines done before now octets size whole standing told timed so_far images here =
+    → Leaves (StandsFrom hash (length found) history) before now → LeavesNow (λ image. Stands hash image history) now → IfSome now (λ t. StandsPut hash logs (length found) history (seen t))
+    → ServesAll hash constant logs found lines before now octets
+serves-ended hash constant logs found history lines done before now octets size whole standing told timed so_far images here =
     let P : List Line → Type 0 = λ ls. Standing hash found history ls octets size in
     let Q : List Line → Type 0 = λ ls. Told hash history ls octets in
     let R : List Line → Type 0 = λ ls. IsLeft constant ls [] in

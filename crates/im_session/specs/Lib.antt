@@ -1,3 +1,4 @@
 pub mod Moves
+pub mod Put
 pub mod Served
 pub mod Turns

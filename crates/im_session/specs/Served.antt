@@ -14,6 +14,7 @@ use Rattle.im_report.specs.Report.{Report}
 use Rattle.im_accept.specs.Taken.{AreReadBack, HaveSessions}
 use Rattle.im_ledger.specs.declared.errors.CommitError.{CommitError}
 use Rattle.im_ledger.specs.declared.errors.CommitError.TheVariants.{DiskFault, Memory}
+use Rattle.im_session.specs.Put.{StandsPut}
 use Rattle.im_session.specs.Turns.{HasTime}
 
 -- the image stands for the first transactions of a history: at least so many of them
@@ -89,8 +90,9 @@ pub record ServesFront (hash : Hash) (constant : Option ℤ) (found : List Trans
   pub serves : Serves hash constant found lines before now octets
   pub stops : StopsAt why serves.history (drop serves.count lines)
 
--- all lines were answered, and what reads give stands for the history too
-pub record ServesAll (hash : Hash) (constant : Option ℤ) (found : List Transaction) (lines : List Line) (before now : Option Told) (octets : List ℕ) : Type 0 where
+-- all lines were answered, and what reads give stands for the history too, where each transaction behind those that
+-- were found stands in a batch of its own, its values put over so many value logs
+pub record ServesAll (hash : Hash) (constant : Option ℤ) (logs : ℕ) (found : List Transaction) (lines : List Line) (before now : Option Told) (octets : List ℕ) : Type 0 where
   pub serves : Serves hash constant found lines before now octets
   pub all : serves.count ≡ length lines
-  pub here : IfSome now (λ t. Stands hash (seen t) serves.history)
+  pub here : IfSome now (λ t. StandsPut hash logs (length found) serves.history (seen t))

@@ -1,4 +1,4 @@
-ghost use Rattle.std.specs.Prelude.{◌≡◌, ◌<◌, ℤ, List, length, map, FitsSigned, IfOk, IsErrOf, OnOk, Option};
+ghost use Rattle.std.specs.Prelude.{◌≡◌, ◌<◌, ℤ, ℕ, List, length, map, FitsSigned, IfOk, IsErrOf, OnOk, Option};
 ghost use Rattle.std.specs.Int.{w64};
 ghost use Rattle.im_digest.specs.Digests.{Hash};
 ghost use Rattle.im_disk.specs.Moments.{Leaves};
@@ -11,6 +11,7 @@ ghost use Rattle.im_ledger.specs.Histories.{IsKept};
 ghost use Rattle.im_ledger.specs.Ledgers.{IsLedger};
 ghost use Rattle.im_ledger.specs.declared.errors.CommitError.TheVariants.{DiskFault};
 ghost use Rattle.im_session.specs.Moves.{MayPlace, MayPlaceOne, StandsBetween};
+ghost use Rattle.im_session.specs.Put.{IsKeptPut};
 ghost use Rattle.im_session.specs.Served.{ReachesDisk};
 ghost use Rattle.im_session.specs.Turns.{Answers, HasTime, Placed};
 
@@ -56,6 +57,7 @@ fn place<D: Disk, H: Hash32, C: Clock>(
     requires room { length kept.old.held.transactions < 1048576 }
     ensures placed { IfOk result (λ reply. Placed (H.digest hash.now) (C.constant clock.old) prepared.entries kept.old.held kept.new.held reply.items) }
     ensures kept { OnOk result (IsKept D.told (H.digest hash.now) kept.new) }
+    ensures put { (w n : ℕ) → IsKeptPut D.told (H.digest hash.now) w n kept.old → OnOk result (IsKeptPut D.told (H.digest hash.now) w n kept.new) }
     ensures moments { OnOk result (Leaves (StandsBetween (H.digest hash.now) kept.old.held.transactions kept.new.held.transactions) (D.told kept.old.journal.disk) (D.told kept.new.journal.disk)) }
     ensures left { MayPlaceOne (H.digest hash.now) (C.constant clock.old) prepared.entries kept.old.held.transactions (D.told kept.old.journal.disk) (D.told kept.new.journal.disk) }
     ensures cause { HasCommitCause (D.faults kept.old.journal.disk) (D.faults kept.new.journal.disk) result }
@@ -79,6 +81,7 @@ fn place_prepared<D: Disk, H: Hash32, C: Clock>(
     ensures answers { IfOk result (λ reply. (drafts : List TheDraft) → AreFree drafts → AreEntries drafts → prepared.entries ≡ map entry_of drafts
         → Answers (H.digest hash.now) (C.constant clock.old) (Set drafts) kept.old.held kept.new.held reply.items) }
     ensures kept { OnOk result (IsKept D.told (H.digest hash.now) kept.new) }
+    ensures put { (w n : ℕ) → IsKeptPut D.told (H.digest hash.now) w n kept.old → OnOk result (IsKeptPut D.told (H.digest hash.now) w n kept.new) }
     ensures moments { OnOk result (Leaves (StandsBetween (H.digest hash.now) kept.old.held.transactions kept.new.held.transactions) (D.told kept.old.journal.disk) (D.told kept.new.journal.disk)) }
     ensures left { (drafts : List TheDraft) → AreFree drafts → AreEntries drafts → prepared.entries ≡ map entry_of drafts
         → MayPlace (H.digest hash.now) (C.constant clock.old) (Set drafts) kept.old.held.transactions (D.told kept.old.journal.disk) (D.told kept.new.journal.disk) }
@@ -103,6 +106,7 @@ pub(crate) fn answer_set<D: Disk, H: Hash32, C: Clock>(
     requires { IsKept D.told (H.digest hash.now) kept.old }
     ensures answers { IfOk result (λ reply. Answers (H.digest hash.now) (C.constant clock.old) (Set drafts.items) kept.old.held kept.new.held reply.items) }
     ensures kept { OnOk result (IsKept D.told (H.digest hash.now) kept.new) }
+    ensures put { (w n : ℕ) → IsKeptPut D.told (H.digest hash.now) w n kept.old → OnOk result (IsKeptPut D.told (H.digest hash.now) w n kept.new) }
     ensures moments { OnOk result (Leaves (StandsBetween (H.digest hash.now) kept.old.held.transactions kept.new.held.transactions) (D.told kept.old.journal.disk) (D.told kept.new.journal.disk)) }
     ensures left { MayPlace (H.digest hash.now) (C.constant clock.old) (Set drafts.items) kept.old.held.transactions (D.told kept.old.journal.disk) (D.told kept.new.journal.disk) }
     ensures cause { HasCommitCause (D.faults kept.old.journal.disk) (D.faults kept.new.journal.disk) result }
@@ -128,6 +132,7 @@ pub(crate) fn answer_link<D: Disk>(
     ensures answers { IfOk result (λ reply. (hash : Hash) (constant : Option ℤ) → IsKept D.told hash kept.old → Answers hash constant (Link count) kept.old.held kept.new.held reply.items) }
     ensures kept { (hash : Hash) → IsKept D.told hash kept.old → OnOk result (IsKept D.told hash kept.new) }
     ensures journal { kept.new.journal ≡ kept.old.journal }
+    ensures logs { kept.new.logs ≡ kept.old.logs }
     ensures same { OnOk result (kept.new.held.transactions ≡ kept.old.held.transactions) }
 {
     kept.link(count)?;

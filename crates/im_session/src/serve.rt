@@ -1,4 +1,4 @@
-ghost use Rattle.std.specs.Prelude.{◌≡◌, ℤ, length, Option, IfOk, IsErrOf, OnOk, OnErr};
+ghost use Rattle.std.specs.Prelude.{◌≡◌, ℤ, ℕ, length, Option, IfOk, IsErrOf, OnOk, OnErr};
 ghost use Rattle.im_disk.specs.Moments.{Leaves};
 ghost use Rattle.im_accept.specs.Messages.{IsReadBack};
 ghost use Rattle.im_ledger.specs.Causes.{HasCommitCause};
@@ -7,6 +7,7 @@ ghost use Rattle.im_ledger.specs.Ledgers.{IsLedger};
 ghost use Rattle.im_ledger.specs.declared.errors.CommitError.{CommitError as Why};
 ghost use Rattle.im_ledger.specs.declared.errors.CommitError.TheVariants.{DiskFault};
 ghost use Rattle.im_session.specs.Moves.{MayPlace, StandsBetween};
+ghost use Rattle.im_session.specs.Put.{IsKeptPut};
 ghost use Rattle.im_session.specs.Served.{ReachesDisk, Serves, ServesAll, ServesFront};
 ghost use Rattle.im_session.specs.Turns.{Answers, IsReading, Turn};
 
@@ -60,6 +61,7 @@ fn answer<D: Disk, H: Hash32, C: Clock>(
     ensures answers { IfOk result (λ reply. Answers (H.digest hash.now) (C.constant clock.old) command kept.old.held kept.new.held reply.items) }
     ensures again { IfOk result (λ reply. IsReadBack (H.digest hash.now) kept.new.held.transactions command reply.items) }
     ensures kept { OnOk result (IsKept D.told (H.digest hash.now) kept.new) }
+    ensures put { (w n : ℕ) → IsKeptPut D.told (H.digest hash.now) w n kept.old → OnOk result (IsKeptPut D.told (H.digest hash.now) w n kept.new) }
     ensures moments { OnOk result (Leaves (StandsBetween (H.digest hash.now) kept.old.held.transactions kept.new.held.transactions) (D.told kept.old.journal.disk) (D.told kept.new.journal.disk)) }
     ensures left { MayPlace (H.digest hash.now) (C.constant clock.old) command kept.old.held.transactions (D.told kept.old.journal.disk) (D.told kept.new.journal.disk) }
     ensures cause { HasCommitCause (D.faults kept.old.journal.disk) (D.faults kept.new.journal.disk) result }
@@ -85,6 +87,7 @@ fn turn<D: Disk, H: Hash32, C: Clock>(
     requires { IsKept D.told (H.digest hash.now) kept.old }
     ensures turn { OnOk result (Turn (H.digest hash.now) (C.constant clock.old) line kept.old.held kept.new.held out.old.items out.new.items) }
     ensures kept { OnOk result (IsKept D.told (H.digest hash.now) kept.new) }
+    ensures put { (w n : ℕ) → IsKeptPut D.told (H.digest hash.now) w n kept.old → OnOk result (IsKeptPut D.told (H.digest hash.now) w n kept.new) }
     ensures moments { OnOk result (Leaves (StandsBetween (H.digest hash.now) kept.old.held.transactions kept.new.held.transactions) (D.told kept.old.journal.disk) (D.told kept.new.journal.disk)) }
     ensures nothing { OnErr result (out.new.items ≡ out.old.items) }
     ensures left { MayPlace (H.digest hash.now) (C.constant clock.old) line.command kept.old.held.transactions (D.told kept.old.journal.disk) (D.told kept.new.journal.disk) }
@@ -114,8 +117,10 @@ pub struct Served<D: Disk> {
 
 /// Answers the lines of a script in order by one session, from the history that a disk keeps on. Each
 /// transaction is durable before its line gets its reply, and each reply that is a message is read as the one
-/// that was asked for. The first line that isn't answered ends the session: the disk then holds the history
-/// with what that line was to place, or without it.
+/// that was asked for. On the disk each transaction stands in a batch of its own, its values put over the value
+/// logs by turns. The first line that isn't answered ends the session: the disk then holds the history with what
+/// that line was to place, or without it. The disk fails only at a `set` that reaches it; memory may run out at
+/// any line.
 pub fn serve<D: Disk, H: Hash32, C: Clock>(
     alloc: Global,
     hash: &H,
@@ -126,7 +131,7 @@ pub fn serve<D: Disk, H: Hash32, C: Clock>(
     requires kept { IsKept D.told (H.digest hash.now) kept }
     requires filled { length kept.held.tree ≡ length kept.held.transactions }
     ensures some { Serves (H.digest hash.now) (C.constant clock.old) kept.held.transactions lines.items (D.told kept.journal.disk) (D.told result.disk) result.out.items }
-    ensures all { OnOk result.end (ServesAll (H.digest hash.now) (C.constant clock.old) kept.held.transactions lines.items (D.told kept.journal.disk) (D.told result.disk) result.out.items) }
+    ensures all { OnOk result.end (ServesAll (H.digest hash.now) (C.constant clock.old) kept.logs kept.held.transactions lines.items (D.told kept.journal.disk) (D.told result.disk) result.out.items) }
     ensures front { (why : Why) → result.end ≡ Err why → ServesFront (H.digest hash.now) (C.constant clock.old) kept.held.transactions lines.items (D.told kept.journal.disk) (D.told result.disk) result.out.items why }
     ensures cause { HasCommitCause (D.faults kept.journal.disk) (D.faults result.disk) result.end }
     ensures same { C.constant clock.new ≡ C.constant clock.old }

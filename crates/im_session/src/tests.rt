@@ -60,10 +60,10 @@ fn written_out(alloc: Global, parts: &[&[u8]]) -> Result<Vec<u8>, AllocError> {
 
 // A disk with a closed gate and nothing else, whose calls of these numbers fail.
 fn fresh(alloc: Global, failing: Vec<u64>) -> Result<MemDisk, AllocError>
-    ensures { IfOk result (λ disk. disk ≡ unchanged ([] ∷ (0 ∷ []) ∷ []) failing.items) }
+    ensures { IfOk result (λ disk. disk ≡ unchanged ([] ∷ (0 ∷ []) ∷ [] ∷ []) failing.items) }
 {
     let gate = Octets::from_slice(alloc, &[0])?;
-    let files = vec![in alloc; Octets::new(alloc), gate]?;
+    let files = vec![in alloc; Octets::new(alloc), gate, Octets::new(alloc)]?;
     MemDisk::from_files(alloc, files, failing)
 }
 

@@ -7,6 +7,7 @@ use Rattle.im_ledger.specs.Ledgers.{Held}
 use Rattle.im_ledger.specs.declared.errors.CommitError.TheVariants.{DiskFault}
 use Rattle.im_session.specs.Turns.{Answers}
 use Rattle.im_session.proofs.KeptLemmas.{between-same, memory-cause, never-err, never-fault, never-ok, nothing-placed, ok-cause}
+use Rattle.im_session.proofs.PutLemmas.{put-same}
 use Rattle.im_session.proofs.serve.answer.Goals as goal
 
 pub returns-in_err-answer_link-in-Link-clause-left : goal.returns-in_err-answer_link-in-Link-clause-left
@@ -21,6 +22,10 @@ pub returns-in_ok-answer_link-in-Link-clause-left : goal.returns-in_ok-answer_li
 returns-in_ok-answer_link-in-Link-clause-left g c =
     nothing-placed g.D.Disk.told (g.H.Hash32.digest c.args.hash.now) c.args.kept.now c.requires (g.C.Clock.constant c.args.clock.now) c.args.command c.answer_link.new.kept.journal c.answer_link.ensures.journal
 
+pub returns-in_ok-answer_link-in-Link-clause-put : goal.returns-in_ok-answer_link-in-Link-clause-put
+returns-in_ok-answer_link-in-Link-clause-put g c w n p =
+    put-same g.D.Disk.told (g.H.Hash32.digest c.args.hash.now) w n c.args.kept.now c.answer_link.new.kept c.answer_link.ensures.journal c.in_ok-answer_link-in-Link.ensures.same c.answer_link.ensures.logs p
+
 pub returns-in_err-read-in_default : goal.returns-in_err-read-in_default
 returns-in_err-read-in_default g c =
     let kept : KeptHistory g.row.D.Denot = c.args.kept.now in
@@ -30,6 +35,7 @@ returns-in_err-read-in_default g c =
       answers = never-ok _ given error.0 error.1;
       again = never-ok _ given error.0 error.1;
       kept = never-ok _ given error.0 error.1;
+      put = λ w n p. never-ok _ given error.0 error.1;
       moments = never-ok _ given error.0 error.1;
       left = nothing-placed g.D.Disk.told (g.H.Hash32.digest c.args.hash.now) kept c.requires (g.C.Clock.constant c.args.clock.now) c.args.command kept.journal refl;
       cause = memory-cause (g.D.Disk.faults kept.journal.disk) given (error.1 ∙ ap Err error.2);
@@ -50,6 +56,7 @@ returns-in_ok-read-in_default g c =
       answers = subst A c.ledger.ensures (done.ensures.answers constant);
       again = subst R c.ledger.ensures done.ensures.again;
       kept = c.requires;
+      put = λ w n p. p;
       moments = between-same g.D.Disk.told hash kept c.requires kept refl refl;
       left = nothing-placed g.D.Disk.told hash kept c.requires constant c.args.command kept.journal refl;
       cause = ok-cause (g.D.Disk.faults kept.journal.disk) _;

@@ -8,7 +8,7 @@ use Rattle.im_disk.specs.Disk.{Told as DiskTold}
 use Rattle.im_ledger.specs.Causes.{HasCommitCause}
 use Rattle.im_ledger.specs.Histories.{KeptHistory}
 use Rattle.im_ledger.specs.declared.errors.CommitError.TheVariants.{DiskFault}
-use Rattle.im_ledger.proofs.GrowLemmas.{kept-images, kept-shown}
+use Rattle.im_ledger.proofs.GrowLemmas.{kept-images}
 use Rattle.im_model.specs.declared.transactions.Transaction.{Transaction}
 use Rattle.im_script.specs.declared.commands.Line.{Line}
 use Rattle.im_report.proofs.ReportLemmas.{Standing}
@@ -17,6 +17,7 @@ use Rattle.im_session.specs.Served.{ReachesDisk, ServesAll, ServesFront}
 use Rattle.im_session.specs.Turns.{HasTime, Turn}
 use Rattle.im_session.proofs.AgainLemmas.{Told, Told-first, turn-told}
 use Rattle.im_session.proofs.KeptLemmas.{error-is, never-err, ok-cause}
+use Rattle.im_session.proofs.PutLemmas.{put-first, put-shown}
 use Rattle.im_session.proofs.ServedLemmas.{found-standing, found-within, front-stopped, is-why, moments-first, moments-next, serves-ended, timed-next}
 use Rattle.im_session.proofs.TurnLemmas.{turn-report}
 use Rattle.im_session.proofs.serve.serve.Goals as goal
@@ -34,6 +35,7 @@ loop-line-init g c =
       standing = subst Q (sym c.new-out.ensures.items) (found-standing hash found (length kept.held.tree) c.requires.kept.ledger.history c.requires.filled);
       told = subst V (sym c.new-out.ensures.items) (Told-first hash found);
       kept = c.requires.kept;
+      put = put-first g.D.Disk.told hash kept c.requires.kept;
       timed = subst T (sym (drop-length found)) (λ i d h. absurd (omega arith));
       moments = moments-first hash found now (kept-images g.D.Disk.told hash kept c.requires.kept);
       faults = refl;
@@ -58,6 +60,7 @@ loop-line-preserved g c =
       standing = turn-report hash clock found c.loop-line.yielded line before.held after.held old new c.loop-line.invariant.standing turn;
       told = turn-told hash clock c.loop-line.yielded line before.held after.held old new c.loop-line.invariant.told turn;
       kept = c.in_default.ensures.kept;
+      put = c.in_default.ensures.put c.args.kept.logs (length found) c.loop-line.invariant.put;
       timed = timed-next hash first line (length found) before.held after.held old new most (subst P c.loop-line.invariant.same turn) c.loop-line.invariant.timed;
       moments = moments-next hash (length found) before.held.transactions turn.answers.more after.held.transactions
           (g.D.Disk.told c.args.kept.journal.disk) (g.D.Disk.told before.journal.disk) (g.D.Disk.told after.journal.disk) most turn.answers.grown c.loop-line.invariant.moments c.in_default.ensures.moments;
@@ -114,11 +117,11 @@ returns-clause-all g c =
     let all = YieldsList-from_vec {s = c.into_iter-line-iterator.result} lines gives.0 (gives.1 ∙ c.args.lines.ok.0) in
     let end = YieldsList-end all c.loop-line.yielded c.loop-line.line-iterator c.loop-line.yielded_by c.next.result c.next.new.self c.in-None.is c.next.ensures.steps in
     let whole : c.loop-line.yielded ≡ lines = sym (map-id c.loop-line.yielded) ∙ end.0 in
-    let E : g.row.D.Denot → Type 0 = λ d. ServesAll hash first found lines start (g.D.Disk.told d) c.loop-line.out.items in
+    let E : g.row.D.Denot → Type 0 = λ d. ServesAll hash first c.args.kept.logs found lines start (g.D.Disk.told d) c.loop-line.out.items in
     subst E (sym c.into_disk-2.ensures)
-    (serves-ended hash first found kept.held.transactions lines c.loop-line.yielded start now c.loop-line.out.items (length kept.held.tree) whole
+    (serves-ended hash first c.args.kept.logs found kept.held.transactions lines c.loop-line.yielded start now c.loop-line.out.items (length kept.held.tree) whole
     c.loop-line.invariant.standing c.loop-line.invariant.told c.loop-line.invariant.timed c.loop-line.invariant.moments
-    (kept-images g.D.Disk.told hash kept c.loop-line.invariant.kept) (kept-shown g.D.Disk.told hash kept c.loop-line.invariant.kept))
+    (kept-images g.D.Disk.told hash kept c.loop-line.invariant.kept) (put-shown g.D.Disk.told hash kept c.loop-line.invariant.kept c.args.kept.logs (length found) c.loop-line.invariant.put))
 
 pub returns-clause-front : goal.returns-clause-front
 returns-clause-front g c why is = absurd (never-err tt why is)

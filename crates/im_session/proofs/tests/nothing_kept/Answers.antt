@@ -25,12 +25,12 @@ nothing_first = record {
 
 pub resume-journal-requires : goal.resume-journal-requires
 resume-journal-requires c = record {
-  first = (sum_digest, [], [], nothing_first, subst (λ (d : Recorded). IsResting [] no_ends (told_by d)) (sym c.in_ok-disk.ensures) (sample_blank c.args.failing.items));
+  first = (sum_digest, [], [], nothing_first, subst (λ (d : Recorded). IsResting [] no_ends (told_by d)) (sym c.in_ok-disk.ensures) (sample_blank [] c.args.failing.items));
 }
 
 pub returns-clause-kept : goal.returns-clause-kept
 returns-clause-kept c =
-    let blank = subst (λ (d : Recorded). IsResting [] no_ends (told_by d)) (sym c.in_ok-disk.ensures) (sample_blank c.args.failing.items) in
+    let blank = subst (λ (d : Recorded). IsResting [] no_ends (told_by d)) (sym c.in_ok-disk.ensures) (sample_blank [] c.args.failing.items) in
     let rest = c.resume-journal.ensures.rests sum_digest [] [] nothing_first blank in
     let P : List Transaction → Type 0 = λ h. IsAtRest (λ (d : Recorded). Some (told_by d)) sum_digest h [] c.resume-journal.result in
     c.over.ensures.kept sum_digest [] (c.new.ensures.ledger sum_digest) (subst P (sym c.new.ensures.transactions) rest)
