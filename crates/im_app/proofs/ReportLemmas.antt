@@ -81,10 +81,10 @@ is-report hash constant script octets lines found before mid now given o s =
       moments = moments-both hash found s.history s.left before mid now s.report.begins o.opened s.moments;
     }
 
-pub is-whole : (hash : Hash) (constant : Option ℤ) (script octets : List ℕ) (lines : List Line) (found : List Transaction) (before mid now : Option Told)
-    → IsGiven script lines → Opens hash found before mid → ServesAll hash constant found lines mid now octets → IsWhole hash constant script octets before now
+pub is-whole : (hash : Hash) (constant : Option ℤ) (logs : ℕ) (script octets : List ℕ) (lines : List Line) (found : List Transaction) (before mid now : Option Told)
+    → IsGiven script lines → Opens hash found before mid → ServesAll hash constant logs found lines mid now octets → IsWhole hash constant logs script octets before now
 unfolding is-report
-is-whole hash constant script octets lines found before mid now given o s = record {
+is-whole hash constant logs script octets lines found before mid now given o s = record {
   report = is-report hash constant script octets lines found before mid now given o s.serves;
   all = s.all;
   here = s.here;

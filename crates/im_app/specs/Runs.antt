@@ -16,6 +16,7 @@ use Rattle.im_script.specs.declared.commands.Line.{Line}
 use Rattle.im_accept.specs.Taken.{line_text, AreTaken}
 use Rattle.im_ledger.specs.declared.errors.CommitError.{CommitError}
 use Rattle.im_opening.specs.Cut.{WasOpened}
+use Rattle.im_session.specs.Put.{StandsPut}
 use Rattle.im_session.specs.Served.{IsLeft, StandsFrom, StandsWith, StopsAt}
 use Rattle.im_session.specs.Turns.{HasTime}
 
@@ -49,26 +50,27 @@ pub record IsReport (hash : Hash) (constant : Option ℤ) (script octets : List 
   pub images : LeavesNow (StandsWith hash history left) now
   pub moments : IfSome before (λ t. Leaves (StandsFrom hash (length found) (history ++ left)) (Some (after Synced t)) now)
 
--- all lines were answered, so that no transaction is without a reply, and what reads give stands for the history
-pub record IsWhole (hash : Hash) (constant : Option ℤ) (script octets : List ℕ) (before now : Option Told) : Type 0 where
+-- all lines were answered, so that no transaction is without a reply, and what reads give stands for the history,
+-- where each transaction that was placed stands in a batch of its own, its values put over so many value logs
+pub record IsWhole (hash : Hash) (constant : Option ℤ) (logs : ℕ) (script octets : List ℕ) (before now : Option Told) : Type 0 where
   pub report : IsReport hash constant script octets before now
   pub all : report.count ≡ length report.lines
-  pub here : IfSome now (λ t. Stands hash (seen t) report.history)
+  pub here : IfSome now (λ t. StandsPut hash logs (length report.found) report.history (seen t))
 
 -- The report of all lines of a script, which is what the source had where it tells, was written, and nothing else.
-pub record WritesReport (hash : Hash) (constant : Option ℤ) (source : Option (List ℕ)) (before now : Option Told) (sink_before sink_now : Option (List ℕ)) : Type 0 where
+pub record WritesReport (hash : Hash) (constant : Option ℤ) (logs : ℕ) (source : Option (List ℕ)) (before now : Option Told) (sink_before sink_now : Option (List ℕ)) : Type 0 where
   pub script : List ℕ
   pub script_is : IfSome source (λ octets. octets ≡ script)
   pub octets : List ℕ
-  pub report : IsWhole hash constant script octets before now
+  pub report : IsWhole hash constant logs script octets before now
   pub whole : Appends sink_before sink_now octets
 
 -- A front part of the report of all lines was written, and nothing else.
-pub record WritesPart (hash : Hash) (constant : Option ℤ) (source : Option (List ℕ)) (before now : Option Told) (sink_before sink_now : Option (List ℕ)) : Type 0 where
+pub record WritesPart (hash : Hash) (constant : Option ℤ) (logs : ℕ) (source : Option (List ℕ)) (before now : Option Told) (sink_before sink_now : Option (List ℕ)) : Type 0 where
   pub script : List ℕ
   pub script_is : IfSome source (λ octets. octets ≡ script)
   pub octets : List ℕ
-  pub report : IsWhole hash constant script octets before now
+  pub report : IsWhole hash constant logs script octets before now
   pub part : AddsPart octets sink_before sink_now
 
 -- The report of the lines before the first one without a reply was written, and nothing else; or a front part of it

@@ -101,9 +101,9 @@ fn run_lines<H: Hash32, K: Sink, D: Disk, C: Clock>(
     requires logs { (1 ≤ logs) × (logs ≤ 4) }
     ensures ends { EndsWriting result.status }
     ensures report { (script : List ℕ) → IsGiven script lines.items → result.status ≡ Status.Ok
-        → WritesReport (H.digest hash.now) (C.constant clock.old) (Some script) (D.told disk) (D.told result.disk) (K.written sink.old) (K.written sink.new) }
+        → WritesReport (H.digest hash.now) (C.constant clock.old) logs (Some script) (D.told disk) (D.told result.disk) (K.written sink.old) (K.written sink.new) }
     ensures part { (script : List ℕ) → IsGiven script lines.items → result.status ≡ Status.WriteFault
-        → WritesPart (H.digest hash.now) (C.constant clock.old) (Some script) (D.told disk) (D.told result.disk) (K.written sink.old) (K.written sink.new) }
+        → WritesPart (H.digest hash.now) (C.constant clock.old) logs (Some script) (D.told disk) (D.told result.disk) (K.written sink.old) (K.written sink.new) }
     ensures front { (script : List ℕ) (why : Why) → IsGiven script lines.items → result.status ≡ status_for why
         → ((sink.new ≡ sink.old) × LeavesFound (H.digest hash.now) (D.told disk) (D.told result.disk))
         ⊎ WritesFront (H.digest hash.now) (C.constant clock.old) why (Some script) (D.told disk) (D.told result.disk)
@@ -153,9 +153,9 @@ pub(crate) fn run<H: Hash32, S: Source, K: Sink, D: Disk, C: Clock>(
 ) -> Ran<D>
     requires logs { (1 ≤ logs) × (logs ≤ 4) }
     ensures report { result.status ≡ Status.Ok
-        → WritesReport (H.digest hash.now) (C.constant clock.old) (S.left source.old) (D.told disk) (D.told result.disk) (K.written sink.old) (K.written sink.new) }
+        → WritesReport (H.digest hash.now) (C.constant clock.old) logs (S.left source.old) (D.told disk) (D.told result.disk) (K.written sink.old) (K.written sink.new) }
     ensures part { result.status ≡ Status.WriteFault
-        → WritesPart (H.digest hash.now) (C.constant clock.old) (S.left source.old) (D.told disk) (D.told result.disk) (K.written sink.old) (K.written sink.new) }
+        → WritesPart (H.digest hash.now) (C.constant clock.old) logs (S.left source.old) (D.told disk) (D.told result.disk) (K.written sink.old) (K.written sink.new) }
     ensures front { (why : Why) → result.status ≡ status_for why
         → ((sink.new ≡ sink.old) × LeavesFound (H.digest hash.now) (D.told disk) (D.told result.disk))
         ⊎ WritesFront (H.digest hash.now) (C.constant clock.old) why (S.left source.old) (D.told disk) (D.told result.disk)

@@ -46,10 +46,10 @@ fn carry_out<H: Hash32, S: Source, K: Sink, D: Disk, P: Keeper, C: Clock>(
     keeper: &mut P,
     clock: &mut C,
 ) -> Ran<D>
-    ensures report { AsksRun (map string_bytes words.now) → result.status ≡ Status.Ok
-        → WritesReport (H.digest hash.now) (C.constant clock.old) (S.left source.old) (D.told disk) (D.told result.disk) (K.written sink.old) (K.written sink.new) }
-    ensures part { AsksRun (map string_bytes words.now) → result.status ≡ Status.WriteFault
-        → WritesPart (H.digest hash.now) (C.constant clock.old) (S.left source.old) (D.told disk) (D.told result.disk) (K.written sink.old) (K.written sink.new) }
+    ensures report { (asks : AsksRun (map string_bytes words.now)) → result.status ≡ Status.Ok
+        → WritesReport (H.digest hash.now) (C.constant clock.old) asks.0 (S.left source.old) (D.told disk) (D.told result.disk) (K.written sink.old) (K.written sink.new) }
+    ensures part { (asks : AsksRun (map string_bytes words.now)) → result.status ≡ Status.WriteFault
+        → WritesPart (H.digest hash.now) (C.constant clock.old) asks.0 (S.left source.old) (D.told disk) (D.told result.disk) (K.written sink.old) (K.written sink.new) }
     ensures front { (why : Why) → AsksRun (map string_bytes words.now) → result.status ≡ status_for why
         → ((sink.new ≡ sink.old) × LeavesFound (H.digest hash.now) (D.told disk) (D.told result.disk))
         ⊎ WritesFront (H.digest hash.now) (C.constant clock.old) why (S.left source.old) (D.told disk) (D.told result.disk)
@@ -164,15 +164,16 @@ pub fn top<
     // the one that its files now stand for, whatever a crash does to them. Cut at each LF they are one line for each
     // reply, as `verify` reads them. Each line that is a message is accepted by every client that keeps the header it
     // is for, a state by one that keeps none too, and that client then keeps the header that the message leads to;
-    // every other line is passed over.
-    ensures report { AsksRun (map string_bytes words.now) → result.status ≡ Status.Ok
-        → WritesReport (H.digest hash.now) (C.constant clock) (S.left source.old) (D.told disk) (D.told result.disk) (K.written sink.old) (K.written sink.new) }
+    // every other line is passed over. In the files each new transaction stands in a batch of its own, its values put
+    // over as many value logs as the words ask for.
+    ensures report { (asks : AsksRun (map string_bytes words.now)) → result.status ≡ Status.Ok
+        → WritesReport (H.digest hash.now) (C.constant clock) asks.0 (S.left source.old) (D.told disk) (D.told result.disk) (K.written sink.old) (K.written sink.new) }
 
     // Where the sink failed, what was written is a front part of the report. Where the disk failed or memory ran out
     // at a line, the lines before it were answered and told, as far as the sink took them, and what the disk stands for
     // has all of them. Else the sink wasn't touched. A source without a script of the grammar has nothing touched.
-    ensures part { AsksRun (map string_bytes words.now) → result.status ≡ Status.WriteFault
-        → WritesPart (H.digest hash.now) (C.constant clock) (S.left source.old) (D.told disk) (D.told result.disk) (K.written sink.old) (K.written sink.new) }
+    ensures part { (asks : AsksRun (map string_bytes words.now)) → result.status ≡ Status.WriteFault
+        → WritesPart (H.digest hash.now) (C.constant clock) asks.0 (S.left source.old) (D.told disk) (D.told result.disk) (K.written sink.old) (K.written sink.new) }
     ensures front { (why : Why) → AsksRun (map string_bytes words.now) → result.status ≡ status_for why
         → ((sink.new ≡ sink.old) × LeavesFound (H.digest hash.now) (D.told disk) (D.told result.disk))
         ⊎ WritesFront (H.digest hash.now) (C.constant clock) why (S.left source.old) (D.told disk) (D.told result.disk)

@@ -9,7 +9,7 @@ use Rattle.im_edge.specs.Sinks.{AddsPart}
 use Rattle.im_format.specs.Standing.{Stands}
 use Rattle.im_model.specs.declared.transactions.Transaction.{Transaction}
 use Rattle.im_session.specs.Served.{Serves, ServesAll}
-use Rattle.im_app.specs.Runs.{KeepsFound}
+use Rattle.im_app.specs.Runs.{IsWhole, KeepsFound}
 use Rattle.im_app.proofs.FoundLemmas.{opened-keeps, served-keeps}
 use Rattle.im_app.proofs.ReportLemmas.{Opens, begins-left, is-front, is-whole, moments-both}
 use Rattle.im_app.proofs.RunLemmas.{damage-by, done-both, failed-behind, if-told, on-ok, stopped-for, wrote-either}
@@ -40,13 +40,14 @@ returns-clause-report g c = λ script given e.
       found_is = if-told before (λ t. Stands hash (seen t) found) c.in-Ok.ensures.stands;
       opened = if-told before (λ t. Leaves (λ image. Stands hash image found) (Some (after Synced t)) mid) c.in-Ok.ensures.moments;
     } in
-    let all : ServesAll hash constant found c.args.lines.items mid now out =
-    on-ok c.serve-disk.result.end (ServesAll hash constant found c.args.lines.items mid now out) both.0 c.serve-disk.ensures.all in
+    let all : ServesAll hash constant c.in-Ok.kept.logs found c.args.lines.items mid now out =
+    on-ok c.serve-disk.result.end (ServesAll hash constant c.in-Ok.kept.logs found c.args.lines.items mid now out) both.0 c.serve-disk.ensures.all in
+    let L : ℕ → Type 0 = λ n. IsWhole hash constant n script out before now in
     record {
       script = script;
       script_is = refl;
       octets = out;
-      report = is-whole hash constant script out c.args.lines.items found before mid now given opens all;
+      report = subst L c.in-Ok.ensures.logs (is-whole hash constant c.in-Ok.kept.logs script out c.args.lines.items found before mid now given opens all);
       whole = subst A c.as_slice.ensures.value (on-ok c.write_all-wrote.result (A c.as_slice.result.now) both.1 c.write_all-wrote.ensures.whole);
     }
 
@@ -65,13 +66,14 @@ returns-clause-part g c = λ script given e.
       found_is = if-told before (λ t. Stands hash (seen t) found) c.in-Ok.ensures.stands;
       opened = if-told before (λ t. Leaves (λ image. Stands hash image found) (Some (after Synced t)) mid) c.in-Ok.ensures.moments;
     } in
-    let all : ServesAll hash constant found c.args.lines.items mid now out =
-    on-ok c.serve-disk.result.end (ServesAll hash constant found c.args.lines.items mid now out) answered c.serve-disk.ensures.all in
+    let all : ServesAll hash constant c.in-Ok.kept.logs found c.args.lines.items mid now out =
+    on-ok c.serve-disk.result.end (ServesAll hash constant c.in-Ok.kept.logs found c.args.lines.items mid now out) answered c.serve-disk.ensures.all in
+    let L : ℕ → Type 0 = λ n. IsWhole hash constant n script out before now in
     record {
       script = script;
       script_is = refl;
       octets = out;
-      report = is-whole hash constant script out c.args.lines.items found before mid now given opens all;
+      report = subst L c.in-Ok.ensures.logs (is-whole hash constant c.in-Ok.kept.logs script out c.args.lines.items found before mid now given opens all);
       part = subst A c.as_slice.ensures.value c.write_all-wrote.ensures.part;
     }
 
