@@ -121,7 +121,7 @@ impl<D: Disk> KeptLedger<D> {
     }
 
     /// Raises the tree by so many transactions, at most to the last one, and leaves the disk as it is. Its only
-    /// error is want of memory.
+    /// error is want of memory. After an error the ledger isn't used again.
     pub fn link<H: Hash32>(&mut self, hash: &H, count: u64) -> Result<(), AllocError>
         requires { IsLedger (H.digest hash.now) self.old.held }
         ensures journal { self.new.journal ≡ self.old.journal }

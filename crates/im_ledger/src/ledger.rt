@@ -187,8 +187,8 @@ impl Ledger {
     }
 
     /// Raises the tree by so many transactions, at most to the last one, and takes its root. It hashes the
-    /// leaves that are added, and the nodes of the root. Its only error is want of memory; the ledger isn't
-    /// used again behind it.
+    /// leaves that are added, and no other ones. Its only error is want of memory. After an error the ledger
+    /// isn't used again.
     pub fn link<H: Hash32>(&mut self, hash: &H, count: u64) -> Result<(), AllocError>
         requires { IsLedger (H.digest hash.now) self.old }
         ensures same { OnOk result (self.new.transactions ≡ self.old.transactions) }

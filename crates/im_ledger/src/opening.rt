@@ -45,7 +45,7 @@ pub fn open_ledger<D: Disk, H: Hash32>(
         → IfErr result (λ failed. WasOpened (H.digest hash.now) history t (D.told failed.disk)) }
     ensures damaged { (t : Told) (damage : Damage) → D.told disk ≡ Some t
         → IfErr result (λ failed. failed.error ≡ OpenError.Damaged damage
-            → (first_fail (image_checks (H.digest hash.now) (seen t)) ≡ Err damage) × (D.told failed.disk ≡ Some (after Synced t))) }
+        → (first_fail (image_checks (H.digest hash.now) (seen t)) ≡ Err damage) × (D.told failed.disk ≡ Some (after Synced t))) }
     ensures one { (t : Told) (history : List Transaction) → D.told disk ≡ Some t → Stands (H.digest hash.now) (seen t) history
         → IfOk result (λ kept. kept.held.transactions ≡ history) }
     ensures sound { (t : Told) (history : List Transaction) (damage : Damage) → D.told disk ≡ Some t → Stands (H.digest hash.now) (seen t) history

@@ -18,7 +18,7 @@ pub(crate) fn extend_to<H: Hash32>(hash: &H, frontier: &mut Frontier, alhs: &[D3
     frontier.extend(hash, &alhs[start..end]);
 }
 
-/// The root of the tree of these leaves, and 32 zeros where there are none.
+/// The root of the tree whose whole subtrees these are, and 32 zeros where it is empty.
 pub(crate) fn root_of<H: Hash32>(hash: &H, frontier: &Frontier) -> D32
     ensures { (leaves : List (List ℕ)) → IsFrontier (H.digest hash.now) leaves frontier.now
         → result ≡ bl_root_of (H.digest hash.now) leaves (length leaves) }
