@@ -6,3 +6,4 @@ pub mod LedgerLemmas
 pub mod OpenLemmas
 pub mod PlaceLemmas
 pub mod ReadLemmas
+pub mod RootLemmas

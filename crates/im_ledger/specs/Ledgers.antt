@@ -1,20 +1,23 @@
 -- What a session has of its history.
 use Rattle.std.specs.Prelude.{◌≡◌, ℕ, ◌≤◌, List, length, take, All}
 use Rattle.im_digest.specs.Digests.{Hash}
-use Rattle.im_model.specs.History.{alhs_of, IsHistory}
+use Rattle.im_frontier.specs.Kept.{IsFrontier, Kept}
+use Rattle.im_model.specs.History.{alhs_of, bl_root_of, IsHistory}
 use Rattle.im_model.specs.declared.headers.Header.{Header}
 use Rattle.im_model.specs.declared.transactions.Transaction.{Transaction}
 use Rattle.im_proof.specs.Built.{headers_of}
 
--- the lists of a ledger
+-- the lists of a ledger, and what is kept of its tree: its whole subtrees, and its root
 pub record Held : Type 0 where
   pub transactions : List Transaction
   pub headers : List Header
   pub alhs : List (List ℕ)
   pub tree : List (List ℕ)
+  pub frontier : Kept
+  pub root : List ℕ
 
 -- they are those of one history, whose tree lags: it has the first Alh, and at least as many as the tree
--- that any transaction was placed over
+-- that any transaction was placed over. What is kept of the tree is that of these leaves
 pub record IsLedger (hash : Hash) (held : Held) : Type 0 where
   pub history : IsHistory held.transactions
   pub headers : held.headers ≡ headers_of hash held.transactions
@@ -22,3 +25,5 @@ pub record IsLedger (hash : Hash) (held : Held) : Type 0 where
   pub tree : held.tree ≡ take (length held.tree) held.alhs
   pub within : length held.tree ≤ length held.transactions
   pub least : All (λ tx. tx.bl ≤ length held.tree) held.transactions
+  pub subtrees : IsFrontier hash held.tree held.frontier
+  pub root : held.root ≡ bl_root_of hash held.alhs (length held.tree)

@@ -65,7 +65,7 @@ impl<D: Disk> KeptLedger<D> {
     }
 
     /// Places a transaction behind the others: writes its record as a batch of its own, makes it durable, and
-    /// only then takes it into the ledger. It hashes the entries, the values, the header and the tree, once.
+    /// only then takes it into the ledger. It hashes the entries, the values and the header, once.
     ///
     /// # Errors
     ///
@@ -108,6 +108,7 @@ impl<D: Disk> KeptLedger<D> {
         requires kept { IsKept D.told (H.digest hash.now) self.now }
         requires room { length self.now.held.transactions < 1048576 }
         requires limits { IsTransaction (length self.now.held.transactions) tx }
+        requires over { tx.bl ≡ length self.now.held.tree }
         ensures header { IfOk result (λ next. next.0 ≡ next_header (H.digest hash.now) self.now.held.alhs tx) }
         ensures batch { IfOk result (λ next. (r : Record) × (next.1.items ≡ r ∷ []) × IsNextRecord (H.digest hash.now) self.now tx r) }
     {
@@ -120,16 +121,16 @@ impl<D: Disk> KeptLedger<D> {
     }
 
     /// Raises the tree by so many transactions, at most to the last one, and leaves the disk as it is. Its only
-    /// error is want of memory.
-    pub fn link(&mut self, count: u64) -> Result<(), AllocError>
-        requires { (hash : Hash) × IsLedger hash self.old.held }
+    /// error is want of memory. After an error the ledger isn't used again.
+    pub fn link<H: Hash32>(&mut self, hash: &H, count: u64) -> Result<(), AllocError>
+        requires { IsLedger (H.digest hash.now) self.old.held }
         ensures journal { self.new.journal ≡ self.old.journal }
         ensures logs { self.new.logs ≡ self.old.logs }
         ensures same { OnOk result (self.new.held.transactions ≡ self.old.held.transactions) }
         ensures size { OnOk result (length self.new.held.tree ≡ min (length self.old.held.tree + count) (length self.old.held.transactions)) }
-        ensures kept { (hash : Hash) → IsKept D.told hash self.old → OnOk result (IsKept D.told hash self.new) }
+        ensures kept { IsKept D.told (H.digest hash.now) self.old → OnOk result (IsKept D.told (H.digest hash.now) self.new) }
     {
-        self.ledger.link(count)?;
+        self.ledger.link(hash, count)?;
         Ok(())
     }
 

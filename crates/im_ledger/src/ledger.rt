@@ -1,23 +1,28 @@
 ghost use Rattle.std.specs.Prelude.{◌≡◌, ◌≤◌, length, take, OnOk};
 
+use crate::headers::header_over;
+use crate::roots::{extend_to, root_of};
 use im_atree::trees::Tree;
 use im_digest::{D32, Hash32};
 use im_format::records::Record;
+use im_frontier::frontiers::Frontier;
 use im_header::alh;
 use im_model::headers::Header;
 use im_model::transactions::Transaction;
-use im_plain::history::header_after;
 use std::alloc::{AllocError, Global};
 use std::marker::Model;
 
 /// A history in memory: the transactions, the header and the Alh of each, and the tree of the first of these
-/// Alh. A clause sees the lists.
+/// Alh, whose root is kept (zeros where the tree is empty), as are its whole subtrees. So a header is made
+/// without the tree being hashed again. A clause sees the lists, and what is kept of the tree.
 #[derive(Drop)]
 pub struct Ledger {
     transactions: Vec<Transaction>,
     headers: Vec<Header>,
     alhs: Vec<D32>,
     tree: Tree,
+    frontier: Frontier,
+    root: D32,
 }
 
 impl Model for Ledger {
@@ -25,7 +30,7 @@ impl Model for Ledger {
 
     ghost Value = { Held };
 
-    ghost view = { λ s. record { transactions = s.transactions.items; headers = s.headers.items; alhs = s.alhs.items; tree = s.tree } };
+    ghost view = { λ s. record { transactions = s.transactions.items; headers = s.headers.items; alhs = s.alhs.items; tree = s.tree; frontier = s.frontier; root = s.root } };
 }
 
 impl Ledger {
@@ -48,18 +53,21 @@ impl Ledger {
             headers: Vec::new(alloc),
             alhs: Vec::new(alloc),
             tree: Tree::new(alloc),
+            frontier: Frontier::new(),
+            root: [0; 32],
         }
     }
 
     /// The ledger of a history whose records and headers were read. Its tree has every transaction. It hashes
-    /// nothing. Its only error is want of memory.
-    pub fn from_records(
+    /// the tree, once, and nothing else. Its only error is want of memory.
+    pub fn from_records<H: Hash32>(
         alloc: Global,
+        hash: &H,
         records: Vec<Record>,
         headers: Vec<Header>,
     ) -> Result<Self, AllocError>
-        ensures ledger { (hash : Hash) → IsHistory (map (λ r. r.tx) records.items) → AreRecords hash (map (λ r. r.tx) records.items) 1 records.items
-            → headers.items ≡ headers_of hash (map (λ r. r.tx) records.items) → IfOk result (IsLedger hash) }
+        ensures ledger { IsHistory (map (λ r. r.tx) records.items) → AreRecords (H.digest hash.now) (map (λ r. r.tx) records.items) 1 records.items
+            → headers.items ≡ headers_of (H.digest hash.now) (map (λ r. r.tx) records.items) → IfOk result (IsLedger (H.digest hash.now)) }
         ensures transactions { IfOk result (λ ledger. ledger.transactions ≡ map (λ r. r.tx) records.items) }
         ensures tree { IfOk result (λ ledger. ledger.tree ≡ ledger.alhs) }
     {
@@ -72,11 +80,16 @@ impl Ledger {
             alhs.push(alh)?;
             transactions.push(tx)?;
         }
+        let mut frontier = Frontier::new();
+        frontier.extend(hash, alhs.as_slice());
+        let root = root_of(hash, &frontier);
         Ok(Ledger {
             transactions,
             headers,
             alhs,
             tree,
+            frontier,
+            root,
         })
     }
 
@@ -120,8 +133,8 @@ impl Ledger {
         &self.tree
     }
 
-    /// The header that a transaction has behind the others. It hashes its entries and the tree. Its only error
-    /// is want of memory.
+    /// The header that a transaction over the whole tree has behind the others. It hashes its entries, and
+    /// nothing of the tree. Its only error is want of memory.
     pub fn header_for<H: Hash32>(
         &self,
         alloc: Global,
@@ -131,9 +144,10 @@ impl Ledger {
         requires ledger { IsLedger (H.digest hash.now) self.now }
         requires room { length self.now.transactions < 1048576 }
         requires limits { IsTransaction (length self.now.transactions) tx.now }
+        requires over { tx.now.bl ≡ length self.now.tree }
         ensures { IfOk result (λ header. header ≡ next_header (H.digest hash.now) self.now.alhs tx.now) }
     {
-        header_after(alloc, hash, self.alhs.as_slice(), tx)
+        header_over(alloc, hash, self.alhs.as_slice(), self.root, tx)
     }
 
     /// Takes a transaction behind the others, with its header and its Alh. It hashes nothing. Its only error is
@@ -150,8 +164,8 @@ impl Ledger {
         Ok(())
     }
 
-    /// Places a transaction behind the others. It hashes its entries, its header and the tree, and nothing
-    /// else. Its only error is want of memory.
+    /// Places a transaction behind the others. It hashes its entries and its header, and nothing else. Its
+    /// only error is want of memory.
     pub fn place<H: Hash32>(
         &mut self,
         alloc: Global,
@@ -172,19 +186,25 @@ impl Ledger {
         Ok(())
     }
 
-    /// Raises the tree by so many transactions, at most to the last one. Its only error is want of memory.
-    pub fn link(&mut self, count: u64) -> Result<(), AllocError>
-        requires { (hash : Hash) × IsLedger hash self.old }
+    /// Raises the tree by so many transactions, at most to the last one, and takes its root. It hashes the
+    /// leaves that are added, and no other ones. Its only error is want of memory. After an error the ledger
+    /// isn't used again.
+    pub fn link<H: Hash32>(&mut self, hash: &H, count: u64) -> Result<(), AllocError>
+        requires { IsLedger (H.digest hash.now) self.old }
         ensures same { OnOk result (self.new.transactions ≡ self.old.transactions) }
         ensures size { OnOk result (length self.new.tree ≡ min (length self.old.tree + count) (length self.old.transactions)) }
-        ensures ledger { (hash : Hash) → IsLedger hash self.old → OnOk result (IsLedger hash self.new) }
+        ensures ledger { OnOk result (IsLedger (H.digest hash.now) self.new) }
     {
         let end = self
             .tree
             .size()
             .saturating_add(count)
             .min(self.transactions.len() as u64);
-        raise(&mut self.tree, self.alhs.as_slice(), end as usize)
+        let alhs = self.alhs.as_slice();
+        raise(&mut self.tree, alhs, end as usize)?;
+        extend_to(hash, &mut self.frontier, alhs, end as usize);
+        self.root = root_of(hash, &self.frontier);
+        Ok(())
     }
 
     /// Gives the transactions back. It takes no memory.

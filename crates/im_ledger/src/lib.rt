@@ -3,10 +3,12 @@
 
 mod durable;
 pub mod errors;
+mod headers;
 pub mod kept;
 pub mod laws;
 pub mod ledger;
 pub mod opening;
 mod records;
+mod roots;
 #[cfg(test)]
 mod tests;

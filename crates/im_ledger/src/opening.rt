@@ -60,7 +60,7 @@ pub fn open_ledger<D: Disk, H: Hash32>(
         records,
         headers,
     } = open(alloc, hash, disk)?;
-    match Ledger::from_records(alloc, records, headers) {
+    match Ledger::from_records(alloc, hash, records, headers) {
         Ok(ledger) => Ok(KeptLedger::over(journal, ledger, logs)),
         Err(_) => Err(OpenFailed {
             disk: journal.into_disk(),

@@ -82,7 +82,7 @@ fn a_transaction_is_written_as_its_octets(rt: HostRuntime) -> Result<(), Fail> {
     let mut ledger = over_blank(alloc, &Sum, disk, 1);
     ledger.commit(alloc, &Sum, transaction(alloc, b"abc")?)?;
     images_stand(&ledger);
-    ledger.link(1)?;
+    ledger.link(&Sum, 1)?;
     assert_eq!(rt; ledger.ledger().count(), 1);
     assert_eq!(rt; ledger.ledger().tree().leaves(), [sum_is(0x95)].as_slice());
     let disk = ledger.into_disk();
@@ -146,7 +146,7 @@ fn a_ledger_that_was_read_has_its_whole_tree(rt: HostRuntime) -> Result<(), Fail
     };
     let records = vec![in alloc; record]?;
     let headers = vec![in alloc; header]?;
-    let ledger = Ledger::from_records(alloc, records, headers)?;
+    let ledger = Ledger::from_records(alloc, &Sum, records, headers)?;
     assert_eq!(rt; ledger.count(), 1);
     assert_eq!(rt; ledger.headers().len(), 1);
     assert_eq!(rt; ledger.tree().leaves(), [sum_is(0x95)].as_slice());

@@ -17,7 +17,7 @@ returns-in-Ok-clause-filled g c =
     let hash : Hash = g.H.Hash32.digest c.args.hash.now in
     let filled : length c.in-Ok.ledger.tree ≡ length c.in-Ok.ledger.transactions =
     found-filled g.D.Disk.told hash c.in_ok-journal.field-0.journal c.in_ok-journal.field-0.records.items c.in_ok-journal.field-0.headers.items c.in-Ok.ledger
-    c.in_ok-journal.ensures.rests c.in_ok-journal.ensures.headers (c.in-Ok.ensures.ledger hash) c.in-Ok.ensures.tree in
+    c.in_ok-journal.ensures.rests c.in_ok-journal.ensures.headers c.in-Ok.ensures.ledger c.in-Ok.ensures.tree in
     let F : Held → Type 0 = λ h. length h.tree ≡ length h.transactions in
     subst F (sym c.over.ensures.given.1) filled
 
