@@ -123,19 +123,20 @@ pub(crate) fn answer_set<D: Disk, H: Hash32, C: Clock>(
 }
 
 /// Answers `link`: raises the tree, which is in memory alone.
-pub(crate) fn answer_link<D: Disk>(
+pub(crate) fn answer_link<D: Disk, H: Hash32>(
     alloc: Global,
+    hash: &H,
     kept: &mut KeptLedger<D>,
     count: u64,
 ) -> Result<Vec<u8>, AllocError>
-    requires { (hash : Hash) × IsKept D.told hash kept.old }
-    ensures answers { IfOk result (λ reply. (hash : Hash) (constant : Option ℤ) → IsKept D.told hash kept.old → Answers hash constant (Link count) kept.old.held kept.new.held reply.items) }
-    ensures kept { (hash : Hash) → IsKept D.told hash kept.old → OnOk result (IsKept D.told hash kept.new) }
+    requires { IsKept D.told (H.digest hash.now) kept.old }
+    ensures answers { IfOk result (λ reply. (constant : Option ℤ) → Answers (H.digest hash.now) constant (Link count) kept.old.held kept.new.held reply.items) }
+    ensures kept { OnOk result (IsKept D.told (H.digest hash.now) kept.new) }
     ensures journal { kept.new.journal ≡ kept.old.journal }
     ensures logs { kept.new.logs ≡ kept.old.logs }
     ensures same { OnOk result (kept.new.held.transactions ≡ kept.old.held.transactions) }
 {
-    kept.link(count)?;
+    kept.link(hash, count)?;
     Vec::from_slice(alloc, b"linked")
 }
 

@@ -70,7 +70,7 @@ fn answer<D: Disk, H: Hash32, C: Clock>(
 {
     match command {
         Command::Set { drafts } => answer_set(alloc, hash, clock, kept, drafts.into_vec()),
-        Command::Link { count } => Ok(answer_link(alloc, kept, count)?),
+        Command::Link { count } => Ok(answer_link(alloc, hash, kept, count)?),
         command => Ok(read(alloc, hash, kept.ledger(), command)?),
     }
 }
