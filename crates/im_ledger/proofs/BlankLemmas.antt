@@ -19,23 +19,23 @@ blank-first hash long = record {
   ends_are = refl;
 }
 
--- a transaction of one entry over a tree of those before it lies within the limits
-pub one-entry : (key value : List ℕ) (before bl : ℕ) → bl ≤ before → 1 ≤ length key → length key ≤ 1024 → length value ≤ 4096
-    → IsTransaction before (record { ts = pos 0; entries = record { md = []; key = key; value = value } ∷ []; bl = bl })
-one-entry key value before bl over given short small =
+-- a transaction of one entry over no tree lies within the limits
+pub one-entry : (key value : List ℕ) (before : ℕ) → 1 ≤ length key → length key ≤ 1024 → length value ≤ 4096
+    → IsTransaction before (record { ts = pos 0; entries = record { md = []; key = key; value = value } ∷ []; bl = 0 })
+one-entry key value before given short small =
     let entry : Entry = record { md = []; key = key; value = value } in
     record {
       some = omega arith;
       few = omega arith;
       entries = All-cons IsEntry entry [] (record { deleted = false; non_indexable = false; md = refl; key_given = given; key_short = short; value_short = small }) (All-nil IsEntry);
       distinct = λ i j d lt below. absurd (omega (arith, lt, below));
-      linked = over;
+      linked = omega arith;
       timed = omega arith;
     }
 
-pub one-placed : (md key value : List ℕ) (entries : List Entry) (before bl : ℕ) → bl ≤ before → entries ≡ record { md = md; key = key; value = value } ∷ [] → md ≡ [] → 1 ≤ length key → length key ≤ 1024 → length value ≤ 4096
-    → IsTransaction before (record { ts = pos 0; entries = entries; bl = bl })
-one-placed md key value entries before bl over is none given short small =
-    subst (λ (es : List Entry). IsTransaction before (record { ts = pos 0; entries = es; bl = bl })) (sym is)
-    (subst (λ (m : List ℕ). IsTransaction before (record { ts = pos 0; entries = record { md = m; key = key; value = value } ∷ []; bl = bl })) (sym none)
-    (one-entry key value before bl over given short small))
+pub one-placed : (md key value : List ℕ) (entries : List Entry) (before : ℕ) → entries ≡ record { md = md; key = key; value = value } ∷ [] → md ≡ [] → 1 ≤ length key → length key ≤ 1024 → length value ≤ 4096
+    → IsTransaction before (record { ts = pos 0; entries = entries; bl = 0 })
+one-placed md key value entries before is none given short small =
+    subst (λ (es : List Entry). IsTransaction before (record { ts = pos 0; entries = es; bl = 0 })) (sym is)
+    (subst (λ (m : List ℕ). IsTransaction before (record { ts = pos 0; entries = record { md = m; key = key; value = value } ∷ []; bl = 0 })) (sym none)
+    (one-entry key value before given short small))

@@ -7,7 +7,7 @@ returns c =
     let md : c.new-2.result ≡ [] = search rules in
     let key : c.new-3.result ≡ 107 ∷ [] = search rules in
     let value : c.new-4.result ≡ c.args.value.now = search rules in (
-      λ before over. one-placed c.new-2.result c.new-3.result c.new-4.result c.from_vec.result before c.args.bl over (c.from_vec.ensures ∙ c.in_ok-vec.ensures.items) md
+      λ before. one-placed c.new-2.result c.new-3.result c.new-4.result c.from_vec.result before (c.from_vec.ensures ∙ c.in_ok-vec.ensures.items) md
           (omega (arith, ap length key)) (omega (arith, ap length key)) (omega (arith, ap length value, c.requires)),
       refl,
     )
