@@ -14,7 +14,7 @@ use im_edge::sink::{Sink, Writing};
 use im_edge::source::Reading;
 use im_format::damages::{Damage, Difference};
 use im_octet::octets::Octets;
-use std::alloc::{AllocError, Global};
+use std::alloc::Global;
 use std::process::Abort;
 use std::test::Fail;
 
@@ -59,13 +59,13 @@ fn run_over(
     Ok((status, inner, disk))
 }
 
-// A disk with the first three files of another one.
-fn copied(alloc: Global, disk: &MemDisk) -> Result<Vec<Octets>, AllocError> {
+// A disk with these three files: the transaction log, the commit log, value log 0.
+fn disk_of(alloc: Global, log: &[u8], commits: &[u8], values: &[u8]) -> Result<MemDisk, Fail> {
     let mut files = Vec::new(alloc);
-    for file in 0..3 {
-        files.push(Octets::from_slice(alloc, disk.file(file))?)?;
-    }
-    Ok(files)
+    files.push(Octets::from_slice(alloc, log)?)?;
+    files.push(Octets::from_slice(alloc, commits)?)?;
+    files.push(Octets::from_slice(alloc, values)?)?;
+    Ok(MemDisk::from_files(alloc, files, Vec::new(alloc))?)
 }
 
 // The header of `k=abc`, whose Alh is 95, in hex.
@@ -144,13 +144,11 @@ fn a_batch_behind_a_closed_gate_is_left_out(rt: HostRuntime) -> Result<(), Fail>
         written.as_slice(),
         b"a 1 tx 1\na 2 tx 2\na 3 tx 3\n".as_slice()
     );
-    let mut files = copied(rt.alloc(), &disk)?;
     let mut commits = Vec::from_slice(rt.alloc(), disk.file(1))?;
     if commits.len() == 76 {
         commits[25] = 0;
     }
-    files[1] = Octets::from_vec(commits);
-    let disk = MemDisk::from_files(rt.alloc(), files, Vec::new(rt.alloc()))?;
+    let disk = disk_of(rt.alloc(), disk.file(0), commits.as_slice(), disk.file(2))?;
     let (status, written, _) = run_over(&rt, b"a: header 1\na: header 2\n", disk)?;
     assert_eq!(rt; status, Status::Ok);
     assert!(rt; written.starts_with(HEADER));
@@ -162,13 +160,11 @@ fn a_batch_behind_a_closed_gate_is_left_out(rt: HostRuntime) -> Result<(), Fail>
 fn a_commit_log_cut_short_holds_nothing(rt: HostRuntime) -> Result<(), Fail> {
     let disk = MemDisk::new(rt.alloc(), Vec::new(rt.alloc()))?;
     let (_, _, disk) = run_over(&rt, b"a: set k=abc\n", disk)?;
-    let mut files = copied(rt.alloc(), &disk)?;
     let Some((_, commits)) = disk.file(1).split_last() else {
         return Err(Fail::from("a commit log"));
     };
     assert_eq!(rt; commits.len(), 25);
-    files[1] = Octets::from_slice(rt.alloc(), commits)?;
-    let disk = MemDisk::from_files(rt.alloc(), files, Vec::new(rt.alloc()))?;
+    let disk = disk_of(rt.alloc(), disk.file(0), commits, disk.file(2))?;
     let (status, written, disk) = run_over(&rt, b"a: state\na: set k=abc\n", disk)?;
     assert_eq!(rt; status, Status::Ok);
     assert_eq!(rt;
@@ -191,9 +187,7 @@ fn sum(last: u8) -> D32 {
 fn a_spoilt_value_is_told(rt: HostRuntime) -> Result<(), Fail> {
     let disk = MemDisk::new(rt.alloc(), Vec::new(rt.alloc()))?;
     let (_, _, disk) = run_over(&rt, b"a: set k=abc\n", disk)?;
-    let mut files = copied(rt.alloc(), &disk)?;
-    files[2] = Octets::from_slice(rt.alloc(), b"bbc")?;
-    let disk = MemDisk::from_files(rt.alloc(), files, Vec::new(rt.alloc()))?;
+    let disk = disk_of(rt.alloc(), disk.file(0), disk.file(1), b"bbc")?;
     let (status, written, disk) = run_over(&rt, b"a: set k=abd\n", disk)?;
     let damage = Damage {
         file: 2,
