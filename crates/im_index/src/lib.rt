@@ -1,0 +1,10 @@
+//! The timed index: the versions of a history in the order of its transactions, and snapshots of it. Both are
+//! views of the history's keys.
+#![tactic(auto)]
+
+mod entries;
+pub mod index;
+mod reads;
+pub mod snapshot;
+#[cfg(test)]
+mod tests;

@@ -1,0 +1,7 @@
+//! A view of a history's keys: what stands after each number of its transactions.
+#![tactic(auto)]
+
+pub mod errors;
+#[cfg(test)]
+mod tests;
+pub mod view;
