@@ -1,5 +1,5 @@
 -- Ledgers grow by a transaction, and their trees are raised.
-use Rattle.std.proofs.Common.{◌≡◌, ◌<◌, ◌≤◌, length, ℕ, zero, suc, ◌+◌, ◌-◌, List, [], ◌∷◌, ◌++◌, take, refl, arith, ap, subst, ◌∙◌, sym, length-append, get_or, All, if◌then◌else◌, ◌==◌}
+use Rattle.std.proofs.Common.{◌≡◌, ◌<◌, ◌≤◌, length, ℕ, suc, ◌+◌, ◌-◌, List, [], ◌∷◌, ◌++◌, take, refl, arith, ap, subst, ◌∙◌, sym, length-append, get_or, All, if◌then◌else◌, ◌==◌}
 use Rattle.std.proofs.Math.Seq.{take-length}
 use Rattle.std.proofs.lemmas.List.{take-append-le, length-take-le}
 use Rattle.std.proofs.lemmas.List.Elements.{All-nil, All-push}
@@ -14,6 +14,7 @@ use Rattle.im_model.proofs.HistoryLemmas.{length-alhs_of}
 use Rattle.im_proof.specs.Built.{headers_of}
 use Rattle.im_proof.proofs.HeaderLemmas.{alhs-next, headers-length, headers-next, headers-nth}
 use Rattle.im_dual.specs.Kept.{header_at, no_header}
+use Rattle.im_book.specs.Booked.{Booked, IsBook}
 use Rattle.im_ledger.specs.Ledgers.{Held, IsLedger}
 
 -- what is so of lists, and of what is kept of the tree, is so of equal ones
@@ -136,6 +137,13 @@ ledger-empty hash held transactions headers alhs tree kept top =
       subtrees = kept;
       root = refl;
     })
+
+-- the lists of a ledger are a book
+pub book-within : (hash : Hash) (held : Held) (book : Booked) (tree : List (List ℕ)) (frontier : Kept) (root : List ℕ)
+    → record { transactions = book.transactions; headers = book.headers; alhs = book.alhs; tree = tree; frontier = frontier; root = root } ≡ held → IsLedger hash held → IsBook hash book
+book-within hash held book tree frontier root same l =
+    let own : IsLedger hash (record { transactions = book.transactions; headers = book.headers; alhs = book.alhs; tree = tree; frontier = frontier; root = root }) = subst (IsLedger hash) (sym same) l in
+    record { history = own.history; headers = own.headers; alhs = own.alhs }
 
 -- there is a header for each transaction
 pub headers-counted : (hash : Hash) (held : Held) → IsLedger hash held → length held.headers ≡ length held.transactions

@@ -2,6 +2,7 @@ pub mod BlankLemmas
 pub mod CommitLemmas
 pub mod DurableLemmas
 pub mod GrowLemmas
+pub mod GrownLemmas
 pub mod LedgerLemmas
 pub mod OpenLemmas
 pub mod PlaceLemmas

@@ -7,6 +7,7 @@ ghost use Rattle.im_journal.specs.Holding.{AreNext};
 ghost use Rattle.im_journal.specs.Kept.{IsAtRest, StandsBy};
 ghost use Rattle.im_journal.specs.declared.batches.Step.TheVariants.{Gated};
 ghost use Rattle.im_ledger.specs.Causes.{HasCommitCause};
+ghost use Rattle.im_ledger.specs.Grown.{Grows};
 
 use crate::errors::CommitError;
 use im_disk::disk::Disk;
@@ -33,6 +34,7 @@ pub(crate) fn make_durable<D: Disk>(
     ensures any_moment { (hash : Hash) (history : List Transaction) (batches : List (List Record))
         → IsAtRest D.told hash history batches journal.old → AreNext hash history batches journal.old.durable records.now
         → Leaves (StandsBy Gated hash history journal.old.durable (length records.now)) (D.told journal.old.disk) (D.told journal.new.disk) }
+    ensures grows { Grows (D.told journal.old.disk) (D.told journal.new.disk) }
     ensures going { OnOk result (journal.new.failures ≡ 0) }
     ensures cause { HasCommitCause (D.faults journal.old.disk) (D.faults journal.new.disk) result }
 {

@@ -16,6 +16,9 @@ use std::marker::Model;
 
 /// A ledger that is kept on a disk: each transaction is durable before the ledger takes it. A clause sees the
 /// journal, the ledger's lists, and the number of value logs.
+///
+/// Thread safety: one session holds it. Invariant between calls: `IsKept`, the disk holds exactly the ledger's
+/// transactions, and no batch is in progress.
 #[derive(Drop)]
 pub struct KeptLedger<D: Disk> {
     journal: Journal<D>,
@@ -40,6 +43,7 @@ impl<D: Disk> KeptLedger<D> {
     ghost use Rattle.im_journal.specs.Kept.{IsAtRest};
     ghost use Rattle.im_model.specs.History.{next_header, IsTransaction};
     ghost use Rattle.im_ledger.specs.Causes.{HasCommitCause};
+    ghost use Rattle.im_ledger.specs.Grown.{Grows};
     ghost use Rattle.im_ledger.specs.Histories.{HasCommitted, IsKept, IsNextRecord, StandsWithin};
     ghost use Rattle.im_ledger.specs.Ledgers.{IsLedger};
 
@@ -65,7 +69,9 @@ impl<D: Disk> KeptLedger<D> {
     }
 
     /// Places a transaction behind the others: writes its record as a batch of its own, makes it durable, and
-    /// only then takes it into the ledger. It hashes the entries, the values and the header, once.
+    /// only then takes it into the ledger. It hashes the entries and the header once, and each value twice: for
+    /// the header, and for where it is put. The disk gets a write for each value log that gets octets, two more, a
+    /// sync, the write of the gate, and a sync.
     ///
     /// # Errors
     ///
@@ -88,6 +94,7 @@ impl<D: Disk> KeptLedger<D> {
         ensures put { (batches : List (List Record)) → IsAtRest D.told (H.digest hash.now) self.old.held.transactions batches self.old.journal
             → OnOk result (HasCommitted D.told (H.digest hash.now) self.new.held.transactions batches self.old.logs tx self.new.journal) }
         ensures any_moment { Leaves (StandsWithin (H.digest hash.now) self.old.held.transactions tx) (D.told self.old.journal.disk) (D.told self.new.journal.disk) }
+        ensures grows { Grows (D.told self.old.journal.disk) (D.told self.new.journal.disk) }
         ensures durable { OnOk result (LeavesNow (λ image. Stands (H.digest hash.now) image self.new.held.transactions) (D.told self.new.journal.disk)) }
         ensures cause { HasCommitCause (D.faults self.old.journal.disk) (D.faults self.new.journal.disk) result }
     {

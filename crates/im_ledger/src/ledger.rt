@@ -1,25 +1,24 @@
 ghost use Rattle.std.specs.Prelude.{◌≡◌, ◌≤◌, length, take, OnOk};
 
-use crate::headers::header_over;
-use crate::roots::{extend_to, root_of};
 use im_atree::trees::Tree;
+use im_book::book::Book;
+use im_book::roots::{extend_to, root_of};
 use im_digest::{D32, Hash32};
+use im_draft::preconditions::Pres;
 use im_format::records::Record;
 use im_frontier::frontiers::Frontier;
-use im_header::alh;
 use im_model::headers::Header;
 use im_model::transactions::Transaction;
+use im_versions::refusals::PlaceError;
 use std::alloc::{AllocError, Global};
 use std::marker::Model;
 
-/// A history in memory: the transactions, the header and the Alh of each, and the tree of the first of these
-/// Alh, whose root is kept (zeros where the tree is empty), as are its whole subtrees. So a header is made
-/// without the tree being hashed again. A clause sees the lists, and what is kept of the tree.
+/// A history in memory: the book of the transactions, with the header and the Alh of each, and the tree of the
+/// first of these Alh, whose root is kept (zeros where the tree is empty), as are its whole subtrees. So a
+/// header is made without the tree being hashed again. A clause sees the lists, and what is kept of the tree.
 #[derive(Drop)]
 pub struct Ledger {
-    transactions: Vec<Transaction>,
-    headers: Vec<Header>,
-    alhs: Vec<D32>,
+    book: Book,
     tree: Tree,
     frontier: Frontier,
     root: D32,
@@ -30,16 +29,17 @@ impl Model for Ledger {
 
     ghost Value = { Held };
 
-    ghost view = { λ s. record { transactions = s.transactions.items; headers = s.headers.items; alhs = s.alhs.items; tree = s.tree; frontier = s.frontier; root = s.root } };
+    ghost view = { λ s. record { transactions = s.book.transactions; headers = s.book.headers; alhs = s.book.alhs; tree = s.tree; frontier = s.frontier; root = s.root } };
 }
 
 impl Ledger {
-    ghost use Rattle.std.specs.Prelude.{◌≡◌, ◌+◌, ◌<◌, ◌≤◌, [], ◌∷◌, ◌++◌, length, map, min, IfOk, OnOk};
+    ghost use Rattle.std.specs.Prelude.{◌≡◌, ◌+◌, ◌<◌, ◌≤◌, [], ◌∷◌, ◌++◌, length, map, min, IfErr, IfOk, None, OnOk, Some};
     ghost use Rattle.im_digest.specs.Digests.{Hash};
     ghost use Rattle.im_format.specs.Records.{AreRecords};
     ghost use Rattle.im_model.specs.Headers.{alh};
     ghost use Rattle.im_model.specs.History.{header_of, next_header, transaction_of, IsHistory, IsTransaction};
     ghost use Rattle.im_proof.specs.Built.{headers_of};
+    ghost use Rattle.im_versions.specs.Admits.{place_refusal};
     ghost use Rattle.im_ledger.specs.Ledgers.{IsLedger};
 
     /// The ledger of the empty history. It takes no memory.
@@ -49,9 +49,7 @@ impl Ledger {
         ensures tree { result.tree ≡ [] }
     {
         Ledger {
-            transactions: Vec::new(alloc),
-            headers: Vec::new(alloc),
-            alhs: Vec::new(alloc),
+            book: Book::empty(alloc),
             tree: Tree::new(alloc),
             frontier: Frontier::new(),
             root: [0; 32],
@@ -84,9 +82,7 @@ impl Ledger {
         frontier.extend(hash, alhs.as_slice());
         let root = root_of(hash, &frontier);
         Ok(Ledger {
-            transactions,
-            headers,
-            alhs,
+            book: Book::of(transactions, headers, alhs),
             tree,
             frontier,
             root,
@@ -97,7 +93,14 @@ impl Ledger {
     pub fn count(&self) -> u64
         ensures { result ≡ length self.now.transactions }
     {
-        self.transactions.len() as u64
+        self.book.len()
+    }
+
+    /// Lends the transactions, transaction k at place k - 1.
+    pub fn transactions(&self) -> &[Transaction]
+        ensures { result.now ≡ self.now.transactions }
+    {
+        self.book.transactions()
     }
 
     /// Lends transaction k, from 1.
@@ -106,7 +109,7 @@ impl Ledger {
         requires last { k ≤ length self.now.transactions }
         ensures { result.now ≡ transaction_of self.now.transactions k }
     {
-        &self.transactions[k as usize - 1]
+        self.book.tx(k)
     }
 
     /// Lends the header of transaction k, from 1.
@@ -116,14 +119,14 @@ impl Ledger {
         requires last { k ≤ length self.now.transactions }
         ensures { (hash : Hash) → IsLedger hash self.now → result.now ≡ header_of hash self.now.transactions k }
     {
-        &self.headers[k as usize - 1]
+        self.book.header(k)
     }
 
     /// Lends the headers, that of transaction k at place k - 1.
     pub fn headers(&self) -> &[Header]
         ensures { result.now ≡ self.now.headers }
     {
-        self.headers.as_slice()
+        self.book.headers()
     }
 
     /// Lends the tree.
@@ -131,6 +134,20 @@ impl Ledger {
         ensures { result.now ≡ self.now.tree }
     {
         &self.tree
+    }
+
+    /// Judges preconditions against all transactions. It takes no memory. It costs, for each precondition, a
+    /// look at the entries from the last one back to the first of its key.
+    ///
+    /// # Errors
+    ///
+    /// `Full` first; else the refusal of the first precondition that doesn't hold, in the order given.
+    pub fn judge(&self, pres: Pres) -> Result<(), PlaceError>
+        ensures admitted { OnOk result (place_refusal self.now.transactions pres ≡ None) }
+        ensures refused { IfErr result (λ why. place_refusal self.now.transactions pres ≡ Some why) }
+        ensures room { OnOk result (length self.now.transactions < 1048576) }
+    {
+        self.book.judge(pres)
     }
 
     /// The header that a transaction over the whole tree has behind the others. It hashes its entries, and
@@ -147,7 +164,7 @@ impl Ledger {
         requires over { tx.now.bl ≡ length self.now.tree }
         ensures { IfOk result (λ header. header ≡ next_header (H.digest hash.now) self.now.alhs tx.now) }
     {
-        header_over(alloc, hash, self.alhs.as_slice(), self.root, tx)
+        self.book.header_for(alloc, hash, tx, self.root)
     }
 
     /// Takes a transaction behind the others, with its header and its Alh. It hashes nothing. Its only error is
@@ -158,31 +175,7 @@ impl Ledger {
         ensures ledger { (hash : Hash) → IsLedger hash self.old → length self.old.transactions < 1048576 → IsTransaction (length self.old.transactions) tx
             → tx.bl ≡ length self.old.tree → header ≡ next_header hash self.old.alhs tx → digest ≡ alh hash header → OnOk result (IsLedger hash self.new) }
     {
-        self.alhs.push(digest)?;
-        self.headers.push(header)?;
-        self.transactions.push(tx)?;
-        Ok(())
-    }
-
-    /// Places a transaction behind the others. It hashes its entries and its header, and nothing else. Its
-    /// only error is want of memory.
-    pub fn place<H: Hash32>(
-        &mut self,
-        alloc: Global,
-        hash: &H,
-        tx: Transaction,
-    ) -> Result<(), AllocError>
-        requires ledger { IsLedger (H.digest hash.now) self.old }
-        requires room { length self.old.transactions < 1048576 }
-        requires limits { IsTransaction (length self.old.transactions) tx }
-        requires over { tx.bl ≡ length self.old.tree }
-        ensures grown { OnOk result (self.new.transactions ≡ self.old.transactions ++ tx ∷ []) }
-        ensures tree { OnOk result (self.new.tree ≡ self.old.tree) }
-        ensures ledger { OnOk result (IsLedger (H.digest hash.now) self.new) }
-    {
-        let header = self.header_for(alloc, hash, &tx)?;
-        let digest = alh(hash, &header);
-        self.push(tx, header, digest)?;
+        self.book.push(tx, header, digest)?;
         Ok(())
     }
 
@@ -195,24 +188,12 @@ impl Ledger {
         ensures size { OnOk result (length self.new.tree ≡ min (length self.old.tree + count) (length self.old.transactions)) }
         ensures ledger { OnOk result (IsLedger (H.digest hash.now) self.new) }
     {
-        let end = self
-            .tree
-            .size()
-            .saturating_add(count)
-            .min(self.transactions.len() as u64);
-        let alhs = self.alhs.as_slice();
+        let end = self.tree.size().saturating_add(count).min(self.book.len());
+        let alhs = self.book.alhs();
         raise(&mut self.tree, alhs, end as usize)?;
         extend_to(hash, &mut self.frontier, alhs, end as usize);
         self.root = root_of(hash, &self.frontier);
         Ok(())
-    }
-
-    /// Gives the transactions back. It takes no memory.
-    pub fn into_transactions(self) -> Vec<Transaction>
-        ensures { result.items ≡ self.transactions }
-    {
-        let Ledger { transactions, .. } = self;
-        transactions
     }
 }
 

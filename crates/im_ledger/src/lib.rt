@@ -3,12 +3,10 @@
 
 mod durable;
 pub mod errors;
-mod headers;
 pub mod kept;
 pub mod laws;
 pub mod ledger;
 pub mod opening;
 mod records;
-mod roots;
 #[cfg(test)]
 mod tests;

@@ -9,6 +9,7 @@ ghost use Rattle.im_format.specs.declared.damages.Damage.{Damage};
 ghost use Rattle.im_model.specs.declared.transactions.Transaction.{Transaction};
 ghost use Rattle.im_mtree.specs.Checks.{first_fail};
 ghost use Rattle.im_opening.specs.Cut.{WasOpened};
+ghost use Rattle.im_ledger.specs.Grown.{Grows};
 ghost use Rattle.im_ledger.specs.Histories.{IsKept};
 ghost use Rattle.im_ledger.specs.Openings.{SyncsAtMost};
 
@@ -40,6 +41,7 @@ pub fn open_ledger<D: Disk, H: Hash32>(
     ensures stands { (t : Told) → D.told disk ≡ Some t → IfOk result (λ kept. Stands (H.digest hash.now) (seen t) kept.held.transactions) }
     ensures moments { (t : Told) → D.told disk ≡ Some t
         → IfOk result (λ kept. Leaves (λ image. Stands (H.digest hash.now) image kept.held.transactions) (Some (after Synced t)) (D.told kept.journal.disk)) }
+    ensures grows { (t : Told) → D.told disk ≡ Some t → IfOk result (λ kept. Grows (Some (after Synced t)) (D.told kept.journal.disk)) }
     ensures faults { IfOk result (λ kept. D.faults kept.journal.disk ≡ D.faults disk) }
     ensures off { (t : Told) (history : List Transaction) → D.told disk ≡ Some t → Stands (H.digest hash.now) (seen t) history
         → IfErr result (λ failed. WasOpened (H.digest hash.now) history t (D.told failed.disk)) }

@@ -12,6 +12,7 @@ use crate::ledger::Ledger;
 use im_digest::{D32, Hash32, Sum};
 use im_disk::disk::Disk;
 use im_disk::memory::MemDisk;
+use im_draft::preconditions::{Pre, Pres};
 use im_format::records::Record;
 use im_format::references::Refs;
 use im_journal::journal::Journal;
@@ -20,6 +21,7 @@ use im_model::headers::Header;
 use im_model::limits::{EntryValue, Key, Metadata};
 use im_model::transactions::Transaction;
 use im_octet::octets::Octets;
+use im_versions::refusals::PlaceError;
 use std::alloc::{AllocError, Global};
 use std::test::Fail;
 
@@ -148,7 +150,38 @@ fn a_ledger_that_was_read_has_its_whole_tree(rt: HostRuntime) -> Result<(), Fail
     let headers = vec![in alloc; header]?;
     let ledger = Ledger::from_records(alloc, &Sum, records, headers)?;
     assert_eq!(rt; ledger.count(), 1);
+    assert_eq!(rt; ledger.transactions().len(), 1);
     assert_eq!(rt; ledger.headers().len(), 1);
     assert_eq!(rt; ledger.tree().leaves(), [sum_is(0x95)].as_slice());
+    Ok(())
+}
+
+#[test]
+fn preconditions_are_judged_by_the_transactions(rt: HostRuntime) -> Result<(), Fail> {
+    let alloc = rt.alloc();
+    let record = Record {
+        tx: transaction(alloc, b"abc")?,
+        refs: Refs::from_vec(Vec::new(alloc)),
+        alh: sum_is(0x95),
+    };
+    let ledger = Ledger::from_records(alloc, &Sum, vec![in alloc; record]?, Vec::new(alloc))?;
+    let exists = Pre::Exists {
+        key: Octets::from_slice(alloc, b"k")?,
+    };
+    let missing = Pre::Missing {
+        key: Octets::from_slice(alloc, b"k")?,
+    };
+    assert!(rt;
+        ledger
+            .judge(Pres::from_vec(vec![in alloc; exists]?))
+            .is_ok()
+    );
+    match ledger.judge(Pres::from_vec(vec![in alloc; missing]?)) {
+        Err(PlaceError::Exists { key, tx }) => {
+            assert!(rt; key.as_slice() == b"k".as_slice());
+            assert_eq!(rt; tx, 1);
+        }
+        _ => return Err(Fail::from("the key is live")),
+    }
     Ok(())
 }

@@ -3,6 +3,7 @@ use Rattle.im_disk.specs.Moments.{Leaves}
 use Rattle.im_journal.specs.Kept.{StandsBy}
 use Rattle.im_journal.specs.declared.batches.Step.TheVariants.{Gated}
 use Rattle.im_ledger.proofs.DurableLemmas.{at-last, one-more}
+use Rattle.im_ledger.proofs.GrownLemmas.{grows-both, step-grows}
 use Rattle.im_ledger.proofs.durable.make_durable.Goals as goal
 
 pub returns-in_err-stage-clause-any_moment : goal.returns-in_err-stage-clause-any_moment
@@ -83,3 +84,46 @@ returns-clause-any_moment g c hash history batches rest next =
     (c.stage.ensures.any_moment hash history batches rs (inl (rest, next, refl))))
     (c.seal.ensures.any_moment hash history batches rs batch.0))
     (c.settle.ensures.any_moment hash history batches rs safe.0)
+
+pub returns-in_err-stage-clause-grows : goal.returns-in_err-stage-clause-grows
+returns-in_err-stage-clause-grows g c =
+    let told = g.D.Disk.told in
+    let old = c.args.journal.now in
+    let staged = c.stage.new.self in
+    step-grows told _ _ old staged c.stage.result c.stage.ensures.calls c.stage.ensures.stopped c.stage.ensures.going
+
+pub returns-in_err-seal-clause-grows : goal.returns-in_err-seal-clause-grows
+returns-in_err-seal-clause-grows g c =
+    let told = g.D.Disk.told in
+    let old = c.args.journal.now in
+    let staged = c.stage.new.self in
+    let sealed = c.seal.new.self in
+    grows-both (told old.disk) (told staged.disk) (told sealed.disk)
+    (step-grows told _ _ old staged c.stage.result c.stage.ensures.calls c.stage.ensures.stopped c.stage.ensures.going)
+    (step-grows told _ _ staged sealed c.seal.result c.seal.ensures.calls c.seal.ensures.stopped c.seal.ensures.going)
+
+pub returns-in_err-settle-clause-grows : goal.returns-in_err-settle-clause-grows
+returns-in_err-settle-clause-grows g c =
+    let told = g.D.Disk.told in
+    let old = c.args.journal.now in
+    let staged = c.stage.new.self in
+    let sealed = c.seal.new.self in
+    let settled = c.settle.new.self in
+    grows-both (told old.disk) (told sealed.disk) (told settled.disk)
+    (grows-both (told old.disk) (told staged.disk) (told sealed.disk)
+    (step-grows told _ _ old staged c.stage.result c.stage.ensures.calls c.stage.ensures.stopped c.stage.ensures.going)
+    (step-grows told _ _ staged sealed c.seal.result c.seal.ensures.calls c.seal.ensures.stopped c.seal.ensures.going))
+    (step-grows told _ _ sealed settled c.settle.result c.settle.ensures.calls c.settle.ensures.stopped c.settle.ensures.going)
+
+pub returns-clause-grows : goal.returns-clause-grows
+returns-clause-grows g c =
+    let told = g.D.Disk.told in
+    let old = c.args.journal.now in
+    let staged = c.stage.new.self in
+    let sealed = c.seal.new.self in
+    let settled = c.settle.new.self in
+    grows-both (told old.disk) (told sealed.disk) (told settled.disk)
+    (grows-both (told old.disk) (told staged.disk) (told sealed.disk)
+    (step-grows told _ _ old staged c.stage.result c.stage.ensures.calls c.stage.ensures.stopped c.stage.ensures.going)
+    (step-grows told _ _ staged sealed c.seal.result c.seal.ensures.calls c.seal.ensures.stopped c.seal.ensures.going))
+    (step-grows told _ _ sealed settled c.settle.result c.settle.ensures.calls c.settle.ensures.stopped c.settle.ensures.going)

@@ -8,7 +8,9 @@ use Rattle.im_journal.specs.Kept.{Kept}
 use Rattle.im_model.specs.declared.transactions.Transaction.{Transaction}
 use Rattle.im_opening.specs.Cut.{WasOpened}
 use Rattle.im_recovery.proofs.FoundLemmas.{if-err}
+use Rattle.im_ledger.specs.Grown.{Grows}
 use Rattle.im_ledger.specs.Ledgers.{Held}
+use Rattle.im_ledger.proofs.GrownLemmas.{opened-grows}
 use Rattle.im_ledger.proofs.OpenLemmas.{found-filled, leaves-same}
 use Rattle.im_ledger.proofs.opening.open_ledger.Goals as goal
 
@@ -30,6 +32,12 @@ returns-in-Ok-clause-moments g c = λ t told.
     subst M (sym c.over.ensures.given.0)
     (leaves-same hash (map (λ r. r.tx) c.in_ok-journal.field-0.records.items) c.over.result.held.transactions (Some (after Synced t)) (g.D.Disk.told c.in_ok-journal.field-0.journal.disk) same
     (c.in_ok-journal.ensures.moments t told))
+
+pub returns-in-Ok-clause-grows : goal.returns-in-Ok-clause-grows
+returns-in-Ok-clause-grows g c = λ t told.
+    let O : Kept g.row.D.Denot → Type 0 = λ j. Grows (Some (after Synced t)) (g.D.Disk.told j.disk) in
+    subst O (sym c.over.ensures.given.0)
+    (opened-grows _ t (g.D.Disk.told c.in_ok-journal.field-0.journal.disk) (c.in_ok-journal.ensures.calls t told))
 
 pub returns-in-Ok-clause-one : goal.returns-in-Ok-clause-one
 returns-in-Ok-clause-one g c = λ t history told stands.

@@ -1,4 +1,4 @@
-//! What is kept of a ledger's tree: its whole subtrees, and the root that they give.
+//! What is kept of a tree that grows: its whole subtrees, and the root that they give.
 
 ghost use Rattle.std.specs.Prelude.{◌≡◌, ◌≤◌, ℕ, List, length, take};
 ghost use Rattle.im_frontier.specs.Kept.{IsFrontier};
@@ -8,7 +8,7 @@ use im_digest::{D32, Hash32};
 use im_frontier::frontiers::Frontier;
 
 /// Brings what is kept of the first of these Alh to the first `end`. It hashes the leaves that are added.
-pub(crate) fn extend_to<H: Hash32>(hash: &H, frontier: &mut Frontier, alhs: &[D32], end: usize)
+pub fn extend_to<H: Hash32>(hash: &H, frontier: &mut Frontier, alhs: &[D32], end: usize)
     requires kept { IsFrontier (H.digest hash.now) (take frontier.old.size alhs.now) frontier.old }
     requires up { frontier.old.size ≤ end }
     requires within { end ≤ length alhs.now }
@@ -19,7 +19,7 @@ pub(crate) fn extend_to<H: Hash32>(hash: &H, frontier: &mut Frontier, alhs: &[D3
 }
 
 /// The root of the tree whose whole subtrees these are, and 32 zeros where it is empty.
-pub(crate) fn root_of<H: Hash32>(hash: &H, frontier: &Frontier) -> D32
+pub fn root_of<H: Hash32>(hash: &H, frontier: &Frontier) -> D32
     ensures { (leaves : List (List ℕ)) → IsFrontier (H.digest hash.now) leaves frontier.now
         → result ≡ bl_root_of (H.digest hash.now) leaves (length leaves) }
 {

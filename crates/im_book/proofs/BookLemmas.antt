@@ -1,0 +1,96 @@
+-- Books that grow by a transaction.
+use Rattle.std.proofs.Common.{◌≡◌, ◌<◌, ◌≤◌, length, ℕ, suc, ◌+◌, ◌-◌, List, [], ◌∷◌, ◌++◌, refl, arith, ap, subst, ◌∙◌, sym, length-append, get_or, All}
+use Rattle.im_digest.specs.Digests.{Hash}
+use Rattle.im_model.specs.Headers.{alh}
+use Rattle.im_model.specs.History.{header_of, next_header, Follow, IsHistory, IsTransaction}
+use Rattle.im_model.specs.declared.headers.Header.{Header}
+use Rattle.im_model.specs.declared.transactions.Transaction.{Transaction}
+use Rattle.im_model.proofs.HistoryLemmas.{length-alhs_of}
+use Rattle.im_proof.specs.Built.{headers_of}
+use Rattle.im_proof.proofs.HeaderLemmas.{alhs-next, headers-length, headers-next, headers-nth}
+use Rattle.im_book.specs.Booked.{last_bl, last_bl_or, Booked, IsBook}
+
+-- a transaction behind others, over a tree no smaller than that of the last
+pub Follow-behind : (n bl : ℕ) (txs : List Transaction) (tx : Transaction) → Follow n bl txs → last_bl_or bl txs ≤ tx.bl → IsTransaction (n + length txs) tx → Follow n bl (txs ++ tx ∷ [])
+Follow-behind n bl [] tx f over is =
+    let same : n + 0 ≡ n = omega arith in
+    let P : ℕ → Type 0 = λ m. IsTransaction m tx in
+    (subst P same is, over, tt)
+Follow-behind n bl (t ∷ txs) tx f over is =
+    let same : n + suc (length txs) ≡ n + 1 + length txs = omega arith in
+    let P : ℕ → Type 0 = λ m. IsTransaction m tx in
+    (f.0, f.1, Follow-behind (n + 1) t.bl txs tx f.2 over (subst P same is))
+
+-- a history with one transaction more
+pub history-behind : (history : List Transaction) (tx : Transaction) → IsHistory history → length history < 1048576 → IsTransaction (length history) tx → last_bl history ≤ tx.bl
+    → IsHistory (history ++ tx ∷ [])
+history-behind history tx h room is over =
+    let one : List Transaction = tx ∷ [] in
+    let size : length (history ++ one) ≡ length history + 1 = length-append history one in
+    let place : length history ≡ 0 + length history = omega arith in
+    let P : ℕ → Type 0 = λ m. IsTransaction m tx in
+    record {
+      few = omega arith;
+      follow = Follow-behind 0 0 history tx h.follow over (subst P place is);
+    }
+
+-- the last tree is that of the transaction that was placed last
+pub last-bl-behind : (bl : ℕ) (history : List Transaction) (tx : Transaction) → last_bl_or bl (history ++ tx ∷ []) ≡ tx.bl
+last-bl-behind bl [] tx = refl
+last-bl-behind bl (t ∷ txs) tx = last-bl-behind t.bl txs tx
+
+-- the last tree is within what each is within
+pub last-bl-within : (n bl : ℕ) (history : List Transaction) → bl ≤ n → All (λ tx. tx.bl ≤ n) history → last_bl_or bl history ≤ n
+last-bl-within n bl [] least all = least
+last-bl-within n bl (t ∷ txs) least all = last-bl-within n t.bl txs (all 0 t (omega arith)) (λ i d h. all (suc i) d (omega arith))
+
+-- what is so of lists is so of equal ones
+pub book-same : (P : Booked → Type 0) (a b : Booked) → a.transactions ≡ b.transactions → a.headers ≡ b.headers → a.alhs ≡ b.alhs → P b → P a
+book-same P a b transactions headers alhs p =
+    let A : List Transaction → Type 0 = λ txs. P (record { transactions = txs; headers = a.headers; alhs = a.alhs }) in
+    let B : List Header → Type 0 = λ hs. P (record { transactions = b.transactions; headers = hs; alhs = a.alhs }) in
+    let C : List (List ℕ) → Type 0 = λ ds. P (record { transactions = b.transactions; headers = b.headers; alhs = ds }) in
+    subst A (sym transactions) (subst B (sym headers) (subst C (sym alhs) p))
+
+-- the lists with those of one transaction more
+abbrev pub grown_by : Hash → Booked → Transaction → Booked
+grown_by hash book tx = record {
+  transactions = book.transactions ++ tx ∷ [];
+  headers = book.headers ++ next_header hash book.alhs tx ∷ [];
+  alhs = book.alhs ++ alh hash (next_header hash book.alhs tx) ∷ [];
+}
+
+-- a book grows by a transaction
+pub book-grown : (hash : Hash) (book : Booked) (tx : Transaction) → IsBook hash book → length book.transactions < 1048576 → IsTransaction (length book.transactions) tx → last_bl book.transactions ≤ tx.bl
+    → IsBook hash (grown_by hash book tx)
+book-grown hash book tx b room is over = record {
+  history = history-behind book.transactions tx b.history room is over;
+  headers = ap (λ (hs : List Header). hs ++ next_header hash book.alhs tx ∷ []) b.headers
+      ∙ ap (λ (ds : List (List ℕ)). headers_of hash book.transactions ++ next_header hash ds tx ∷ []) b.alhs
+      ∙ sym (headers-next hash book.transactions tx);
+  alhs = ap (λ (ds : List (List ℕ)). ds ++ alh hash (next_header hash ds tx) ∷ []) b.alhs ∙ sym (alhs-next hash book.transactions tx);
+}
+
+-- so does one whose lists grew by the transaction, its header and its Alh
+pub book-placed : (hash : Hash) (before after : Booked) (tx : Transaction) (header : Header) (digest : List ℕ) → IsBook hash before → length before.transactions < 1048576
+    → IsTransaction (length before.transactions) tx → last_bl before.transactions ≤ tx.bl → header ≡ next_header hash before.alhs tx → digest ≡ alh hash header
+    → after.transactions ≡ before.transactions ++ tx ∷ [] → after.headers ≡ before.headers ++ header ∷ [] → after.alhs ≡ before.alhs ++ digest ∷ [] → IsBook hash after
+book-placed hash before after tx header digest b room is over header_is digest_is transactions headers alhs =
+    book-same (IsBook hash) after (grown_by hash before tx) transactions
+    (headers ∙ ap (λ (x : Header). before.headers ++ x ∷ []) header_is)
+    (alhs ∙ ap (λ (x : List ℕ). before.alhs ++ x ∷ []) (digest_is ∙ ap (alh hash) header_is))
+    (book-grown hash before tx b room is over)
+
+-- there is a header for each transaction
+pub headers-counted : (hash : Hash) (book : Booked) → IsBook hash book → length book.headers ≡ length book.transactions
+headers-counted hash book b = ap length b.headers ∙ headers-length hash book.transactions
+
+-- and an Alh
+pub alhs-counted : (hash : Hash) (book : Booked) → IsBook hash book → length book.alhs ≡ length book.transactions
+alhs-counted hash book b = ap length b.alhs ∙ length-alhs_of hash book.transactions
+
+-- the header at place k - 1 is that of transaction k
+pub header-kept : (hash : Hash) (book : Booked) (k : ℕ) (default : Header) → IsBook hash book → 1 ≤ k → k ≤ length book.transactions
+    → get_or book.headers (k - 1) default ≡ header_of hash book.transactions k
+header-kept hash book k default b some within =
+    ap (λ (hs : List Header). get_or hs (k - 1) default) b.headers ∙ headers-nth hash book.transactions k default some within

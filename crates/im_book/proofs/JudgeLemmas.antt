@@ -1,0 +1,49 @@
+-- Preconditions that are judged one after the other.
+use Rattle.std.specs.Prelude.{Err, IfErr, IsErrAnd, Ok, Result}
+use Rattle.std.proofs.Common.{subst, ◌≡◌, ◌<◌, length, ℕ, ◌+◌, List, [], ◌∷◌, ◌++◌, take, drop, refl, ap, ◌∙◌, sym, inl, inr, get_or, Some, None, true, false, cond, nat_le}
+use Rattle.std.proofs.lemmas.Bool.{cases_Bool, leb-false}
+use Rattle.std.proofs.lemmas.List.{drop_more, take-append-drop}
+use Rattle.im_model.specs.declared.transactions.Transaction.{Transaction}
+use Rattle.im_draft.specs.declared.preconditions.Pre.{Pre}
+use Rattle.im_versions.specs.Admits.{first_refusal, holds, place_refusal, refusal_of}
+use Rattle.im_versions.specs.declared.refusals.PlaceError.TheVariants.{Full}
+
+-- where each of the first holds, the refusal is that of the others
+refusal-behind : (history : List Transaction) (first others : List Pre) → first_refusal history first ≡ None → first_refusal history (first ++ others) ≡ first_refusal history others
+refusal-behind history [] others none = refl
+refusal-behind history (pre ∷ pres) others none = elim (cases_Bool (holds history pre)) [
+  | inl held ↦ (
+      let rest : first_refusal history pres ≡ None = sym (ap (λ b. cond b (first_refusal history pres) (Some (refusal_of history pre))) held) ∙ none in
+      ap (λ b. cond b (first_refusal history (pres ++ others)) (Some (refusal_of history pre))) held ∙ refusal-behind history pres others rest)
+  | inr broken ↦ absurd (
+      let some : Some (refusal_of history pre) ≡ None = sym (ap (λ b. cond b (first_refusal history pres) (Some (refusal_of history pre))) broken) ∙ none in
+      cc)
+]
+
+-- one more holds
+pub held-more : (history : List Transaction) (pres : List Pre) (pre : Pre) → first_refusal history pres ≡ None → holds history pre ≡ true → first_refusal history (pres ++ pre ∷ []) ≡ None
+held-more history pres pre none held =
+    refusal-behind history pres (pre ∷ []) none ∙ ap (λ b. cond b None (Some (refusal_of history pre))) held
+
+-- the first that doesn't hold
+pub refused-at : (history : List Transaction) (pres : List Pre) (n : ℕ) (pre : Pre) → first_refusal history (take n pres) ≡ None → n < length pres → pre ≡ get_or pres n pre → holds history pre ≡ false
+    → first_refusal history pres ≡ Some (refusal_of history pre)
+refused-at history pres n pre none within is broken =
+    let later : List Pre = drop (n + 1) pres in
+    let own : drop n pres ≡ pre ∷ later = drop_more pres n pre within ∙ ap (λ (x : Pre). x ∷ later) (sym is) in
+    ap (first_refusal history) (sym (take-append-drop n pres)) ∙ refusal-behind history (take n pres) (drop n pres) none
+    ∙ ap (first_refusal history) own ∙ ap (λ b. cond b (first_refusal history later) (Some (refusal_of history pre))) broken
+
+-- preconditions are admitted only where there is room
+pub admitted-room : (history : List Transaction) (pres : List Pre) → place_refusal history pres ≡ None → length history < 1048576
+admitted-room history pres none = elim (cases_Bool (nat_le 1048576 (length history))) [
+  | inl full ↦ absurd (
+      let some : Some Full ≡ None = sym (ap (λ b. cond b (Some Full) (first_refusal history pres)) full) ∙ none in
+      cc)
+  | inr room ↦ leb-false 1048576 (length history) room
+]
+
+-- an error that is passed on
+pub if-err : {T E : Type 0} (P : E → Type 0) (r : Result T E) (x : E) → IsErrAnd r (λ e. e ≡ x) → P x → IfErr r P
+if-err P (Ok y) x h p = absurd h
+if-err P (Err e) x h p = subst P (sym h) p

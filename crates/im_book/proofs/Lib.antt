@@ -1,0 +1,4 @@
+pub mod BookLemmas
+pub mod JudgeLemmas
+pub mod LastLemmas
+pub mod RootLemmas

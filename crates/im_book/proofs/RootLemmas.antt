@@ -1,0 +1,53 @@
+-- The leaves of a tree that is raised, and its root.
+use Rattle.std.proofs.Common.{◌≡◌, ◌<◌, ◌≤◌, ◌+◌, ◌-◌, ◌==◌, ℕ, List, [], ◌∷◌, ◌++◌, zero, suc, length, take, drop, refl, arith, ap, subst, ◌∙◌, sym, get_or, if◌then◌else◌}
+use Rattle.std.proofs.Math.Seq.{take-length}
+use Rattle.std.proofs.lemmas.List.{drop-take, length-take-le, take-append-drop, take-append-le, take-take}
+use Rattle.im_digest.specs.Digests.{Hash}
+use Rattle.im_frontier.specs.Kept.{IsFrontier, Kept}
+use Rattle.im_model.specs.History.{bl_root_of, no_digest, Follow, IsHistory, IsTransaction}
+use Rattle.im_model.specs.Trees.{root}
+use Rattle.im_model.specs.declared.transactions.Transaction.{Transaction}
+use Rattle.im_model.proofs.HistoryLemmas.{Follow-item}
+use Rattle.im_book.specs.Booked.{last_bl, last_bl_or}
+
+-- the first of a list, and behind them those up to a higher number
+pub take-up : (ls : List (List ℕ)) (start end : ℕ) → start ≤ end → take start ls ++ take (end - start) (drop start ls) ≡ take end ls
+take-up ls start end up =
+    let whole : start + (end - start) ≡ end = omega arith in
+    let front : take start (take end ls) ≡ take start ls = take-take start end ls up in
+    let back : drop start (take end ls) ≡ take (end - start) (drop start ls) =
+    ap (λ (n : ℕ). drop start (take n ls)) (sym whole) ∙ drop-take start (end - start) ls in
+    ap (λ (l : List (List ℕ)). l ++ take (end - start) (drop start ls)) (sym front)
+    ∙ ap (λ (l : List (List ℕ)). take start (take end ls) ++ l) (sym back)
+    ∙ take-append-drop start (take end ls)
+
+-- the root over the first n leaves, told of them alone
+pub root-of-first : (hash : Hash) (leaves : List (List ℕ)) (n : ℕ) → n ≤ length leaves → bl_root_of hash (take n leaves) (length (take n leaves)) ≡ bl_root_of hash leaves n
+root-of-first hash leaves n within =
+    let first : List (List ℕ) = take n leaves in
+    ap (λ (ls : List (List ℕ)). if length first == 0 then no_digest else root hash ls) (take-length first)
+    ∙ ap (λ (m : ℕ). if m == 0 then no_digest else root hash first) (length-take-le n leaves within)
+
+-- the tree of a transaction is no smaller than that of the last one before it
+last-bl-at : (n bl : ℕ) (txs : List Transaction) (i : ℕ) (tx : Transaction) → Follow n bl txs → i < length txs → last_bl_or bl (take i txs) ≤ (get_or txs i tx).bl
+last-bl-at n bl [] i tx f h = absurd (omega arith)
+last-bl-at n bl (t ∷ txs) zero tx f h = f.1
+last-bl-at n bl (t ∷ txs) (suc i) tx f h = last-bl-at (n + 1) t.bl txs i tx f.2 (omega arith)
+
+-- the next transaction of a history fits behind those before it
+pub next-fits : (txs before : List Transaction) (tx : Transaction) → IsHistory txs → take (length before) txs ≡ before → length before < length txs → tx ≡ get_or txs (length before) tx
+    → IsTransaction (length before) tx × (last_bl before ≤ tx.bl)
+next-fits txs before tx h first within is =
+    let tree : last_bl (take (length before) txs) ≤ (get_or txs (length before) tx).bl = last-bl-at 0 0 txs (length before) tx h.follow within in
+    let P : List Transaction → Type 0 = λ b. last_bl b ≤ (get_or txs (length before) tx).bl in
+    let Q : Transaction → Type 0 = λ t. last_bl before ≤ t.bl in
+    (Follow-item txs (length before) (length before) tx h.follow within refl is, subst Q (sym is) (subst P first tree))
+
+-- what is kept of a tree stays so while an Alh comes behind them
+pub kept-behind : (hash : Hash) (alhs after : List (List ℕ)) (n : ℕ) (digest : List ℕ) (frontier : Kept) → n ≤ length alhs → IsFrontier hash (take n alhs) frontier → after ≡ alhs ++ digest ∷ []
+    → IsFrontier hash (take frontier.size after) frontier
+kept-behind hash alhs after n digest frontier within f grown =
+    let size : frontier.size ≡ n = f.counted ∙ length-take-le n alhs within in
+    let same : take n alhs ≡ take frontier.size after =
+    sym (take-append-le n alhs (digest ∷ []) within) ∙ ap (λ (l : List (List ℕ)). take n l) (sym grown) ∙ ap (λ (m : ℕ). take m after) (sym size) in
+    subst (λ (l : List (List ℕ)). IsFrontier hash l frontier) same f

@@ -1,0 +1,46 @@
+use Rattle.std.proofs.Common.{◌≡◌, ◌≤◌, ◌∙◌, ap, sym, subst, arith, ℕ, List, length, take}
+use Rattle.std.proofs.lemmas.List.{length-take-le}
+use Rattle.im_digest.specs.Digests.{Hash}
+use Rattle.im_frontier.specs.Kept.{IsFrontier}
+use Rattle.im_model.specs.declared.transactions.Transaction.{Transaction}
+use Rattle.im_book.specs.Booked.{last_bl}
+use Rattle.im_book.proofs.BookLemmas.{alhs-counted, last-bl-behind}
+use Rattle.im_book.proofs.RootLemmas.{kept-behind, root-of-first}
+use Rattle.im_book.proofs.book.Book.push_over.Goals as goal
+
+pub extend_to-requires-clause-within : goal.extend_to-requires-clause-within
+extend_to-requires-clause-within g c =
+    let count : length c.args.self.now.alhs ≡ length c.args.self.now.transactions = alhs-counted (g.H.Hash32.digest c.args.hash.now) c.args.self.now c.requires.book in
+    omega (arith, ap length c.alhs.ensures, c.requires.limits.linked)
+
+pub header_for-requires-clause-root : goal.header_for-requires-clause-root
+header_for-requires-clause-root g c =
+    let hash : Hash = g.H.Hash32.digest c.args.hash.now in
+    let bl : ℕ = c.args.tx.bl in
+    let alhs : List (List ℕ) = c.args.self.now.alhs in
+    let count : length alhs ≡ length c.args.self.now.transactions = alhs-counted hash c.args.self.now c.requires.book in
+    let within : bl ≤ length alhs = omega (arith, c.requires.limits.linked) in
+    let kept : IsFrontier hash (take bl alhs) c.extend_to.new.frontier =
+    subst (λ (ds : List (List ℕ)). IsFrontier hash (take bl ds) c.extend_to.new.frontier) c.alhs.ensures c.extend_to.ensures in
+    c.root_of-top.ensures (take bl alhs) kept ∙ root-of-first hash alhs bl within
+
+pub returns-clause-kept : goal.returns-clause-kept
+returns-clause-kept g c =
+    let hash : Hash = g.H.Hash32.digest c.args.hash.now in
+    let bl : ℕ = c.args.tx.bl in
+    let alhs : List (List ℕ) = c.args.self.now.alhs in
+    let count : length alhs ≡ length c.args.self.now.transactions = alhs-counted hash c.args.self.now c.requires.book in
+    let within : bl ≤ length alhs = omega (arith, c.requires.limits.linked) in
+    let kept : IsFrontier hash (take bl alhs) c.extend_to.new.frontier =
+    subst (λ (ds : List (List ℕ)). IsFrontier hash (take bl ds) c.extend_to.new.frontier) c.alhs.ensures c.extend_to.ensures in
+    kept-behind hash alhs c.push.new.self.alhs bl c.alh-digest.result c.extend_to.new.frontier within kept c.in_ok-push.ensures.alhs
+
+pub returns-clause-last : goal.returns-clause-last
+returns-clause-last g c =
+    let hash : Hash = g.H.Hash32.digest c.args.hash.now in
+    let bl : ℕ = c.args.tx.bl in
+    let alhs : List (List ℕ) = c.alhs.result.now in
+    let count : length c.args.self.now.alhs ≡ length c.args.self.now.transactions = alhs-counted hash c.args.self.now c.requires.book in
+    let within : bl ≤ length alhs = omega (arith, ap length c.alhs.ensures, c.requires.limits.linked) in
+    c.extend_to.ensures.counted ∙ length-take-le bl alhs within
+    ∙ sym (ap (λ (txs : List Transaction). last_bl txs) c.in_ok-push.ensures.grown ∙ last-bl-behind 0 c.args.self.now.transactions c.args.tx)

@@ -1,0 +1,11 @@
+use Rattle.im_book.proofs.BookLemmas.{history-behind, last-bl-behind}
+use Rattle.im_book.proofs.JudgeLemmas.{admitted-room}
+use Rattle.im_book.proofs.laws.placed_is_a_history.Goals as goal
+
+pub returns-clause-history : goal.returns-clause-history
+returns-clause-history c history asked ts bl is fine admitted over within timed =
+    history-behind history (record { ts = ts; entries = asked.entries; bl = bl }) is (admitted-room history asked.pres admitted)
+    (record { some = fine.some; few = fine.few; entries = fine.each; distinct = fine.distinct; linked = within; timed = timed }) over
+
+pub returns-clause-last : goal.returns-clause-last
+returns-clause-last c history tx = last-bl-behind 0 history tx

@@ -1,0 +1,251 @@
+use crate::headers::header_over;
+use crate::judging::judge_each;
+use crate::roots::{extend_to, root_of};
+use im_digest::{D32, Hash32};
+use im_draft::preconditions::Pres;
+use im_frontier::frontiers::Frontier;
+use im_header::alh;
+use im_model::headers::Header;
+use im_model::transactions::Transaction;
+use im_tx::prepared::Prepared;
+use im_versions::refusals::PlaceError;
+use std::alloc::{AllocError, Global};
+use std::marker::Model;
+
+// The most transactions that a history may hold.
+const MOST: usize = 1_048_576;
+
+/// Placed transactions, with the header and the Alh of each. A clause sees the three lists.
+#[derive(Drop)]
+pub struct Book {
+    transactions: Vec<Transaction>,
+    headers: Vec<Header>,
+    alhs: Vec<D32>,
+}
+
+impl Model for Book {
+    ghost use Rattle.im_book.specs.Booked.{Booked};
+
+    ghost Value = { Booked };
+
+    ghost view = { λ s. record { transactions = s.transactions.items; headers = s.headers.items; alhs = s.alhs.items } };
+}
+
+impl Book {
+    ghost use Rattle.std.specs.Prelude.{◌≡◌, ◌+◌, ◌<◌, ◌≤◌, ◌⊎◌, [], ◌∷◌, ◌++◌, length, take, IfErr, IfOk, None, OnErr, OnOk, Some};
+    ghost use Rattle.im_digest.specs.Digests.{Hash};
+    ghost use Rattle.im_frontier.specs.Kept.{IsFrontier};
+    ghost use Rattle.im_model.specs.Headers.{alh};
+    ghost use Rattle.im_model.specs.History.{bl_root_of, header_of, next_header, transaction_of, IsHistory, IsTransaction};
+    ghost use Rattle.im_versions.specs.Admits.{place_refusal};
+    ghost use Rattle.im_book.specs.Booked.{last_bl, IsBook};
+
+    /// The book of the empty history. It takes no memory.
+    pub fn empty(alloc: Global) -> Self
+        ensures book { (hash : Hash) → IsBook hash result }
+        ensures transactions { result.transactions ≡ [] }
+    {
+        Book {
+            transactions: Vec::new(alloc),
+            headers: Vec::new(alloc),
+            alhs: Vec::new(alloc),
+        }
+    }
+
+    /// The book of a history, whose headers it computes, each over the root of the tree that its transaction
+    /// was placed over. It hashes each entry, value, header and leaf once. Its only error is want of memory.
+    pub fn new<H: Hash32>(
+        alloc: Global,
+        hash: &H,
+        transactions: Vec<Transaction>,
+    ) -> Result<Self, AllocError>
+        requires { IsHistory transactions.items }
+        ensures transactions { IfOk result (λ book. book.transactions ≡ transactions.items) }
+        ensures book { IfOk result (IsBook (H.digest hash.now)) }
+    {
+        let mut book = Book::empty(alloc);
+        let mut frontier = Frontier::new();
+        for tx in transactions {
+            book.push_over(alloc, hash, &mut frontier, tx)?;
+        }
+        Ok(book)
+    }
+
+    /// The book of these transactions, the header of each, and the Alh of each, 32 octets. They aren't copied,
+    /// and nothing is hashed.
+    pub fn of(transactions: Vec<Transaction>, headers: Vec<Header>, alhs: Vec<D32>) -> Self
+        ensures { result ≡ record { transactions = transactions.items; headers = headers.items; alhs = alhs.items } }
+    {
+        Book {
+            transactions,
+            headers,
+            alhs,
+        }
+    }
+
+    /// The number of transactions.
+    pub fn len(&self) -> u64
+        ensures { result ≡ length self.now.transactions }
+    {
+        self.transactions.len() as u64
+    }
+
+    /// Lends the transactions, transaction k at place k - 1.
+    pub fn transactions(&self) -> &[Transaction]
+        ensures { result.now ≡ self.now.transactions }
+    {
+        self.transactions.as_slice()
+    }
+
+    /// Lends transaction k, from 1.
+    pub fn tx(&self, k: u64) -> &Transaction
+        requires first { 1 ≤ k }
+        requires last { k ≤ length self.now.transactions }
+        ensures { result.now ≡ transaction_of self.now.transactions k }
+    {
+        &self.transactions[k as usize - 1]
+    }
+
+    /// Lends the header of transaction k, from 1.
+    pub fn header(&self, k: u64) -> &Header
+        requires book { (hash : Hash) × IsBook hash self.now }
+        requires first { 1 ≤ k }
+        requires last { k ≤ length self.now.transactions }
+        ensures { (hash : Hash) → IsBook hash self.now → result.now ≡ header_of hash self.now.transactions k }
+    {
+        &self.headers[k as usize - 1]
+    }
+
+    /// Lends the headers, that of transaction k at place k - 1.
+    pub fn headers(&self) -> &[Header]
+        ensures { result.now ≡ self.now.headers }
+    {
+        self.headers.as_slice()
+    }
+
+    /// Lends the Alh, that of transaction k at place k - 1.
+    pub fn alhs(&self) -> &[D32]
+        ensures { result.now ≡ self.now.alhs }
+    {
+        self.alhs.as_slice()
+    }
+
+    /// Judges preconditions against all placed transactions. It takes no memory. It costs, for each
+    /// precondition, a look at the entries from the last one back to the first of its key.
+    ///
+    /// # Errors
+    ///
+    /// `Full` first; else the refusal of the first precondition that doesn't hold, in the order given.
+    pub fn judge(&self, pres: Pres) -> Result<(), PlaceError>
+        ensures admitted { OnOk result (place_refusal self.now.transactions pres ≡ None) }
+        ensures refused { IfErr result (λ why. place_refusal self.now.transactions pres ≡ Some why) }
+        ensures room { OnOk result (length self.now.transactions < 1048576) }
+    {
+        if self.transactions.len() >= MOST {
+            return Err(PlaceError::Full);
+        }
+        judge_each(self.transactions.as_slice(), pres)
+    }
+
+    /// The header that a transaction has behind the others, over a tree of this root. It hashes the entries,
+    /// and nothing of the tree. Its only error is want of memory.
+    pub fn header_for<H: Hash32>(
+        &self,
+        alloc: Global,
+        hash: &H,
+        tx: &Transaction,
+        root: D32,
+    ) -> Result<Header, AllocError>
+        requires book { IsBook (H.digest hash.now) self.now }
+        requires room { length self.now.transactions < 1048576 }
+        requires limits { IsTransaction (length self.now.transactions) tx.now }
+        requires root { root ≡ bl_root_of (H.digest hash.now) self.now.alhs tx.now.bl }
+        ensures { IfOk result (λ header. header ≡ next_header (H.digest hash.now) self.now.alhs tx.now) }
+    {
+        header_over(alloc, hash, self.alhs.as_slice(), root, tx)
+    }
+
+    /// Takes a transaction behind the others, with its header and its Alh. It hashes nothing. Its only error is
+    /// want of memory.
+    pub fn push(&mut self, tx: Transaction, header: Header, digest: D32) -> Result<(), AllocError>
+        ensures grown { OnOk result (self.new.transactions ≡ self.old.transactions ++ tx ∷ []) }
+        ensures headers { OnOk result (self.new.headers ≡ self.old.headers ++ header ∷ []) }
+        ensures alhs { OnOk result (self.new.alhs ≡ self.old.alhs ++ digest ∷ []) }
+        ensures book { (hash : Hash) → IsBook hash self.old → length self.old.transactions < 1048576 → IsTransaction (length self.old.transactions) tx
+            → last_bl self.old.transactions ≤ tx.bl → header ≡ next_header hash self.old.alhs tx → digest ≡ alh hash header → OnOk result (IsBook hash self.new) }
+        ensures left { OnErr result (self.new ≡ self.old) }
+    {
+        self.transactions.reserve(1)?;
+        self.headers.reserve(1)?;
+        self.alhs.reserve(1)?;
+        self.transactions.push_reserved(tx);
+        self.headers.push_reserved(header);
+        self.alhs.push_reserved(digest);
+        Ok(())
+    }
+
+    // Takes a transaction behind the others, with the header and the Alh that it has over its tree. What is kept
+    // of the last tree is brought up to that one.
+    fn push_over<H: Hash32>(
+        &mut self,
+        alloc: Global,
+        hash: &H,
+        frontier: &mut Frontier,
+        tx: Transaction,
+    ) -> Result<(), AllocError>
+        requires book { IsBook (H.digest hash.now) self.old }
+        requires room { length self.old.transactions < 1048576 }
+        requires limits { IsTransaction (length self.old.transactions) tx }
+        requires over { last_bl self.old.transactions ≤ tx.bl }
+        requires kept { IsFrontier (H.digest hash.now) (take frontier.old.size self.old.alhs) frontier.old }
+        requires last { frontier.old.size ≡ last_bl self.old.transactions }
+        ensures grown { OnOk result (self.new.transactions ≡ self.old.transactions ++ tx ∷ []) }
+        ensures book { OnOk result (IsBook (H.digest hash.now) self.new) }
+        ensures kept { OnOk result (IsFrontier (H.digest hash.now) (take frontier.new.size self.new.alhs) frontier.new) }
+        ensures last { OnOk result (frontier.new.size ≡ last_bl self.new.transactions) }
+    {
+        extend_to(hash, frontier, self.alhs(), tx.bl as usize);
+        let top = root_of(hash, frontier);
+        let next = self.header_for(alloc, hash, &tx, top)?;
+        let digest = alh(hash, &next);
+        self.push(tx, next, digest)?;
+        Ok(())
+    }
+
+    /// Places a transaction of the prepared entries behind the others, where the limit isn't reached and the
+    /// preconditions hold. It gives its header. `ts` is in Unix seconds, `bl` the size of the tree that the
+    /// transaction stands over, and `root` the root of that tree, 32 zeros where it is empty. It hashes the
+    /// entries and the header, once.
+    ///
+    /// # Errors
+    ///
+    /// What `judge` answers, and `Memory`. After an error the book is as it was.
+    pub fn place<H: Hash32>(
+        &mut self,
+        alloc: Global,
+        hash: &H,
+        prepared: Prepared,
+        ts: i64,
+        bl: u64,
+        root: D32,
+    ) -> Result<Header, PlaceError>
+        requires book { IsBook (H.digest hash.now) self.old }
+        requires over { (last_bl self.old.transactions ≤ bl) × (bl ≤ length self.old.transactions) }
+        requires root { root ≡ bl_root_of (H.digest hash.now) self.old.alhs bl }
+        ensures admitted { OnOk result (place_refusal self.old.transactions prepared.pres ≡ None) }
+        ensures placed { OnOk result (self.new.transactions ≡ self.old.transactions ++ record { ts = ts; entries = prepared.entries; bl = bl } ∷ []) }
+        ensures header { IfOk result (λ header. header ≡ header_of (H.digest hash.now) self.new.transactions (length self.new.transactions)) }
+        ensures book { OnOk result (IsBook (H.digest hash.now) self.new) }
+        ensures refused { IfErr result (λ why. (why ≡ PlaceError.Memory) ⊎ (place_refusal self.old.transactions prepared.pres ≡ Some why)) }
+        ensures left { OnErr result (self.new ≡ self.old) }
+    {
+        let (entries, pres) = prepared.into_parts();
+        self.judge(pres)?;
+        let tx = Transaction { ts, entries, bl };
+        let header = self.header_for(alloc, hash, &tx, root)?;
+        let shown = header.try_clone(alloc)?;
+        let digest = alh(hash, &header);
+        self.push(tx, header, digest)?;
+        Ok(shown)
+    }
+}

@@ -1,0 +1,12 @@
+//! The book of a history: its transactions with the header and the Alh of each, in memory, and what is
+//! placed next under preconditions.
+#![tactic(auto)]
+
+pub mod book;
+mod headers;
+mod judging;
+mod last;
+pub mod laws;
+pub mod roots;
+#[cfg(test)]
+mod tests;
