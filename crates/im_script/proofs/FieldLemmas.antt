@@ -1,17 +1,18 @@
 -- Fields, and where a text is none.
-use Rattle.std.proofs.Common.{◌≡◌, ℕ, List, ◌∷◌, ◌++◌, true, false, Ok, codes, inl, inr, refl, subst, sym, ap, ap₂, ◌∙◌}
+use Rattle.std.proofs.Common.{◌≡◌, ◌⊎◌, ◌==◌, not, ℕ, List, [], ◌∷◌, ◌++◌, true, false, Ok, codes, inl, inr, refl, subst, sym, ap, ap₂, ◌∙◌}
 use Rattle.std.proofs.lemmas.Bool.{and_parts, and_from, both_ways}
 use Rattle.std.proofs.lemmas.List.Sums.{list_all-from_AllPass}
 use Rattle.std.specs.List.{list_all}
 use Rattle.hex.specs.Hex.{is_hex_digit, decode_of}
 use Rattle.hex.proofs.HexLemmas.{decode_of-ok, decode_of-same}
 use Rattle.im_cuts.specs.Cuts.{Lacks, IsCut}
-use Rattle.im_cuts.proofs.CutLemmas.{Lacks-of, Lacks-append, Lacks-mark, append-same, cut-unique}
+use Rattle.im_cuts.proofs.CutLemmas.{Lacks-of, Lacks-append, Lacks-mark, append-same, cut-unique, head-is, heads-differ}
 use Rattle.im_cuts.proofs.WordLemmas.{Lacks-word}
+use Rattle.im_draft.specs.Drafts.{no_attributes}
 use Rattle.im_draft.specs.declared.drafts.Attrs.{Attrs}
 use Rattle.im_draft.specs.declared.drafts.Draft.{Draft}
 use Rattle.im_talk.specs.Fields.{is_bare, is_bare_octet, is_session_octet, IsSession, IsOctets}
-use Rattle.im_script.specs.Script.{IsField}
+use Rattle.im_script.specs.Script.{hidden, IsField, IsMark}
 
 bare-each : (text : List ℕ) → is_bare text ≡ true → list_all is_bare_octet text ≡ true
 unfolding is_bare
@@ -41,6 +42,10 @@ octets-lack-equals text octets h = octets-lack 61 text octets refl refl refl h
 pub octets-lack-space : (text octets : List ℕ) → IsOctets text octets → Lacks 32 text
 octets-lack-space text octets h = octets-lack 32 text octets refl refl refl h
 
+-- the text of octets has no at sign
+pub octets-lack-at : (text octets : List ℕ) → IsOctets text octets → Lacks 64 text
+octets-lack-at text octets h = octets-lack 64 text octets refl refl refl h
+
 -- a text says one octet string at most
 pub octets-unique : (text a b : List ℕ) → IsOctets text a → IsOctets text b → a ≡ b
 octets-unique text a b (inl x) (inl y) = x.1 ∙ sym y.1
@@ -50,28 +55,83 @@ octets-unique text a b (inr x) (inr y) =
     let same = append-same (codes "0x") y.0 x.0 (sym y.1 ∙ x.1) in
     decode_of-same x.0 a b x.2 (subst (λ (t : List ℕ). decode_of t ≡ Ok b) same y.2)
 
+mark-lacks : (o : ℕ) (mark : List ℕ) (attrs : Attrs) → Lacks o (codes "~") → IsMark mark attrs → Lacks o mark
+mark-lacks o mark attrs tilde (inl h) = subst (λ (t : List ℕ). Lacks o t) (sym h.0) refl
+mark-lacks o mark attrs tilde (inr h) = subst (λ (t : List ℕ). Lacks o t) (sym h.0) tilde
+
+field-lack : (o : ℕ) (text : List ℕ) (draft : Draft) → is_bare_octet o ≡ false → is_hex_digit o ≡ false → Lacks o (codes "0x") → Lacks o (codes "~") → not (61 == o) ≡ true → IsField text draft → Lacks o text
+field-lack o text draft bare hex zero tilde equals (mark, key, value, e, m, k, v) =
+    let behind = and_from _ _ equals (octets-lack o value draft.value bare hex zero v) in
+    let front = Lacks-append o mark key (mark-lacks o mark draft.attrs tilde m) (octets-lack o key draft.key bare hex zero k) in
+    subst (λ (t : List ℕ). Lacks o t) (sym e) (Lacks-append o (mark ++ key) (61 ∷ value) front behind)
+
 -- a field's text has no space
 pub field-lacks : (text : List ℕ) (draft : Draft) → IsField text draft → Lacks 32 text
-field-lacks text draft h =
-    let value = and_from _ _ refl (octets-lack-space h.1 draft.value h.4) in
-    subst (λ (t : List ℕ). Lacks 32 t) (sym h.2) (Lacks-append 32 h.0 (61 ∷ h.1) (octets-lack-space h.0 draft.key h.3) value)
+field-lacks text draft h = field-lack 32 text draft refl refl refl refl refl h
 
-field-parts : (text front back : List ℕ) (draft : Draft) → IsCut 61 text front back → (h : IsField text draft) → (h.0 ≡ front) × (h.1 ≡ back)
-field-parts text front back draft cut h = cut-unique 61 h.0 front h.1 back (octets-lack-equals h.0 draft.key h.3) cut.0 (sym h.2 ∙ cut.1)
+-- a field's text has no colon
+pub field-lacks-colon : (text : List ℕ) (draft : Draft) → IsField text draft → Lacks 58 text
+field-lacks-colon text draft h = field-lack 58 text draft refl refl refl refl refl h
 
--- a text without `=` is no field
-pub field-no-cut : (text : List ℕ) → Lacks 61 text → (draft : Draft) → IsField text draft → ⊥
-field-no-cut text l draft h = Lacks-mark 61 h.0 h.1 (subst (λ (t : List ℕ). Lacks 61 t) h.2 l)
+-- a text is cut behind its mark, where it has one
+abbrev pub IsMarkCut : List ℕ → List ℕ → Attrs → Type 0
+IsMarkCut text entry attrs =
+    ((text ≡ 126 ∷ entry) × (attrs ≡ hidden))
+    ⊎ (((more : List ℕ) → text ≡ 126 ∷ more → ⊥) × (text ≡ entry) × (attrs ≡ no_attributes))
 
--- a text is no field where no octets stand before the first `=`
-pub field-bad-key : (text front back : List ℕ) → IsCut 61 text front back → ((o : List ℕ) → IsOctets front o → ⊥) → (draft : Draft) → IsField text draft → ⊥
-field-bad-key text front back cut none draft h =
-    none draft.key (subst (λ (t : List ℕ). IsOctets t draft.key) (field-parts text front back draft cut h).0 h.3)
+no-tilde : (key value more : List ℕ) → Lacks 126 key → 126 ∷ more ≡ key ++ 61 ∷ value → ⊥
+no-tilde [] value more lacks e = heads-differ 126 61 more value refl e
+no-tilde (o ∷ key) value more lacks e =
+    Lacks-mark 126 [] key (subst (λ (p : ℕ). Lacks 126 (p ∷ key)) (sym (head-is 126 o more (key ++ 61 ∷ value) e).0) lacks)
+
+key-no-tilde : (text key value octets : List ℕ) → text ≡ key ++ 61 ∷ value → IsOctets key octets → (more : List ℕ) → text ≡ 126 ∷ more → ⊥
+key-no-tilde text key value octets e k more begins = no-tilde key value more (octets-lack 126 key octets refl refl refl k) (sym begins ∙ e)
+
+-- a field's key and value stand behind its mark
+mark-parts : (text entry : List ℕ) (attrs : Attrs) (draft : Draft) → IsMarkCut text entry attrs → (h : IsField text draft) → (draft.attrs ≡ attrs) × (entry ≡ h.1 ++ 61 ∷ h.2)
+mark-parts text entry attrs draft (inl c) (mark, key, value, e, inl m, k, v) =
+    let plain = e ∙ ap (λ (t : List ℕ). t ++ key ++ 61 ∷ value) m.0 in
+    absurd (key-no-tilde text key value draft.key plain k entry c.0)
+mark-parts text entry attrs draft (inl c) (mark, key, value, e, inr m, k, v) =
+    let whole = e ∙ ap (λ (t : List ℕ). t ++ key ++ 61 ∷ value) m.0 in
+    (m.1 ∙ sym c.1, (head-is 126 126 entry (key ++ 61 ∷ value) (sym c.0 ∙ whole)).1)
+mark-parts text entry attrs draft (inr c) (mark, key, value, e, inl m, k, v) =
+    let plain = e ∙ ap (λ (t : List ℕ). t ++ key ++ 61 ∷ value) m.0 in
+    (m.1 ∙ sym c.2, sym c.1 ∙ plain)
+mark-parts text entry attrs draft (inr c) (mark, key, value, e, inr m, k, v) =
+    absurd (c.0 (key ++ 61 ∷ value) (e ∙ ap (λ (t : List ℕ). t ++ key ++ 61 ∷ value) m.0))
+
+field-mark : (text : List ℕ) (draft : Draft) → (h : IsField text draft) → IsMarkCut text (h.1 ++ 61 ∷ h.2) draft.attrs
+field-mark text draft (mark, key, value, e, inl m, k, v) =
+    let plain = e ∙ ap (λ (t : List ℕ). t ++ key ++ 61 ∷ value) m.0 in
+    inr (key-no-tilde text key value draft.key plain k, plain, m.1)
+field-mark text draft (mark, key, value, e, inr m, k, v) =
+    inl (e ∙ ap (λ (t : List ℕ). t ++ key ++ 61 ∷ value) m.0, m.1)
+
+field-parts : (text entry front back : List ℕ) (attrs : Attrs) (draft : Draft) → IsMarkCut text entry attrs → IsCut 61 entry front back → (h : IsField text draft) → (h.1 ≡ front) × (h.2 ≡ back)
+field-parts text entry front back attrs draft mark cut h =
+    cut-unique 61 h.1 front h.2 back (octets-lack-equals h.1 draft.key h.5) cut.0 (sym (mark-parts text entry attrs draft mark h).1 ∙ cut.1)
+
+-- a field by its parts
+pub field-of : (text entry front back key value : List ℕ) (attrs : Attrs) → IsMarkCut text entry attrs → IsCut 61 entry front back → IsOctets front key → IsOctets back value → IsField text (record { attrs = attrs; key = key; value = value })
+field-of text entry front back key value attrs (inl c) cut k v =
+    (codes "~", front, back, c.0 ∙ ap (λ (t : List ℕ). 126 ∷ t) cut.1, inr (refl, c.1), k, v)
+field-of text entry front back key value attrs (inr c) cut k v = ([], front, back, c.1 ∙ cut.1, inl (refl, c.2), k, v)
+
+-- a text without `=` behind its mark is no field
+pub field-no-cut : (text entry : List ℕ) (attrs : Attrs) → IsMarkCut text entry attrs → Lacks 61 entry → (draft : Draft) → IsField text draft → ⊥
+field-no-cut text entry attrs mark lacks draft h =
+    Lacks-mark 61 h.1 h.2 (subst (λ (t : List ℕ). Lacks 61 t) (mark-parts text entry attrs draft mark h).1 lacks)
+
+-- a text is no field where no octets stand between its mark and the first `=`
+pub field-bad-key : (text entry front back : List ℕ) (attrs : Attrs) → IsMarkCut text entry attrs → IsCut 61 entry front back → ((o : List ℕ) → IsOctets front o → ⊥) → (draft : Draft) → IsField text draft → ⊥
+field-bad-key text entry front back attrs mark cut none draft h =
+    none draft.key (subst (λ (t : List ℕ). IsOctets t draft.key) (field-parts text entry front back attrs draft mark cut h).0 h.5)
 
 -- a text is no field where no octets stand behind the first `=`
-pub field-bad-value : (text front back : List ℕ) → IsCut 61 text front back → ((o : List ℕ) → IsOctets back o → ⊥) → (draft : Draft) → IsField text draft → ⊥
-field-bad-value text front back cut none draft h =
-    none draft.value (subst (λ (t : List ℕ). IsOctets t draft.value) (field-parts text front back draft cut h).1 h.4)
+pub field-bad-value : (text entry front back : List ℕ) (attrs : Attrs) → IsMarkCut text entry attrs → IsCut 61 entry front back → ((o : List ℕ) → IsOctets back o → ⊥) → (draft : Draft) → IsField text draft → ⊥
+field-bad-value text entry front back attrs mark cut none draft h =
+    none draft.value (subst (λ (t : List ℕ). IsOctets t draft.value) (field-parts text entry front back attrs draft mark cut h).1 h.6)
 
 same-draft : (a b : Draft) → a.attrs ≡ b.attrs → a.key ≡ b.key → a.value ≡ b.value → a ≡ b
 same-draft a b attrs key value =
@@ -81,7 +141,9 @@ same-draft a b attrs key value =
 -- a text is one field at most
 pub field-unique : (text : List ℕ) (a b : Draft) → IsField text a → IsField text b → a ≡ b
 field-unique text a b x y =
-    let e = field-parts text y.0 y.1 a (octets-lack-equals y.0 b.key y.3, y.2) x in
-    same-draft a b (x.5 ∙ sym y.5)
-    (octets-unique y.0 a.key b.key (subst (λ (t : List ℕ). IsOctets t a.key) e.0 x.3) y.3)
-    (octets-unique y.1 a.value b.value (subst (λ (t : List ℕ). IsOctets t a.value) e.1 x.4) y.4)
+    let mark = field-mark text b y in
+    let cut : IsCut 61 (y.1 ++ 61 ∷ y.2) y.1 y.2 = (octets-lack-equals y.1 b.key y.5, refl) in
+    let e = field-parts text (y.1 ++ 61 ∷ y.2) y.1 y.2 b.attrs a mark cut x in
+    same-draft a b (mark-parts text (y.1 ++ 61 ∷ y.2) b.attrs a mark x).0
+    (octets-unique y.1 a.key b.key (subst (λ (t : List ℕ). IsOctets t a.key) e.0 x.5) y.5)
+    (octets-unique y.2 a.value b.value (subst (λ (t : List ℕ). IsOctets t a.value) e.1 x.6) y.6)

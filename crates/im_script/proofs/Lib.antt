@@ -1,6 +1,9 @@
 pub mod FieldLemmas
+pub mod PreLemmas
 pub mod SetLemmas
+pub mod AskedLemmas
 pub mod NumberLemmas
+pub mod LookupLemmas
 pub mod CommandLemmas
 pub mod LineLemmas
 pub mod Unique

@@ -6,7 +6,7 @@ use Rattle.im_cuts.specs.Finds.{Finds}
 use Rattle.im_cuts.specs.Words.{IsNumber}
 use Rattle.im_cuts.proofs.CutLemmas.{append-same, cut-unique}
 use Rattle.im_cuts.proofs.WordLemmas.{Lacks-word, number-unique}
-use Rattle.im_script.specs.Script.{AreNumbers, IsUnder, IsItem}
+use Rattle.im_script.specs.Script.{AreNumbers, IsAt, IsItem}
 use Rattle.im_script.specs.declared.commands.Command.{Command}
 use Rattle.im_script.specs.Arguments.{IsFieldEnd, IsFirstField, IsIndex, IsItemCommand}
 use Rattle.im_script.proofs.SetLemmas.{first-unique}
@@ -38,37 +38,38 @@ numbers-unique text m n k l x y =
     let parts = numbers-cut text y.0 y.1 m n (number-lacks y.0 k y.3, y.2) x in
     (number-unique y.0 m k parts.0 y.3, number-unique y.1 n l parts.1 y.4)
 
-under-end : (text : List ℕ) (under : Option ℕ) → IsUnder text under → IsFieldEnd text
-under-end text None h = inl h
-under-end text (Some n) h = inr (64 ∷ h.0, h.1)
+-- what names a transaction ends a field
+pub at-end : (text : List ℕ) (under : Option ℕ) → IsAt text under → IsFieldEnd text
+at-end text None h = inl h
+at-end text (Some n) h = inr (64 ∷ h.0, h.1)
 
 no-mark : (digits : List ℕ) → [] ≡ codes " @" ++ digits → ⊥
 no-mark digits e = cc
 
--- a text says one state at most
-under-unique : (text : List ℕ) (a b : Option ℕ) → IsUnder text a → IsUnder text b → a ≡ b
-under-unique text None None x y = refl
-under-unique text None (Some n) x y = absurd (no-mark y.0 (sym x ∙ y.1))
-under-unique text (Some m) None x y = absurd (no-mark x.0 (sym y ∙ x.1))
-under-unique text (Some m) (Some n) x y =
+-- a text names one transaction at most
+pub at-unique : (text : List ℕ) (a b : Option ℕ) → IsAt text a → IsAt text b → a ≡ b
+at-unique text None None x y = refl
+at-unique text None (Some n) x y = absurd (no-mark y.0 (sym x ∙ y.1))
+at-unique text (Some m) None x y = absurd (no-mark x.0 (sym y ∙ x.1))
+at-unique text (Some m) (Some n) x y =
     let same = append-same (codes " @") x.0 y.0 (sym x.1 ∙ y.1) in
     ap Some (number-unique y.0 m n (subst (λ (t : List ℕ). IsNumber t m) same x.2) y.2)
 
 -- an item's text by its three parts
-pub item-of : (text front tail second mark : List ℕ) (number index : ℕ) (under : Option ℕ) → IsCut 32 text front tail → IsFirstField tail second mark → IsNumber front number → IsIndex second index → IsUnder mark under → IsItem text number index under
+pub item-of : (text front tail second mark : List ℕ) (number index : ℕ) (under : Option ℕ) → IsCut 32 text front tail → IsFirstField tail second mark → IsNumber front number → IsIndex second index → IsAt mark under → IsItem text number index under
 item-of text front tail second mark number index under cut first n i u =
     let e = cut.1 ∙ ap (λ (t : List ℕ). front ++ 32 ∷ t) first.1 ∙ sym (append_assoc front (32 ∷ second) mark) in
     (front ++ 32 ∷ second, mark, e, (front, second, refl, n, i.0), i.1, u)
 
 -- an item's parts are those at the first two spaces
-item-parts : (text front tail second mark : List ℕ) (number index : ℕ) (under : Option ℕ) → IsCut 32 text front tail → IsFirstField tail second mark → IsItem text number index under → IsNumber front number × IsIndex second index × IsUnder mark under
+item-parts : (text front tail second mark : List ℕ) (number index : ℕ) (under : Option ℕ) → IsCut 32 text front tail → IsFirstField tail second mark → IsItem text number index under → IsNumber front number × IsIndex second index × IsAt mark under
 item-parts text front tail second mark number index under cut first (numbers, end, e, (a, b, n, ha, hb), small, u) =
     let whole : text ≡ a ++ 32 ∷ (b ++ end) = e ∙ ap (λ (t : List ℕ). t ++ end) n ∙ append_assoc a (32 ∷ b) end in
     let fronts = cut-unique 32 a front (b ++ end) tail (number-lacks a number ha) cut.0 (sym whole ∙ cut.1) in
-    let backs = first-unique b second end mark (number-lacks b index hb) first.0 (under-end end under u) first.2 (fronts.1 ∙ first.1) in (
+    let backs = first-unique b second end mark (number-lacks b index hb) first.0 (at-end end under u) first.2 (fronts.1 ∙ first.1) in (
       subst (λ (t : List ℕ). IsNumber t number) fronts.0 ha,
       (subst (λ (t : List ℕ). IsNumber t index) backs.0 hb, small),
-      subst (λ (t : List ℕ). IsUnder t under) backs.1 u,
+      subst (λ (t : List ℕ). IsAt t under) backs.1 u,
     )
 
 -- a text is no item where no number stands before the first space
@@ -80,12 +81,12 @@ pub item-bad-index : (text front tail second mark : List ℕ) → IsCut 32 text 
 item-bad-index text front tail second mark cut first none c (n, i, u, e, h) = none i (item-parts text front tail second mark n i u cut first h).1
 
 -- a text is no item where no state stands from the second space on
-pub item-bad-under : (text front tail second mark : List ℕ) → IsCut 32 text front tail → IsFirstField tail second mark → ((u : Option ℕ) → IsUnder mark u → ⊥) → (c : Command) → IsItemCommand text c → ⊥
+pub item-bad-under : (text front tail second mark : List ℕ) → IsCut 32 text front tail → IsFirstField tail second mark → ((u : Option ℕ) → IsAt mark u → ⊥) → (c : Command) → IsItemCommand text c → ⊥
 item-bad-under text front tail second mark cut first none c (n, i, u, e, h) = none u (item-parts text front tail second mark n i u cut first h).2
 
 -- a text says one item at most
 pub item-unique : (text : List ℕ) (m i n j : ℕ) (u v : Option ℕ) → IsItem text m i u → IsItem text n j v → (m ≡ n) × (i ≡ j) × (u ≡ v)
 item-unique text m i n j u v x (numbers, end, e, (a, b, parted, ha, hb), small, under) =
     let whole : text ≡ a ++ 32 ∷ (b ++ end) = e ∙ ap (λ (t : List ℕ). t ++ end) parted ∙ append_assoc a (32 ∷ b) end in
-    let parts = item-parts text a (b ++ end) b end m i u (number-lacks a n ha, whole) (number-lacks b j hb, refl, under-end end v under) x in
-    (number-unique a m n parts.0 ha, number-unique b i j parts.1.0 hb, under-unique end u v parts.2 under)
+    let parts = item-parts text a (b ++ end) b end m i u (number-lacks a n ha, whole) (number-lacks b j hb, refl, at-end end v under) x in
+    (number-unique a m n parts.0 ha, number-unique b i j parts.1.0 hb, at-unique end u v parts.2 under)

@@ -8,7 +8,8 @@ use Rattle.im_script.specs.Script.{IsField, AreFields}
 use Rattle.im_script.specs.Arguments.{IsFieldEnd, IsFirstField}
 use Rattle.im_script.proofs.FieldLemmas.{field-lacks, field-unique}
 
-fields-end : (text : List ℕ) (drafts : List Draft) → AreFields text drafts → IsFieldEnd text
+-- what is left behind a field, where it is fields, ends the field
+pub fields-end : (text : List ℕ) (drafts : List Draft) → AreFields text drafts → IsFieldEnd text
 fields-end text [] h = inl h
 fields-end text (draft ∷ drafts) h = inr (h.0 ++ h.1, h.2)
 
@@ -34,7 +35,8 @@ first-unique a b x y la lb (inr p) (inr q) e =
     let same = cut-unique 32 a b p.0 q.0 la lb both in
     (same.0, p.1 ∙ ap (λ (t : List ℕ). 32 ∷ t) same.1 ∙ sym q.1)
 
-no-space : (text : List ℕ) → [] ≡ 32 ∷ text → ⊥
+-- a text that begins with a space is not empty
+pub no-space : (text : List ℕ) → [] ≡ 32 ∷ text → ⊥
 no-space text e = cc
 
 -- a text is one list of fields at most

@@ -4,21 +4,40 @@ use Rattle.std.proofs.lemmas.Bool.{and_parts, both_ways}
 use Rattle.im_cuts.specs.Words.{is_word}
 use Rattle.im_cuts.proofs.CutLemmas.{cut-unique, head-is}
 use Rattle.im_cuts.proofs.WordLemmas.{number-unique}
+use Rattle.im_draft.specs.declared.drafts.Draft.{Draft}
+use Rattle.im_draft.specs.declared.preconditions.Pre.{Pre}
 use Rattle.im_script.specs.declared.commands.Command.{Command}
-use Rattle.im_script.specs.declared.commands.Command.TheVariants.{Set, Header, State, Prove, Advance, Item, Link}
+use Rattle.im_script.specs.declared.commands.Command.TheVariants.{Set, Get, Scan, History, Header, State, Prove, Advance, Item, Link}
 use Rattle.im_script.specs.declared.commands.Line.{Line}
 use Rattle.im_talk.specs.Fields.{is_session_octet, IsSession}
 use Rattle.im_cuts.proofs.LineLemmas.{texts-unique}
-use Rattle.im_script.specs.Script.{IsCommand, IsLine, IsPassedOver, Say, Stop, IsScript, StopsAfter}
-use Rattle.im_script.proofs.FieldLemmas.{session-lacks}
-use Rattle.im_script.proofs.SetLemmas.{fields-unique}
+use Rattle.im_script.specs.Script.{deletion, IsCommand, IsLine, IsPassedOver, Say, Stop, IsScript, StopsAfter}
+use Rattle.im_script.proofs.FieldLemmas.{octets-unique, session-lacks}
+use Rattle.im_script.proofs.AskedLemmas.{asked-unique}
 use Rattle.im_script.proofs.NumberLemmas.{numbers-unique, item-unique}
-use Rattle.im_script.proofs.CommandLemmas.{only-set, only-header, only-state, only-prove, only-advance, only-item, only-link}
+use Rattle.im_script.proofs.LookupLemmas.{lookup-unique}
+use Rattle.im_script.proofs.CommandLemmas.{only-set, only-delete, only-get, only-scan, only-history, only-header, only-state, only-prove, only-advance, only-item, only-link}
 
 command-unique : (text : List ℕ) (a b : Command) → IsCommand text a → IsCommand text b → a ≡ b
-command-unique text (Set a) b x y =
+command-unique text (Set p c) b (inl x) y =
     let z = only-set x.0 b (subst (λ (t : List ℕ). IsCommand t b) x.1 y) in
-    ap Set (fields-unique x.0 a z.0 x.2 z.2) ∙ sym z.1
+    let e = asked-unique x.0 p z.0 c z.1 x.2 z.3 in
+    ap₂ (λ (l : List Pre) (m : List Draft). Set l m) e.0 e.1 ∙ sym z.2
+command-unique text (Set p c) b (inr (key, word, begins, k, none, one)) y =
+    let z = only-delete word b (subst (λ (t : List ℕ). IsCommand t b) begins y) in
+    ap₂ (λ (l : List Pre) (m : List Draft). Set l m) none one
+    ∙ ap (λ (o : List ℕ). Set [] (deletion o ∷ [])) (octets-unique word key z.0 k z.2) ∙ sym z.1
+command-unique text (Get k u) b x y =
+    let z = only-get x.0 b (subst (λ (t : List ℕ). IsCommand t b) x.1 y) in
+    let e = lookup-unique x.0 k z.0 u z.1 x.2 z.3 in
+    ap₂ (λ (o : List ℕ) (v : Option ℕ). Get o v) e.0 e.1 ∙ sym z.2
+command-unique text (Scan k u) b x y =
+    let z = only-scan x.0 b (subst (λ (t : List ℕ). IsCommand t b) x.1 y) in
+    let e = lookup-unique x.0 k z.0 u z.1 x.2 z.3 in
+    ap₂ (λ (o : List ℕ) (v : Option ℕ). Scan o v) e.0 e.1 ∙ sym z.2
+command-unique text (History k) b x y =
+    let z = only-history x.0 b (subst (λ (t : List ℕ). IsCommand t b) x.1 y) in
+    ap History (octets-unique x.0 k z.0 x.2 z.2) ∙ sym z.1
 command-unique text (Header m) b x y =
     let z = only-header x.0 b (subst (λ (t : List ℕ). IsCommand t b) x.1 y) in
     ap Header (number-unique x.0 m z.0 x.2 z.2) ∙ sym z.1

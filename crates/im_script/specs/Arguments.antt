@@ -2,10 +2,12 @@
 use Rattle.std.specs.Prelude.{◌≡◌, ◌⊎◌, ◌<◌, ◌^◌, ℕ, List, [], ◌∷◌, ◌++◌, Option}
 use Rattle.im_cuts.specs.Cuts.{Lacks}
 use Rattle.im_cuts.specs.Words.{IsNumber}
+use Rattle.im_talk.specs.Fields.{IsOctets}
 use Rattle.im_draft.specs.declared.drafts.Draft.{Draft}
-use Rattle.im_script.specs.Script.{AreFields, AreNumbers, IsItem, IsLine, IsPassedOver, MayFollow}
+use Rattle.im_draft.specs.declared.preconditions.Pre.{Pre}
+use Rattle.im_script.specs.Script.{deletion, AreAsked, AreNumbers, IsItem, IsLookup, IsLine, IsPassedOver, MayFollow}
 use Rattle.im_script.specs.declared.commands.Command.{Command}
-use Rattle.im_script.specs.declared.commands.Command.TheVariants.{Set, Header, State, Prove, Advance, Item, Link}
+use Rattle.im_script.specs.declared.commands.Command.TheVariants.{Set, Get, Scan, History, Header, State, Prove, Advance, Item, Link}
 use Rattle.im_script.specs.declared.commands.Line.{Line}
 
 -- nothing is left, or a space comes first
@@ -22,7 +24,23 @@ IsIndex text index = IsNumber text index × (index < 2 ^ 32)
 
 -- the text behind `set`
 abbrev pub IsSet : List ℕ → Command → Type 0
-IsSet text command = (drafts : List Draft) × (command ≡ Set drafts) × AreFields text drafts
+IsSet text command = (pres : List Pre) × (drafts : List Draft) × (command ≡ Set pres drafts) × AreAsked text pres drafts
+
+-- the text behind `del `
+abbrev pub IsDelete : List ℕ → Command → Type 0
+IsDelete text command = (key : List ℕ) × (command ≡ Set [] (deletion key ∷ [])) × IsOctets text key
+
+-- the text behind `get `
+abbrev pub IsGet : List ℕ → Command → Type 0
+IsGet text command = (key : List ℕ) × (at : Option ℕ) × (command ≡ Get key at) × IsLookup text key at
+
+-- the text behind `scan `
+abbrev pub IsScanCommand : List ℕ → Command → Type 0
+IsScanCommand text command = (prefix : List ℕ) × (at : Option ℕ) × (command ≡ Scan prefix at) × IsLookup text prefix at
+
+-- the text behind `history `
+abbrev pub IsHistoryCommand : List ℕ → Command → Type 0
+IsHistoryCommand text command = (key : List ℕ) × (command ≡ History key) × IsOctets text key
 
 -- the text behind `header `
 abbrev pub IsHeader : List ℕ → Command → Type 0

@@ -1,12 +1,29 @@
 use im_draft::drafts::Drafts;
+use im_draft::preconditions::Pres;
 use im_octet::octets::Octets;
 
 /// A command of a script.
 #[derive(Drop)]
 pub enum Command {
-    /// Places a transaction of these entries.
+    /// Places a transaction of these entries, where the preconditions hold. `del` asks for one entry, which
+    /// deletes its key.
     Set {
+        pres: Pres,
         drafts: Drafts,
+    },
+    /// Asks for the value of a key after transaction `at`, or after the last one.
+    Get {
+        key: Octets,
+        at: Option<u64>,
+    },
+    /// Asks for the live keys that begin with a prefix, after transaction `at`, or after the last one.
+    Scan {
+        prefix: Octets,
+        at: Option<u64>,
+    },
+    /// Asks for all versions of a key.
+    History {
+        key: Octets,
     },
     /// Asks for the header of a transaction by its number.
     Header {

@@ -1,12 +1,15 @@
-ghost use Rattle.std.specs.Prelude.{◌≡◌, ◌≤◌, ◌↔◌, length, nat_eq, codes, true, IfOk, IsTrue};
-ghost use Rattle.std.specs.List.{list_all, starts_with};
+ghost use Rattle.std.specs.Prelude.{◌≡◌, ◌⊎◌, ◌≤◌, ◌↔◌, ℕ, List, ◌∷◌, length, true, IfOk, IsTrue};
+ghost use Rattle.std.specs.List.{list_all};
 ghost use Rattle.std.specs.Char.{is_ascii_digit};
 ghost use Rattle.hex.specs.Hex.{decode_of};
 ghost use Rattle.im_cuts.specs.Finds.{Finds};
 ghost use Rattle.im_cuts.specs.Words.{is_word, number_value, IsNumber};
-ghost use Rattle.im_talk.specs.Fields.{is_session_octet, is_bare_octet, is_bare, IsSession, IsOctets};
-ghost use Rattle.im_script.specs.Script.{IsField};
+ghost use Rattle.im_draft.specs.Drafts.{no_attributes};
+ghost use Rattle.im_talk.specs.Fields.{is_session_octet, IsSession, IsOctets};
+ghost use Rattle.im_script.specs.Script.{hidden, IsField};
+ghost use Rattle.im_script.specs.Arguments.{IsFirstField};
 
+use crate::words::is_bare;
 use hex::FromHexError;
 use im_cuts::{after, cut};
 use im_draft::drafts::{Attrs, Draft};
@@ -18,10 +21,16 @@ const MOST_SESSION: usize = 16;
 
 const MOST_DIGITS: usize = 20;
 
-// What a field's attributes are: a script can't give any.
+// The attributes of an entry without a mark.
 const NO_ATTRIBUTES: Attrs = Attrs {
     deleted: false,
     non_indexable: false,
+};
+
+// The attributes of an entry that no index shows.
+const HIDDEN: Attrs = Attrs {
+    deleted: false,
+    non_indexable: true,
 };
 
 // a-z 0-9
@@ -31,16 +40,6 @@ fn is_session_octet(octet: u8) -> bool
     octet.is_ascii_lowercase() || octet.is_ascii_digit()
 }
 
-// A-Z a-z 0-9 _ - . /
-fn is_bare_octet(octet: u8) -> bool
-    ensures { result ≡ is_bare_octet octet }
-{
-    octet.is_ascii_uppercase()
-        || octet.is_ascii_lowercase()
-        || (b'-'..=b'9').contains(&octet)
-        || octet == b'_'
-}
-
 // Whether each octet may stand in a session's name.
 fn are_session_octets(text: &[u8]) -> bool
     ensures { result ≡ list_all is_session_octet text.now }
@@ -48,25 +47,11 @@ fn are_session_octets(text: &[u8]) -> bool
     text.iter().all(|octet| is_session_octet(*octet))
 }
 
-// Whether each octet may stand in a bare word.
-fn are_bare_octets(text: &[u8]) -> bool
-    ensures { result ≡ list_all is_bare_octet text.now }
-{
-    text.iter().all(|octet| is_bare_octet(*octet))
-}
-
 // Whether each octet is a decimal digit.
 fn are_digits(text: &[u8]) -> bool
     ensures { result ≡ list_all is_ascii_digit text.now }
 {
     text.iter().all(|octet| octet.is_ascii_digit())
-}
-
-// Whether a text begins as hex does.
-fn has_hex_mark(text: &[u8]) -> bool
-    ensures { result ≡ starts_with nat_eq text.now (codes "0x") }
-{
-    text.starts_with(b"0x")
 }
 
 // Whether a text is a session's name.
@@ -85,15 +70,6 @@ fn is_digits(text: &[u8]) -> bool
     ensures digits { IsTrue result → IsTrue (list_all is_ascii_digit text.now) }
 {
     (1..=MOST_DIGITS).contains(&text.len()) && are_digits(text)
-}
-
-// Whether a text is a bare word.
-#[tactic(auto, unfolding(im_talk::specs::Fields::is_bare))]
-fn is_bare(text: &[u8]) -> bool
-    ensures value { result ≡ is_bare text.now }
-    ensures some { IsTrue result → 1 ≤ length text.now }
-{
-    !text.is_empty() && are_bare_octets(text) && !has_hex_mark(text)
 }
 
 // The number that some decimal digits stand for.
@@ -135,7 +111,7 @@ fn read_hex(alloc: Global, digits: &[u8]) -> Result<Option<Octets>, AllocError>
 }
 
 // The octets that a bare word or hex says.
-fn read_octets(alloc: Global, text: &[u8]) -> Result<Option<Octets>, AllocError>
+pub(crate) fn read_octets(alloc: Global, text: &[u8]) -> Result<Option<Octets>, AllocError>
     ensures { IfOk result (λ octets. Finds octets (IsOctets text.now)) }
 {
     if is_bare(text) {
@@ -147,11 +123,33 @@ fn read_octets(alloc: Global, text: &[u8]) -> Result<Option<Octets>, AllocError>
     }
 }
 
-// The draft that `K=V` says.
+// The text up to the first space or the end, and what is left from there.
+pub(crate) fn first_field(text: &[u8]) -> (&[u8], &[u8])
+    ensures { IsFirstField text.now result.0.now result.1.now }
+{
+    match cut(text, b' ') {
+        Some((field, _)) => text.split_at(field.len()),
+        None => (text, &[]),
+    }
+}
+
+// The attributes that the mark in front of an entry gives, and what is left behind the mark.
+fn read_mark(text: &[u8]) -> (Attrs, &[u8])
+    ensures { ((text.now ≡ 126 ∷ result.1.now) × (result.0 ≡ hidden))
+        ⊎ (((more : List ℕ) → text.now ≡ 126 ∷ more → ⊥) × (text.now ≡ result.1.now) × (result.0 ≡ no_attributes)) }
+{
+    match after(text, b"~") {
+        Some(entry) => (HIDDEN, entry),
+        None => (NO_ATTRIBUTES, text),
+    }
+}
+
+// The draft that `K=V` or `~K=V` says.
 pub(crate) fn read_field(alloc: Global, text: &[u8]) -> Result<Option<Draft>, AllocError>
     ensures { IfOk result (λ draft. Finds draft (IsField text.now)) }
 {
-    let Some((front, back)) = cut(text, b'=') else {
+    let (attrs, entry) = read_mark(text);
+    let Some((front, back)) = cut(entry, b'=') else {
         return Ok(None);
     };
     let Some(key) = read_octets(alloc, front)? else {
@@ -160,6 +158,5 @@ pub(crate) fn read_field(alloc: Global, text: &[u8]) -> Result<Option<Draft>, Al
     let Some(value) = read_octets(alloc, back)? else {
         return Ok(None);
     };
-    let attrs = NO_ATTRIBUTES;
     Ok(Some(Draft { attrs, key, value }))
 }

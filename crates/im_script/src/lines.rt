@@ -1,24 +1,80 @@
 ghost use Rattle.std.specs.Prelude.{IfOk};
 ghost use Rattle.im_cuts.specs.Finds.{Finds};
 ghost use Rattle.im_script.specs.Script.{IsCommand, IsLine};
-ghost use Rattle.im_script.specs.Arguments.{IsSet, IsHeader, IsState, IsProve, IsAdvance, IsItemCommand, IsLink};
+ghost use Rattle.im_script.specs.Arguments.{IsSet, IsDelete, IsGet, IsScanCommand, IsHistoryCommand, IsHeader, IsState, IsProve, IsAdvance, IsItemCommand, IsLink};
 
 use crate::commands::{Command, Line};
-use crate::fields::{is_session, read_number};
-use crate::numbers::{read_index, read_numbers, read_under};
-use crate::sets::{first_field, read_fields};
+use crate::fields::{first_field, is_session, read_number, read_octets};
+use crate::lookups::read_lookup;
+use crate::numbers::{read_at, read_index, read_numbers};
+use crate::sets::read_asked;
 use im_cuts::{after, cut};
+use im_draft::drafts::{Attrs, Draft, Drafts};
+use im_draft::preconditions::Pres;
 use im_octet::octets::Octets;
 use std::alloc::{AllocError, Global};
+
+// The attributes of an entry that deletes its key.
+const DELETED: Attrs = Attrs {
+    deleted: true,
+    non_indexable: false,
+};
 
 // What stands behind `set`.
 fn read_set(alloc: Global, text: &[u8]) -> Result<Option<Command>, AllocError>
     ensures { IfOk result (λ command. Finds command (IsSet text.now)) }
 {
-    let Some(drafts) = read_fields(alloc, text)? else {
+    let Some((pres, drafts)) = read_asked(alloc, text)? else {
         return Ok(None);
     };
-    Ok(Some(Command::Set { drafts }))
+    Ok(Some(Command::Set { pres, drafts }))
+}
+
+// What stands behind `del `: the key that the one entry deletes.
+fn read_delete(alloc: Global, text: &[u8]) -> Result<Option<Command>, AllocError>
+    ensures { IfOk result (λ command. Finds command (IsDelete text.now)) }
+{
+    let Some(key) = read_octets(alloc, text)? else {
+        return Ok(None);
+    };
+    let draft = Draft {
+        attrs: DELETED,
+        key,
+        value: Octets::new(alloc),
+    };
+    let pres = Pres::from_vec(Vec::new(alloc));
+    let drafts = Drafts::from_vec(vec![in alloc; draft]?);
+    Ok(Some(Command::Set { pres, drafts }))
+}
+
+// What stands behind `get `.
+fn read_get(alloc: Global, text: &[u8]) -> Result<Option<Command>, AllocError>
+    ensures { IfOk result (λ command. Finds command (IsGet text.now)) }
+{
+    let Some((key, at)) = read_lookup(alloc, text)? else {
+        return Ok(None);
+    };
+    Ok(Some(Command::Get { key, at }))
+}
+
+// What stands behind `scan `.
+fn read_scan(alloc: Global, text: &[u8]) -> Result<Option<Command>, AllocError>
+    ensures { IfOk result (λ command. Finds command (IsScanCommand text.now)) }
+{
+    let Some((prefix, at)) = read_lookup(alloc, text)? else {
+        return Ok(None);
+    };
+    Ok(Some(Command::Scan { prefix, at }))
+}
+
+// What stands behind `history `.
+fn read_history(alloc: Global, text: &[u8]) -> Result<Option<Command>, AllocError>
+    ensures { IfOk result (λ command. Finds command (IsHistoryCommand text.now)) }
+{
+    let Some(key) = read_octets(alloc, text)? else {
+        return Ok(None);
+    };
+    Ok(Some(Command::History { key }))
 }
 
 // What stands behind `header `.
@@ -63,7 +119,7 @@ fn read_item(text: &[u8]) -> Option<Command>
     let (second, mark) = first_field(tail);
     let number = read_number(first)?;
     let index = read_index(second)?;
-    let under = read_under(mark)?;
+    let under = read_at(mark)?;
     Some(Command::Item {
         number,
         index,
@@ -85,6 +141,18 @@ fn read_command(alloc: Global, text: &[u8]) -> Result<Option<Command>, AllocErro
 {
     if let Some(rest) = after(text, b"set") {
         return read_set(alloc, rest);
+    }
+    if let Some(rest) = after(text, b"del ") {
+        return read_delete(alloc, rest);
+    }
+    if let Some(rest) = after(text, b"get ") {
+        return read_get(alloc, rest);
+    }
+    if let Some(rest) = after(text, b"scan ") {
+        return read_scan(alloc, rest);
+    }
+    if let Some(rest) = after(text, b"history ") {
+        return read_history(alloc, rest);
     }
     if let Some(rest) = after(text, b"header ") {
         return Ok(read_header(rest));

@@ -1,5 +1,5 @@
 ghost use Rattle.im_cuts.specs.Finds.{Finds};
-ghost use Rattle.im_script.specs.Script.{AreNumbers, IsUnder};
+ghost use Rattle.im_script.specs.Script.{AreNumbers, IsAt};
 ghost use Rattle.im_script.specs.Arguments.{IsIndex};
 
 use crate::fields::read_number;
@@ -26,9 +26,9 @@ pub(crate) fn read_index(text: &[u8]) -> Option<u32>
     Some(number as u32)
 }
 
-// The state that the end of an item names, ` @` and its number, or none where nothing is left.
-pub(crate) fn read_under(text: &[u8]) -> Option<Option<u64>>
-    ensures { Finds result (IsUnder text.now) }
+// The transaction that the end of a command names, ` @` and its number, or none where nothing is left.
+pub(crate) fn read_at(text: &[u8]) -> Option<Option<u64>>
+    ensures { Finds result (IsAt text.now) }
 {
     if text.is_empty() {
         return Some(None);

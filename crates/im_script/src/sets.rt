@@ -1,25 +1,16 @@
 ghost use Rattle.std.specs.Prelude.{IfOk};
 ghost use Rattle.im_cuts.specs.Finds.{Finds};
-ghost use Rattle.im_script.specs.Script.{AreFields};
-ghost use Rattle.im_script.specs.Arguments.{IsFirstField};
+ghost use Rattle.im_script.specs.Script.{AreAsked, AreFields};
 
-use crate::fields::read_field;
-use im_cuts::{after, cut};
+use crate::fields::{first_field, read_field};
+use crate::pres::read_pres;
+use im_cuts::after;
 use im_draft::drafts::Drafts;
+use im_draft::preconditions::Pres;
 use std::alloc::{AllocError, Global};
 
-// The text up to the first space or the end, and what is left from there.
-pub(crate) fn first_field(text: &[u8]) -> (&[u8], &[u8])
-    ensures { IsFirstField text.now result.0.now result.1.now }
-{
-    match cut(text, b' ') {
-        Some((field, _)) => text.split_at(field.len()),
-        None => (text, &[]),
-    }
-}
-
 // The drafts of fields, each behind one space.
-pub(crate) fn read_fields(alloc: Global, text: &[u8]) -> Result<Option<Drafts>, AllocError>
+fn read_fields(alloc: Global, text: &[u8]) -> Result<Option<Drafts>, AllocError>
     ensures { IfOk result (λ drafts. Finds drafts (AreFields text.now)) }
 {
     let mut drafts = Vec::new(alloc);
@@ -36,4 +27,15 @@ pub(crate) fn read_fields(alloc: Global, text: &[u8]) -> Result<Option<Drafts>, 
         return Ok(None);
     }
     Ok(Some(Drafts::from_vec(drafts)))
+}
+
+// What a set asks for: preconditions as long as fields are, then drafts to the end.
+pub(crate) fn read_asked(alloc: Global, text: &[u8]) -> Result<Option<(Pres, Drafts)>, AllocError>
+    ensures { IfOk result (λ asked. Finds asked (λ a. AreAsked text.now a.0 a.1)) }
+{
+    let (pres, rest) = read_pres(alloc, text)?;
+    let Some(drafts) = read_fields(alloc, rest)? else {
+        return Ok(None);
+    };
+    Ok(Some((Pres::from_vec(pres), drafts)))
 }

@@ -1,16 +1,26 @@
 use crate::commands::{Command, Line};
 use crate::lines::read_line;
 use crate::scripts::{ScriptError, read_script};
+use crate::words::is_bare;
 use im_draft::drafts::{Attrs, Draft};
+use im_draft::preconditions::Pre;
 use std::test::Fail;
 
 // The drafts that a line of the session `a` sets.
 fn drafts_of(line: &Line) -> Option<&[Draft]> {
     match &line.command {
-        Command::Set { drafts } if line.session.as_slice() == b"a".as_slice() => {
+        Command::Set { drafts, .. } if line.session.as_slice() == b"a".as_slice() => {
             Some(drafts.as_slice())
         }
         _ => None,
+    }
+}
+
+// The preconditions that a line sets under.
+fn pres_of(line: &Line) -> &[Pre] {
+    match &line.command {
+        Command::Set { pres, .. } => pres.as_slice(),
+        _ => &[],
     }
 }
 
@@ -22,13 +32,26 @@ fn number_of(line: &Line) -> Option<u64> {
     }
 }
 
+// Whether a draft has this key and this value.
+fn says(draft: &Draft, key: &[u8], value: &[u8]) -> bool {
+    draft.key.as_slice() == key && draft.value.as_slice() == value
+}
+
 // Whether a draft has this key, this value and no attribute.
 fn is_draft(draft: &Draft, key: &[u8], value: &[u8]) -> bool {
     let none = Attrs {
         deleted: false,
         non_indexable: false,
     };
-    draft.key.as_slice() == key && draft.value.as_slice() == value && draft.attrs == none
+    says(draft, key, value) && draft.attrs == none
+}
+
+// Whether a precondition is that the key is missing.
+fn is_missing(pre: &Pre, wanted: &[u8]) -> bool {
+    match pre {
+        Pre::Missing { key } => key.as_slice() == wanted,
+        _ => false,
+    }
 }
 
 #[test]
@@ -55,6 +78,72 @@ fn sets_of_no_and_of_three_drafts(rt: HostRuntime) -> Result<(), Fail> {
     assert!(rt; is_draft(&drafts[0], b"k", b"1"));
     assert!(rt; is_draft(&drafts[1], b"j", b"ab"));
     assert!(rt; is_draft(&drafts[2], b"", b""));
+    Ok(())
+}
+
+#[test]
+fn a_set_under_a_missing_key(rt: HostRuntime) -> Result<(), Fail> {
+    for (text, key) in [
+        (b"a: set missing:k k=v".as_slice(), b"k".as_slice()),
+        (b"a: set missing:0x00 k=v".as_slice(), b"\0".as_slice()),
+        (b"a: set missing:0x k=v".as_slice(), b"".as_slice()),
+    ] {
+        let line = read_line(rt.alloc(), text)?.ok_or("refused")?;
+        let pres = pres_of(&line);
+        assert_eq!(rt; pres.len(), 1);
+        assert!(rt; is_missing(&pres[0], key));
+        let drafts = drafts_of(&line).ok_or("no set")?;
+        assert_eq!(rt; drafts.len(), 1);
+        assert!(rt; is_draft(&drafts[0], b"k", b"v"));
+    }
+    Ok(())
+}
+
+#[test]
+fn a_set_under_two_preconditions(rt: HostRuntime) -> Result<(), Fail> {
+    let line = read_line(rt.alloc(), b"a: set exists:z since:k@1 z=1")?.ok_or("refused")?;
+    match pres_of(&line) {
+        [Pre::Exists { key: first }, Pre::Since { key: second, n }] => {
+            assert!(rt; first.as_slice() == b"z".as_slice());
+            assert!(rt; second.as_slice() == b"k".as_slice());
+            assert_eq!(rt; *n, 1);
+        }
+        _ => assert!(rt; false, "other preconditions"),
+    }
+    let drafts = drafts_of(&line).ok_or("no set")?;
+    assert_eq!(rt; drafts.len(), 1);
+    assert!(rt; is_draft(&drafts[0], b"z", b"1"));
+    Ok(())
+}
+
+#[test]
+fn a_set_of_no_entries_under_a_precondition(rt: HostRuntime) -> Result<(), Fail> {
+    let line = read_line(rt.alloc(), b"a: set missing:k")?.ok_or("refused")?;
+    assert_eq!(rt; pres_of(&line).len(), 1);
+    assert_eq!(rt; drafts_of(&line).ok_or("no set")?.len(), 0);
+    Ok(())
+}
+
+#[test]
+fn an_entry_that_no_index_shows(rt: HostRuntime) -> Result<(), Fail> {
+    let line = read_line(rt.alloc(), b"a: set ~k=v")?.ok_or("refused")?;
+    let drafts = drafts_of(&line).ok_or("no set")?;
+    assert_eq!(rt; drafts.len(), 1);
+    assert!(rt; says(&drafts[0], b"k", b"v"));
+    assert!(rt; drafts[0].attrs.non_indexable);
+    assert!(rt; !drafts[0].attrs.deleted);
+    Ok(())
+}
+
+#[test]
+fn a_deletion(rt: HostRuntime) -> Result<(), Fail> {
+    let line = read_line(rt.alloc(), b"a: del k")?.ok_or("refused")?;
+    assert_eq!(rt; pres_of(&line).len(), 0);
+    let drafts = drafts_of(&line).ok_or("no set")?;
+    assert_eq!(rt; drafts.len(), 1);
+    assert!(rt; says(&drafts[0], b"k", b""));
+    assert!(rt; drafts[0].attrs.deleted);
+    assert!(rt; !drafts[0].attrs.non_indexable);
     Ok(())
 }
 
@@ -98,94 +187,18 @@ fn first_line_that_is_refused(rt: HostRuntime) {
 }
 
 #[test]
-fn a_state(rt: HostRuntime) -> Result<(), Fail> {
-    let line = read_line(rt.alloc(), b"a: state")?.ok_or("refused")?;
-    assert!(rt; matches!(line.command, Command::State));
-    Ok(())
-}
-
-#[test]
-fn a_prove(rt: HostRuntime) -> Result<(), Fail> {
-    let line = read_line(rt.alloc(), b"a: prove 3 18446744073709551615")?.ok_or("refused")?;
-    match line.command {
-        Command::Prove { source, target } => {
-            assert_eq!(rt; source, 3);
-            assert_eq!(rt; target, u64::MAX);
-        }
-        _ => assert!(rt; false, "no prove"),
-    }
-    Ok(())
-}
-
-#[test]
-fn an_advance(rt: HostRuntime) -> Result<(), Fail> {
-    let line = read_line(rt.alloc(), b"a: advance 18446744073709551615 007")?.ok_or("refused")?;
-    match line.command {
-        Command::Advance { source, target } => {
-            assert_eq!(rt; source, u64::MAX);
-            assert_eq!(rt; target, 7);
-        }
-        _ => assert!(rt; false, "no advance"),
-    }
-    Ok(())
-}
-
-#[test]
-fn an_item(rt: HostRuntime) -> Result<(), Fail> {
-    let line = read_line(rt.alloc(), b"a: item 5 4294967295")?.ok_or("refused")?;
-    match line.command {
-        Command::Item {
-            number,
-            index,
-            under,
-        } => {
-            assert_eq!(rt; number, 5);
-            assert_eq!(rt; index, u32::MAX);
-            assert_eq!(rt; under, None);
-        }
-        _ => assert!(rt; false, "no item"),
-    }
-    Ok(())
-}
-
-#[test]
-fn an_item_under_a_state(rt: HostRuntime) -> Result<(), Fail> {
-    let line = read_line(rt.alloc(), b"a: item 5 0 @18446744073709551615")?.ok_or("refused")?;
-    match line.command {
-        Command::Item {
-            number,
-            index,
-            under,
-        } => {
-            assert_eq!(rt; number, 5);
-            assert_eq!(rt; index, 0);
-            assert_eq!(rt; under, Some(u64::MAX));
-        }
-        _ => assert!(rt; false, "no item"),
-    }
-    Ok(())
-}
-
-#[test]
-fn a_link(rt: HostRuntime) -> Result<(), Fail> {
-    let line = read_line(rt.alloc(), b"a: link 18446744073709551615")?.ok_or("refused")?;
-    match line.command {
-        Command::Link { count } => assert_eq!(rt; count, u64::MAX),
-        _ => assert!(rt; false, "no link"),
-    }
-    Ok(())
-}
-
-#[test]
-fn states_and_numbers_that_are_refused(rt: HostRuntime) -> Result<(), Fail> {
+fn sets_that_are_refused(rt: HostRuntime) -> Result<(), Fail> {
     for text in [
-        b"a: state ".as_slice(),
-        b"a: states".as_slice(),
-        b"a: header 1 2".as_slice(),
-        b"a: prove 1".as_slice(),
-        b"a: prove 1  2".as_slice(),
-        b"a: prove 1 2 3".as_slice(),
-        b"a: advance 1".as_slice(),
+        b"a: set k=v missing:k".as_slice(),
+        b"a: set since:k k=v".as_slice(),
+        b"a: set since:k@ k=v".as_slice(),
+        b"a: set since:k@18446744073709551616 k=v".as_slice(),
+        b"a: set missing: k=v".as_slice(),
+        b"a: set missing:k  k=v".as_slice(),
+        b"a: set missing:k ".as_slice(),
+        b"a: set ~~k=v".as_slice(),
+        b"a: set k~=v".as_slice(),
+        b"a: set k=~v".as_slice(),
     ] {
         assert!(rt; read_line(rt.alloc(), text)?.is_none());
     }
@@ -193,28 +206,11 @@ fn states_and_numbers_that_are_refused(rt: HostRuntime) -> Result<(), Fail> {
 }
 
 #[test]
-fn items_that_are_refused(rt: HostRuntime) -> Result<(), Fail> {
-    for text in [
-        b"a: item 1".as_slice(),
-        b"a: item 1 4294967296".as_slice(),
-        b"a: item 1 2@3".as_slice(),
-        b"a: item 1 2 @".as_slice(),
-        b"a: item 1 2 3".as_slice(),
-        b"a: item 1 2 @3 ".as_slice(),
-    ] {
-        assert!(rt; read_line(rt.alloc(), text)?.is_none());
+fn bare_words_and_others(rt: HostRuntime) {
+    for text in [b"Az_-./09".as_slice(), b"0", b"x0x"] {
+        assert!(rt; is_bare(text));
     }
-    Ok(())
-}
-
-#[test]
-fn links_that_are_refused(rt: HostRuntime) -> Result<(), Fail> {
-    for text in [
-        b"a: link".as_slice(),
-        b"a: link 18446744073709551616".as_slice(),
-        b"a: link -1".as_slice(),
-    ] {
-        assert!(rt; read_line(rt.alloc(), text)?.is_none());
+    for text in [b"".as_slice(), b"0x61", b"a:b", b"a b", b"~"] {
+        assert!(rt; !is_bare(text));
     }
-    Ok(())
 }

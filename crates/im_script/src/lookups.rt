@@ -1,0 +1,25 @@
+ghost use Rattle.std.specs.Prelude.{IfOk};
+ghost use Rattle.im_cuts.specs.Finds.{Finds};
+ghost use Rattle.im_script.specs.Script.{IsLookup};
+
+use crate::fields::{first_field, read_octets};
+use crate::numbers::read_at;
+use im_octet::octets::Octets;
+use std::alloc::{AllocError, Global};
+
+// Octets that are looked for, and the transaction after which they are, if one is named.
+pub(crate) fn read_lookup(
+    alloc: Global,
+    text: &[u8],
+) -> Result<Option<(Octets, Option<u64>)>, AllocError>
+    ensures { IfOk result (λ lookup. Finds lookup (λ l. IsLookup text.now l.0 l.1)) }
+{
+    let (word, mark) = first_field(text);
+    let Some(at) = read_at(mark) else {
+        return Ok(None);
+    };
+    let Some(octets) = read_octets(alloc, word)? else {
+        return Ok(None);
+    };
+    Ok(Some((octets, at)))
+}
