@@ -1,7 +1,8 @@
 -- No octet of an answered line is LF.
-use Rattle.std.proofs.Common.{◌≡◌, ◌≤◌, ℕ, ℤ, pos, negsuc, zero, suc, ◌/◌, ◌%◌, ◌==◌, not, List, [], ◌∷◌, ◌++◌, Bool, true, false, cond, refl, arith, get_or, nat_lt}
+use Rattle.std.proofs.Common.{◌≡◌, ◌≤◌, ℕ, ℤ, pos, negsuc, zero, suc, ◌/◌, ◌%◌, ◌==◌, not, List, [], ◌∷◌, ◌++◌, Bool, true, false, cond, refl, arith, get_or, nat_lt, codes}
 use Rattle.std.specs.Fmt.{decimal, signed_decimal}
 use Rattle.std.specs.Char.{digit_char}
+use Rattle.std.specs.List.{flat_map}
 use Rattle.std.proofs.lemmas.Bool.{and_parts, and_from, cond_both, ltb-false}
 use Rattle.std.proofs.lemmas.Bool.Decides.{nat_tests}
 use Rattle.std.proofs.lemmas.List.Folds.{list_all-append}
@@ -10,11 +11,13 @@ use Rattle.json.specs.Print.{escape, escape_byte, escape_letter, quoted}
 use Rattle.serde_json.specs.Data.{Data, Items, Members, no_items, item, no_members, member, null, boolean, number, string, array, object, unsigned, negative, float, Num}
 use Rattle.serde_json.specs.Written.{comma_if, compact_text, items_text, members_text, number_text}
 use Rattle.im_cuts.specs.Cuts.{Lacks}
-use Rattle.im_cuts.proofs.CutLemmas.{Lacks-append}
+use Rattle.im_cuts.proofs.CutLemmas.{Lacks-append, Lacks-of}
 use Rattle.im_model.specs.declared.headers.Header.{Header as TheHeader}
+use Rattle.im_talk.specs.Fields.{is_bare, is_bare_octet}
 use Rattle.im_talk.specs.Texts.{header_text, header_front, header_middle, header_back}
 use Rattle.im_wire.specs.Texts.{text, message_data}
 use Rattle.im_wire.specs.declared.messages.Message.{Message}
+use Rattle.im_report.specs.Reads.{octets_text}
 use Rattle.im_accept.proofs.DigitLemmas.{decimal-lacks}
 
 letter-other : (x : ℕ) → not (escape_letter x == 10) ≡ true
@@ -101,6 +104,22 @@ hex-lacks (o ∷ octets) =
 
 pub digits-lack : (n : ℕ) → Lacks 10 (decimal n)
 digits-lack n = decimal-lacks 10 n refl
+
+-- a bare word has none
+bare-lacks : (octets : List ℕ) → is_bare octets ≡ true → Lacks 10 octets
+unfolding is_bare
+bare-lacks octets h = Lacks-of is_bare_octet 10 octets refl (and_parts _ _ (and_parts _ _ h).0).1
+
+-- octets as they are printed
+pub octets-lack : (octets : List ℕ) → Lacks 10 (octets_text octets)
+unfolding octets_text
+octets-lack octets =
+    cond_both (is_bare octets) octets (codes "0x" ++ encode_lower octets) (λ t. Lacks 10 t) (bare-lacks octets) (λ e. hex-lacks octets)
+
+-- texts behind one another
+pub each-lacks : {A : Type 0} (f : A → List ℕ) (xs : List A) → ((x : A) → Lacks 10 (f x)) → Lacks 10 (flat_map f xs)
+each-lacks f [] h = refl
+each-lacks f (x ∷ xs) h = Lacks-append 10 (f x) (flat_map f xs) (h x) (each-lacks f xs h)
 
 -- the text of a header
 pub header-lacks : (header : TheHeader) → Lacks 10 (header_text header)

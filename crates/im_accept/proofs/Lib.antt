@@ -2,5 +2,6 @@ pub mod CutLemmas
 pub mod DigitLemmas
 pub mod LfLemmas
 pub mod PassLemmas
+pub mod ReplyLemmas
 pub mod ShownLemmas
 pub mod TakenLemmas

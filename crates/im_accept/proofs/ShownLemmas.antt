@@ -1,5 +1,6 @@
 -- What a reply is that begins as an object does.
-use Rattle.std.proofs.Common.{◌≡◌, ◌≤◌, ◌<◌, length, ℕ, zero, suc, ◌==◌, ◌||◌, List, Bool, true, false, codes, refl, ap, ◌∙◌, arith, nat_lt, if◌then◌else◌, inl, inr, map}
+use Rattle.std.proofs.Common.{◌≡◌, ◌≤◌, ◌<◌, length, ℕ, zero, suc, ◌==◌, ◌||◌, List, Bool, true, false, codes, refl, ap, ◌∙◌, arith, nat_lt, if◌then◌else◌, inl, inr, map, take, Option, Some, None, ◌++◌}
+use Rattle.std.specs.Fmt.{decimal}
 use Rattle.std.proofs.lemmas.Bool.{both_ways, eqb-false, ltb-false, ltb-true, or_parts}
 use Rattle.std.specs.Prelude.{slice_index_or}
 use Rattle.im_digest.specs.Digests.{Hash}
@@ -9,14 +10,20 @@ use Rattle.im_model.specs.declared.entries.Entry.{Entry}
 use Rattle.im_model.specs.declared.headers.Header.{Header as TheHeader}
 use Rattle.im_model.specs.declared.transactions.Transaction.{Transaction}
 use Rattle.im_draft.specs.declared.drafts.Draft.{Draft}
+use Rattle.im_draft.specs.declared.preconditions.Pre.{Pre}
 use Rattle.im_draft.specs.declared.refusals.PrepareError.{PrepareError}
 use Rattle.im_draft.specs.declared.refusals.PrepareError.TheVariants.{Memory, NoEntries, TooMany, KeyEmpty, KeyLong, ValueLong, Twice}
+use Rattle.im_versions.specs.declared.versions.Version.{Version}
+use Rattle.im_versions.specs.declared.refusals.PlaceError.{PlaceError}
+use Rattle.im_versions.specs.declared.refusals.PlaceError.TheVariants as place
+use Rattle.im_versions.specs.Versions.{last_version, versions_of}
 use Rattle.im_proof.specs.Built.{path_of}
 use Rattle.im_proof.specs.declared.proofs.DualProof.{DualProof}
 use Rattle.im_wire.specs.Lines.{is_open}
 use Rattle.im_wire.specs.Texts.{text}
 use Rattle.im_wire.specs.declared.messages.Message.{Message}
 use Rattle.im_wire.specs.declared.messages.Message.TheVariants as says
+use Rattle.im_report.specs.Reads.{history_reply, octets_text, place_reply, scan_reply, value_reply, IsGetAnswer, IsHistoryAnswer, IsReadAt, IsScanAnswer}
 use Rattle.im_report.specs.Replies.{advance_reply, anchor_between, between_reply, beyond_reply, dual_between, header_reply, item_reply, item_shown, no_entry, no_entry_reply, order_reply, prove_reply, refused_reply, reserved_reply, shown_header, state_reply, tx_reply}
 use Rattle.im_report.specs.Report.{IsSetAnswer}
 use Rattle.im_accept.specs.Messages.{item_between}
@@ -48,6 +55,28 @@ refused-closed (KeyLong i len) = refl
 refused-closed (ValueLong i len) = refl
 refused-closed (Twice i j) = refl
 
+place-closed : (why : PlaceError) → is_open (place_reply why) ≡ false
+unfolding place_reply
+place-closed place.Memory = refl
+place-closed place.Full = refl
+place-closed (place.Missing key) = refl
+place-closed (place.Exists key tx) = refl
+place-closed (place.Modified key tx) = refl
+
+value-closed : (version : Option Version) → is_open (value_reply version) ≡ false
+unfolding value_reply
+value-closed None = refl
+value-closed (Some version) =
+    elim (version.deleted) as (λ b. is_open (if b then codes "absent" else codes "value " ++ octets_text version.value ++ codes " tx " ++ decimal version.tx) ≡ false) [ true ↦ refl | false ↦ refl ]
+
+scan-closed : (shown : List Version) → is_open (scan_reply shown) ≡ false
+unfolding scan_reply
+scan-closed shown = refl
+
+history-closed : (versions : List Version) → is_open (history_reply versions) ≡ false
+unfolding history_reply
+history-closed versions = refl
+
 tx-closed : (n : ℕ) → is_open (tx_reply n) ≡ false
 unfolding tx_reply
 tx-closed n = refl
@@ -65,11 +94,30 @@ text-opens (says.Advance dual anchor) = refl
 text-opens (says.Item dual entry index path) = refl
 
 -- the reply to a set isn't open
-pub set-closed : (history : List Transaction) (drafts : List Draft) (n : ℕ) (reply : List ℕ) → IsSetAnswer history drafts n reply → is_open reply ≡ false
-set-closed history drafts n reply (inl (i, is, e)) = ap is_open e ∙ reserved-closed i
-set-closed history drafts n reply (inr (free, inl (why, is, e))) = ap is_open e ∙ refused-closed why
-set-closed history drafts n reply (inr (free, inr (are, inl (full, e)))) = ap is_open e
-set-closed history drafts n reply (inr (free, inr (are, inr (some, same, e)))) = ap is_open e ∙ tx-closed n
+pub set-closed : (history : List Transaction) (pres : List Pre) (drafts : List Draft) (n : ℕ) (reply : List ℕ) → IsSetAnswer history pres drafts n reply → is_open reply ≡ false
+set-closed history pres drafts n reply (inl (i, is, e)) = ap is_open e ∙ reserved-closed i
+set-closed history pres drafts n reply (inr (free, inl (why, is, e))) = ap is_open e ∙ refused-closed why
+set-closed history pres drafts n reply (inr (free, inr (are, inl (why, is, e)))) = ap is_open e ∙ place-closed why
+set-closed history pres drafts n reply (inr (free, inr (are, inr (some, none, same, e)))) = ap is_open e ∙ tx-closed n
+
+-- nor is what is read after a transaction
+at-closed : (history : List Transaction) (at : Option ℕ) (shows : List Transaction → List ℕ → Type 0) (reply : List ℕ)
+    → ((hs : List Transaction) → shows hs reply → is_open reply ≡ false) → IsReadAt history at shows reply → is_open reply ≡ false
+at-closed history None shows reply each a = each history a
+at-closed history (Some k) shows reply each (inl (beyond, e)) = ap is_open e ∙ beyond-closed (length history)
+at-closed history (Some k) shows reply each (inr (within, a)) = each (take k history) a
+
+-- nor is the reply to `get`
+pub get-closed : (history : List Transaction) (key : List ℕ) (at : Option ℕ) (reply : List ℕ) → IsReadAt history at (IsGetAnswer key) reply → is_open reply ≡ false
+get-closed history key at reply a = at-closed history at (IsGetAnswer key) reply (λ hs e. ap is_open e ∙ value-closed (last_version hs key)) a
+
+-- nor is that to `scan`
+pub scanned-closed : (history : List Transaction) (prefix : List ℕ) (at : Option ℕ) (reply : List ℕ) → IsReadAt history at (IsScanAnswer prefix) reply → is_open reply ≡ false
+scanned-closed history prefix at reply a = at-closed history at (IsScanAnswer prefix) reply (λ hs shown. ap is_open shown.2 ∙ scan-closed shown.0) a
+
+-- nor is that to `history`
+pub versions-closed : (history : List Transaction) (key reply : List ℕ) → IsHistoryAnswer key history reply → is_open reply ≡ false
+versions-closed history key reply e = ap is_open e ∙ history-closed (versions_of history key)
 
 -- nor is that to a header
 pub header-closed : (hash : Hash) (history : List Transaction) (k : ℕ) → is_open (header_reply hash history k) ≡ false

@@ -18,7 +18,7 @@ use Rattle.im_wire.specs.declared.messages.Message.{Message}
 use Rattle.im_wire.specs.declared.messages.Message.TheVariants as says
 use Rattle.im_script.specs.declared.commands.Line.{Line}
 use Rattle.im_script.specs.declared.commands.Command.{Command}
-use Rattle.im_script.specs.declared.commands.Command.TheVariants.{Set, Header, State, Prove, Advance, Item, Link}
+use Rattle.im_script.specs.declared.commands.Command.TheVariants.{Set, Get, Scan, History, Header, State, Prove, Advance, Item, Link}
 use Rattle.im_report.specs.Replies.{anchor_between, dual_between, item_reply}
 use Rattle.im_report.specs.Report.{Answered, IsAnswer, Report}
 use Rattle.im_client.specs.Folds.{state_with}
@@ -27,7 +27,7 @@ use Rattle.im_accept.specs.Messages.{item_between, IsReadBack}
 use Rattle.im_accept.specs.Taken.{kept_number, next_number, line_text, AreReadBack, AreTaken, HaveSessions, IsFor, IsTaken}
 use Rattle.im_accept.proofs.DigitLemmas.{decimal-word}
 use Rattle.im_accept.proofs.PassLemmas.{advance-passes, between-target, dual-passes, first-state-passes, item-passes, same-state-passes}
-use Rattle.im_accept.proofs.ShownLemmas.{advance-shown, header-closed, item-shown, prove-shown, set-closed, state-shown}
+use Rattle.im_accept.proofs.ShownLemmas.{advance-shown, get-closed, header-closed, item-shown, prove-shown, scanned-closed, set-closed, state-shown, versions-closed}
 
 -- an answered line is a reply
 pub line-replies : (a : Answered) → IsSession a.line.session → a.number ≤ 1048576 → IsReply (line_text a) a.reply
@@ -119,7 +119,10 @@ item-taken hash h session c n reply t i s history within replies other kept next
 taken-by : (hash : Hash) (h : List Transaction) (session : List ℕ) (c : Command) (n : ℕ) (reply : List ℕ) → IsHistory h → n ≤ length h
     → IsReply (line_text (answered session c n reply)) reply → IsAnswer hash h c n reply → IsReadBack hash (take n h) c reply → is_open reply ≡ true
     → IsTaken hash h (answered session c n reply)
-taken-by hash h session (Set drafts) n reply history within replies answer read is_now = absurd (both_ways (is_open reply) (set-closed h drafts n reply answer) is_now)
+taken-by hash h session (Set pres drafts) n reply history within replies answer read is_now = absurd (both_ways (is_open reply) (set-closed h pres drafts n reply answer) is_now)
+taken-by hash h session (Get key at) n reply history within replies answer read is_now = absurd (both_ways (is_open reply) (get-closed (take n h) key at reply answer) is_now)
+taken-by hash h session (Scan prefix at) n reply history within replies answer read is_now = absurd (both_ways (is_open reply) (scanned-closed (take n h) prefix at reply answer) is_now)
+taken-by hash h session (History key) n reply history within replies answer read is_now = absurd (both_ways (is_open reply) (versions-closed (take n h) key reply answer) is_now)
 taken-by hash h session (Header k) n reply history within replies answer read is_now =
     absurd (both_ways (is_open reply) (ap is_open answer ∙ header-closed hash (take n h) k) is_now)
 taken-by hash h session State n reply history within replies answer read is_now =

@@ -10,7 +10,7 @@ use Rattle.im_wire.specs.Messages.{HasMessage}
 use Rattle.im_wire.specs.declared.messages.Message.{Message}
 use Rattle.im_wire.specs.declared.messages.Message.TheVariants as says
 use Rattle.im_script.specs.declared.commands.Command.{Command}
-use Rattle.im_script.specs.declared.commands.Command.TheVariants.{Set, Header, State, Prove, Advance, Item, Link}
+use Rattle.im_script.specs.declared.commands.Command.TheVariants.{Set, Get, Scan, History, Header, State, Prove, Advance, Item, Link}
 use Rattle.im_report.specs.Replies.{anchor_between, dual_between, no_entry}
 
 -- entry i of transaction t, with its path there and the dual proof from t to s
@@ -19,9 +19,12 @@ item_between hash history t i s =
     let entries = (transaction_of history t).entries in
     says.Item (dual_between hash history t s) (slice_index_or entries i no_entry) i (path_of hash (map (entry_digest hash) entries) i)
 
--- the message that a command asks for behind these transactions. The reply to the others is never one.
+-- the message that a command asks for behind these transactions, or none
 abbrev pub message_at : Hash → List Transaction → Command → Option Message
-message_at hash history (Set drafts) = None
+message_at hash history (Set pres drafts) = None
+message_at hash history (Get key at) = None
+message_at hash history (Scan prefix at) = None
+message_at hash history (History key) = None
 message_at hash history (Header k) = None
 message_at hash history State = Some (says.State (header_of hash history (length history)))
 message_at hash history (Prove s t) = Some (says.Dual (dual_between hash history s t))

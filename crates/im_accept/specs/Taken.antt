@@ -11,7 +11,7 @@ use Rattle.im_wire.specs.Texts.{text}
 use Rattle.im_wire.specs.declared.messages.Message.{Message}
 use Rattle.im_script.specs.declared.commands.Line.{Line}
 use Rattle.im_script.specs.declared.commands.Command.{Command}
-use Rattle.im_script.specs.declared.commands.Command.TheVariants.{Set, Header, State, Prove, Advance, Item, Link}
+use Rattle.im_script.specs.declared.commands.Command.TheVariants.{Set, Get, Scan, History, Header, State, Prove, Advance, Item, Link}
 use Rattle.im_report.specs.Report.{Answered}
 use Rattle.im_client.specs.Folds.{IsOutcome, state_with}
 use Rattle.im_client.specs.declared.outcomes.Outcome.TheVariants.{Accepted}
@@ -20,7 +20,10 @@ use Rattle.im_accept.specs.Messages.{IsReadBack}
 -- the number of the transaction whose header a client keeps that the reply to a command at n is for, where
 -- that reply can be a message
 abbrev pub kept_number : Command → ℕ → Option ℕ
-kept_number (Set drafts) n = None
+kept_number (Set pres drafts) n = None
+kept_number (Get key at) n = None
+kept_number (Scan prefix at) n = None
+kept_number (History key) n = None
 kept_number (Header k) n = None
 kept_number State n = Some n
 kept_number (Prove s t) n = Some t
@@ -31,7 +34,10 @@ kept_number (Link count) n = None
 
 -- the number of the transaction whose header it keeps behind that reply: an advance leads it on
 abbrev pub next_number : Command → ℕ → ℕ
-next_number (Set drafts) kept = kept
+next_number (Set pres drafts) kept = kept
+next_number (Get key at) kept = kept
+next_number (Scan prefix at) kept = kept
+next_number (History key) kept = kept
 next_number (Header k) kept = kept
 next_number State kept = kept
 next_number (Prove s t) kept = kept
@@ -49,8 +55,8 @@ IsFor hash history command n (Some header) = (k : ℕ) × (kept_number command n
 abbrev pub line_text : Answered → List ℕ
 line_text a = a.line.session ++ codes " " ++ decimal a.number ++ codes " " ++ a.reply
 
--- The reply is the text of a message, of transactions that were there at its number, and each client that it
--- is for accepts the line as that message, and keeps the next header behind it.
+-- The reply is the text of a message, for a kept header and a next one whose numbers were there at its number, and
+-- each client that it is for accepts the line as that message, and keeps the next header behind it.
 pub record IsTaken (hash : Hash) (history : List Transaction) (a : Answered) : Type 0 where
   pub kept : ℕ
   pub is_kept : kept_number a.line.command a.number ≡ Some kept

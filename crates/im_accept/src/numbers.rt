@@ -13,7 +13,12 @@ pub fn kept_number(command: &Command, n: u64) -> Option<u64>
         Command::Prove { target, .. } => Some(*target),
         Command::Advance { source, .. } => Some(*source),
         Command::Item { under, .. } => Some(under.unwrap_or(n)),
-        Command::Set { .. } | Command::Header { .. } | Command::Link { .. } => None,
+        Command::Set { .. }
+        | Command::Get { .. }
+        | Command::Scan { .. }
+        | Command::History { .. }
+        | Command::Header { .. }
+        | Command::Link { .. } => None,
     }
 }
 

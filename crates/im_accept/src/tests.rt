@@ -7,9 +7,14 @@ use std::test::Fail;
 fn the_headers_that_clients_keep(rt: HostRuntime) -> Result<(), Fail> {
     let lines = read_script(
         rt.alloc(),
-        b"a: set k=1\na: header 4\na: link 2\na: state\na: prove 3 6\na: advance 3 6\na: item 3 0\na: item 3 0 @6\n",
+        b"a: set missing:k k=1\na: del k\na: get k\na: get k @3\na: scan 0x @3\na: history k\na: header 4\na: link 2\na: state\na: prove 3 6\na: advance 3 6\na: item 3 0\na: item 3 0 @6\n",
     )?;
     let wanted = [
+        (None, 9),
+        (None, 9),
+        (None, 9),
+        (None, 9),
+        (None, 9),
         (None, 9),
         (None, 9),
         (None, 9),

@@ -1,5 +1,6 @@
 -- Which replies say that something was placed.
-use Rattle.std.proofs.Common.{◌≡◌, ◌==◌, ◌||◌, ℕ, List, ◌∷◌, Bool, true, false, codes, refl, sym, ◌∙◌, if◌then◌else◌, nat_lt, length}
+use Rattle.std.proofs.Common.{◌≡◌, ◌==◌, ◌||◌, ℕ, List, ◌∷◌, Bool, true, false, codes, refl, sym, ◌∙◌, ap, if◌then◌else◌, nat_lt, length, Option, Some, None, inl, inr, ◌++◌, take}
+use Rattle.std.specs.Fmt.{decimal}
 use Rattle.std.proofs.lemmas.Slice.Eq.{bytes_eq-Decides}
 use Rattle.std.specs.Str.{bytes_eq}
 use Rattle.im_cuts.proofs.CutLemmas.{heads-differ}
@@ -14,6 +15,10 @@ use Rattle.im_proof.specs.declared.proofs.DualProof.{DualProof}
 use Rattle.im_wire.specs.Texts.{text}
 use Rattle.im_wire.specs.declared.messages.Message.{Message}
 use Rattle.im_wire.specs.declared.messages.Message.TheVariants.{State, Dual, Advance, Item}
+use Rattle.im_versions.specs.declared.versions.Version.{Version}
+use Rattle.im_versions.specs.declared.refusals.PlaceError.{PlaceError}
+use Rattle.im_versions.specs.declared.refusals.PlaceError.TheVariants as place
+use Rattle.im_report.specs.Reads.{history_reply, octets_text, place_reply, scan_reply, value_reply, IsGetAnswer, IsReadAt, IsScanAnswer}
 use Rattle.im_report.specs.Replies.{advance_reply, anchor_between, between_reply, beyond_reply, dual_between, full_reply, header_reply, item_reply, item_shown, linked_reply, no_entry_reply, order_reply, prove_reply, refused_reply, reserved_reply, shown_header, state_reply, tx_reply}
 
 -- `tx <n>` says so
@@ -128,3 +133,49 @@ item-not-placed hash history t i s n =
 
 pub linked-not-placed : (n : ℕ) → bytes_eq linked_reply (tx_reply n) ≡ false
 linked-not-placed n = other-letter 108 _ linked_reply n refl refl
+
+-- why a transaction wasn't placed
+pub place-not-placed : (why : PlaceError) (n : ℕ) → (why ≡ place.Memory → ⊥) → bytes_eq (place_reply why) (tx_reply n) ≡ false
+unfolding place_reply
+place-not-placed place.Memory n h = absurd (h refl)
+place-not-placed place.Full n h = full-not-placed n
+place-not-placed (place.Missing key) n h = other-letter 109 _ (place_reply (place.Missing key)) n refl refl
+place-not-placed (place.Exists key tx) n h = other-letter 101 _ (place_reply (place.Exists key tx)) n refl refl
+place-not-placed (place.Modified key tx) n h = other-letter 109 _ (place_reply (place.Modified key tx)) n refl refl
+
+-- a value, or that there is none
+pub value-not-placed : (version : Option Version) (n : ℕ) → bytes_eq (value_reply version) (tx_reply n) ≡ false
+unfolding value_reply
+value-not-placed None n = other-letter 97 _ (value_reply None) n refl refl
+value-not-placed (Some version) n =
+    elim (version.deleted) as (λ b. bytes_eq (if b then codes "absent" else codes "value " ++ octets_text version.value ++ codes " tx " ++ decimal version.tx) (tx_reply n) ≡ false) [
+      | true ↦ other-letter 97 _ (codes "absent") n refl refl
+      | false ↦ other-letter 118 _ (codes "value " ++ octets_text version.value ++ codes " tx " ++ decimal version.tx) n refl refl
+    ]
+
+-- live keys
+pub scan-not-placed : (shown : List Version) (n : ℕ) → bytes_eq (scan_reply shown) (tx_reply n) ≡ false
+unfolding scan_reply
+scan-not-placed shown n = other-letter 115 _ (scan_reply shown) n refl refl
+
+-- the versions of a key
+pub history-not-placed : (versions : List Version) (n : ℕ) → bytes_eq (history_reply versions) (tx_reply n) ≡ false
+unfolding history_reply
+history-not-placed versions n = other-letter 104 _ (history_reply versions) n refl refl
+
+-- what is read after a transaction, or refused as beyond them
+read-at-not-placed : (history : List Transaction) (at : Option ℕ) (shows : List Transaction → List ℕ → Type 0) (reply : List ℕ) (n : ℕ)
+    → ((hs : List Transaction) → shows hs reply → bytes_eq reply (tx_reply n) ≡ false) → IsReadAt history at shows reply → bytes_eq reply (tx_reply n) ≡ false
+read-at-not-placed history None shows reply n each a = each history a
+read-at-not-placed history (Some k) shows reply n each (inl (beyond, e)) = ap (λ (r : List ℕ). bytes_eq r (tx_reply n)) e ∙ beyond-not-placed (length history) n
+read-at-not-placed history (Some k) shows reply n each (inr (within, a)) = each (take k history) a
+
+-- the reply to `get`
+pub get-not-placed : (history : List Transaction) (key : List ℕ) (at : Option ℕ) (reply : List ℕ) (n : ℕ) → IsReadAt history at (IsGetAnswer key) reply → bytes_eq reply (tx_reply n) ≡ false
+get-not-placed history key at reply n a =
+    read-at-not-placed history at (IsGetAnswer key) reply n (λ hs e. ap (λ (r : List ℕ). bytes_eq r (tx_reply n)) e ∙ value-not-placed _ n) a
+
+-- the reply to `scan`
+pub scanned-not-placed : (history : List Transaction) (prefix : List ℕ) (at : Option ℕ) (reply : List ℕ) (n : ℕ) → IsReadAt history at (IsScanAnswer prefix) reply → bytes_eq reply (tx_reply n) ≡ false
+scanned-not-placed history prefix at reply n a =
+    read-at-not-placed history at (IsScanAnswer prefix) reply n (λ hs shown. ap (λ (r : List ℕ). bytes_eq r (tx_reply n)) shown.2 ∙ scan-not-placed shown.0 n) a

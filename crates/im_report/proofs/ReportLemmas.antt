@@ -1,5 +1,5 @@
 -- A report grows by one answered line.
-use Rattle.std.proofs.Common.{◌≡◌, ◌<◌, ◌≤◌, length, ℕ, zero, suc, ◌+◌, ◌-◌, List, [], ◌∷◌, ◌++◌, drop, take, map, filter, refl, arith, ap, ◌∙◌, sym, get_or, length-append, append-nil, append_assoc, All, Bool, true, false, IsTrue, Some, None, if◌then◌else◌, inl, inr}
+use Rattle.std.proofs.Common.{◌≡◌, ◌<◌, ◌≤◌, length, ℕ, zero, suc, ◌+◌, ◌-◌, List, [], ◌∷◌, ◌++◌, drop, take, map, filter, refl, arith, ap, ◌∙◌, sym, get_or, length-append, append-nil, append_assoc, All, Bool, true, false, IsTrue, Option, Some, None, subst, if◌then◌else◌, inl, inr}
 use Rattle.std.specs.List.{flat_map, range_with_len}
 use Rattle.std.proofs.lemmas.List.{take-append-le, drop-append-le, get_or_append_left, map-append, length-take}
 use Rattle.std.proofs.lemmas.List.Concat.{flat_map-append}
@@ -9,32 +9,46 @@ use Rattle.im_digest.specs.Digests.{Hash}
 use Rattle.im_model.specs.History.{no_transaction, IsHistory}
 use Rattle.im_model.specs.declared.transactions.Transaction.{Transaction}
 use Rattle.im_draft.specs.declared.drafts.Draft.{Draft}
+use Rattle.im_draft.specs.declared.preconditions.Pre.{Pre}
+use Rattle.im_versions.specs.Versions.{versions_of}
+use Rattle.im_versions.specs.Admits.{place_refusal}
+use Rattle.im_report.specs.Reads.{history_reply, IsGetAnswer, IsReadAt, IsScanAnswer}
 use Rattle.im_report.specs.Replies.{advance_reply, header_reply, item_reply, prove_reply, state_reply}
 use Rattle.im_report.specs.Report.{Answered, IsAnswer, IsSetAnswer, Report, floor_after, floor_by, floors, is_placed, written}
 use Rattle.im_script.specs.declared.commands.Line.{Line}
 use Rattle.im_script.specs.declared.commands.Command.{Command}
-use Rattle.im_script.specs.declared.commands.Command.TheVariants.{Set, Header, State, Prove, Advance, Item, Link}
+use Rattle.im_script.specs.declared.commands.Command.TheVariants.{Set, Get, Scan, History, Header, State, Prove, Advance, Item, Link}
 
 -- how many transactions an answered line placed
 abbrev pub placed_count : Answered → ℕ
 placed_count a = if is_placed a then 1 else 0
 
+-- what refuses preconditions behind the first k transactions stays as the history grows
+refusal-grow : (h more : List Transaction) (pres : List Pre) (k : ℕ) → k ≤ length h → place_refusal (take k (h ++ more)) pres ≡ place_refusal (take k h) pres
+refusal-grow h more pres k within = ap (λ (hs : List Transaction). place_refusal hs pres) (take-append-le k h more within)
+
 -- an answer to a set stays one as the history grows
-set-grow : (h more : List Transaction) (drafts : List Draft) (n : ℕ) (reply : List ℕ) → n ≤ length h → IsSetAnswer h drafts n reply → IsSetAnswer (h ++ more) drafts n reply
-set-grow h more drafts n reply within (inl reserved) = inl reserved
-set-grow h more drafts n reply within (inr (free, inl refused)) = inr (free, inl refused)
-set-grow h more drafts n reply within (inr (free, inr (are, inl full))) = inr (free, inr (are, inl full))
-set-grow h more drafts n reply within (inr (free, inr (are, inr a))) =
-    let first : 1 ≤ n = a.0 in
-    inr (free, inr (are, inr (a.0, ap (λ (t : Transaction). t.entries) (get_or_append_left h more no_transaction (n - 1) (omega arith)) ∙ a.1, a.2)))
+set-grow : (h more : List Transaction) (pres : List Pre) (drafts : List Draft) (n : ℕ) (reply : List ℕ) → n ≤ length h → IsSetAnswer h pres drafts n reply → IsSetAnswer (h ++ more) pres drafts n reply
+set-grow h more pres drafts n reply within (inl reserved) = inl reserved
+set-grow h more pres drafts n reply within (inr (free, inl refused)) = inr (free, inl refused)
+set-grow h more pres drafts n reply within (inr (free, inr (are, inl (why, is, e)))) = inr (free, inr (are, inl (why, refusal-grow h more pres n within ∙ is, e)))
+set-grow h more pres drafts n reply within (inr (free, inr (are, inr (some, none, same, e)))) =
+    inr (free, inr (are, inr (some, refusal-grow h more pres (n - 1) (omega arith) ∙ none, ap (λ (t : Transaction). t.entries) (get_or_append_left h more no_transaction (n - 1) (omega arith)) ∙ same, e)))
 
 -- what is read off the first n transactions alone stays as the history grows
 read-grow : (read : List Transaction → List ℕ) (h more : List Transaction) (n : ℕ) (reply : List ℕ) → n ≤ length h → reply ≡ read (take n h) → reply ≡ read (take n (h ++ more))
 read-grow read h more n reply within e = e ∙ ap read (sym (take-append-le n h more within))
 
+-- so does what is read after a transaction among them
+at-grow : (shows : List Transaction → List ℕ → Type 0) (h more : List Transaction) (at : Option ℕ) (n : ℕ) (reply : List ℕ) → n ≤ length h → IsReadAt (take n h) at shows reply → IsReadAt (take n (h ++ more)) at shows reply
+at-grow shows h more at n reply within a = subst (λ (hs : List Transaction). IsReadAt hs at shows reply) (sym (take-append-le n h more within)) a
+
 -- an answer stays one as the history grows
 pub IsAnswer-grow : (hash : Hash) (h more : List Transaction) (c : Command) (n : ℕ) (reply : List ℕ) → n ≤ length h → IsAnswer hash h c n reply → IsAnswer hash (h ++ more) c n reply
-IsAnswer-grow hash h more (Set drafts) n reply within a = set-grow h more drafts n reply within a
+IsAnswer-grow hash h more (Set pres drafts) n reply within a = set-grow h more pres drafts n reply within a
+IsAnswer-grow hash h more (Get key at) n reply within a = at-grow (IsGetAnswer key) h more at n reply within a
+IsAnswer-grow hash h more (Scan prefix at) n reply within a = at-grow (IsScanAnswer prefix) h more at n reply within a
+IsAnswer-grow hash h more (History key) n reply within a = read-grow (λ hs. history_reply (versions_of hs key)) h more n reply within a
 IsAnswer-grow hash h more (Header k) n reply within a = read-grow (λ hs. header_reply hash hs k) h more n reply within a
 IsAnswer-grow hash h more State n reply within a = read-grow (state_reply hash) h more n reply within a
 IsAnswer-grow hash h more (Prove s t) n reply within a = read-grow (λ hs. prove_reply hash hs s t) h more n reply within a

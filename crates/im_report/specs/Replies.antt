@@ -65,8 +65,8 @@ state_reply hash history =
 unfoldable pub order_reply : ℕ → ℕ → List ℕ
 order_reply first second = codes "refused order " ++ decimal first ++ codes " " ++ decimal second
 
--- what is shown of transactions s and t of a history, unless their order is refused, or else the greater
--- one
+-- what is shown of transactions s and t of a history; else the refusal of s, where it is 0 or above t, or of t,
+-- where it is beyond the history
 abbrev pub between_reply : List Transaction → ℕ → ℕ → List ℕ → List ℕ
 between_reply history s t shown =
     if s == 0 || nat_lt t s then order_reply s t

@@ -9,24 +9,32 @@ use Rattle.im_model.specs.declared.transactions.Transaction.{Transaction}
 use Rattle.im_draft.specs.Drafts.{entry_of, AreEntries, AreFree, IsReserved, Refuses}
 use Rattle.im_draft.specs.declared.drafts.Draft.{Draft}
 use Rattle.im_draft.specs.declared.refusals.PrepareError.{PrepareError}
-use Rattle.im_report.specs.Replies.{advance_reply, full_reply, header_reply, item_reply, linked_reply, prove_reply, refused_reply, reserved_reply, state_reply, tx_reply}
+use Rattle.im_draft.specs.declared.preconditions.Pre.{Pre}
+use Rattle.im_versions.specs.Admits.{place_refusal}
+use Rattle.im_versions.specs.declared.refusals.PlaceError.{PlaceError}
+use Rattle.im_report.specs.Reads.{place_reply, IsGetAnswer, IsHistoryAnswer, IsReadAt, IsScanAnswer}
+use Rattle.im_report.specs.Replies.{advance_reply, header_reply, item_reply, linked_reply, prove_reply, refused_reply, reserved_reply, state_reply, tx_reply}
 use Rattle.im_script.specs.declared.commands.Line.{Line}
 use Rattle.im_script.specs.declared.commands.Command.{Command}
-use Rattle.im_script.specs.declared.commands.Command.TheVariants.{Set, Header, State, Prove, Advance, Item, Link}
+use Rattle.im_script.specs.declared.commands.Command.TheVariants.{Set, Get, Scan, History, Header, State, Prove, Advance, Item, Link}
 
--- the reply to a set at n. A key that begins with octet 00 is refused first, then what is no
--- transaction; then, after n transactions, that these are as many as there may be, and else number n
--- has the entries that were asked for.
-abbrev pub IsSetAnswer : List Transaction → List Draft → ℕ → List ℕ → Type 0
-IsSetAnswer history drafts n reply =
+-- the reply to a set at n. An entry's key that begins with octet 00 is refused first, then what is no
+-- transaction; then, by what stands after n transactions, that these are as many as there may be, and the first
+-- precondition that doesn't hold; and else number n has the entries that were asked for, and there was room, and
+-- each precondition held, after the n - 1 before it.
+abbrev pub IsSetAnswer : List Transaction → List Pre → List Draft → ℕ → List ℕ → Type 0
+IsSetAnswer history pres drafts n reply =
     ((i : ℕ) × IsReserved drafts i × (reply ≡ reserved_reply i))
     ⊎ (AreFree drafts × (((why : PrepareError) × Refuses drafts why × (reply ≡ refused_reply why))
-    ⊎ (AreEntries drafts × (((n ≡ 1048576) × (reply ≡ full_reply))
-    ⊎ ((1 ≤ n) × ((transaction_of history n).entries ≡ map entry_of drafts) × (reply ≡ tx_reply n))))))
+    ⊎ (AreEntries drafts × (((why : PlaceError) × (place_refusal (take n history) pres ≡ Some why) × (reply ≡ place_reply why))
+    ⊎ ((1 ≤ n) × (place_refusal (take (n - 1) history) pres ≡ None) × ((transaction_of history n).entries ≡ map entry_of drafts) × (reply ≡ tx_reply n))))))
 
 -- the reply to a command at n: what it says of the first n transactions of the history
 abbrev pub IsAnswer : Hash → List Transaction → Command → ℕ → List ℕ → Type 0
-IsAnswer hash history (Set drafts) n reply = IsSetAnswer history drafts n reply
+IsAnswer hash history (Set pres drafts) n reply = IsSetAnswer history pres drafts n reply
+IsAnswer hash history (Get key at) n reply = IsReadAt (take n history) at (IsGetAnswer key) reply
+IsAnswer hash history (Scan prefix at) n reply = IsReadAt (take n history) at (IsScanAnswer prefix) reply
+IsAnswer hash history (History key) n reply = IsHistoryAnswer key (take n history) reply
 IsAnswer hash history (Header k) n reply = reply ≡ header_reply hash (take n history) k
 IsAnswer hash history State n reply = reply ≡ state_reply hash (take n history)
 IsAnswer hash history (Prove s t) n reply = reply ≡ prove_reply hash (take n history) s t
@@ -53,10 +61,13 @@ written a = reply_line a.line.session a.number a.reply
 abbrev pub is_placed : Answered → Bool
 is_placed a = bytes_eq a.reply (tx_reply a.number)
 
--- the least size of the tree behind a command at n: `link` raises it by its count, at most to n
+-- the size of the tree behind a command at n: `link` raises it by its count, at most to n
 abbrev pub floor_by : Command → ℕ → ℕ → ℕ
 floor_by (Link count) n floor = min (floor + count) n
-floor_by (Set drafts) n floor = floor
+floor_by (Set pres drafts) n floor = floor
+floor_by (Get key at) n floor = floor
+floor_by (Scan prefix at) n floor = floor
+floor_by (History key) n floor = floor
 floor_by (Header k) n floor = floor
 floor_by State n floor = floor
 floor_by (Prove s t) n floor = floor

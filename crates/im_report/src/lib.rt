@@ -2,6 +2,7 @@
 //! in `specs/`, and the texts of replies.
 #![tactic(auto)]
 
+pub mod reads;
 pub mod replies;
 #[cfg(test)]
 mod tests;

@@ -1,3 +1,4 @@
+use crate::reads::{history_text, place_text, push_octets, scan_text, value_text};
 use crate::replies::{
     beyond_text, header_shown, no_entry_text, order_text, refused_text, reply_text, reserved_text,
     tx_text,
@@ -7,7 +8,30 @@ use im_draft::refusals::PrepareError;
 use im_model::headers::Header;
 use im_model::limits::Metadata;
 use im_octet::octets::Octets;
+use im_versions::refusals::PlaceError;
+use im_versions::versions::Version;
+use std::alloc::{AllocError, Global};
 use std::test::Fail;
+
+// A version that was written.
+fn written(alloc: Global, tx: u64, key: &[u8], value: &[u8]) -> Result<Version, AllocError> {
+    Ok(Version {
+        tx,
+        deleted: false,
+        key: Octets::from_slice(alloc, key)?,
+        value: Octets::from_slice(alloc, value)?,
+    })
+}
+
+// A deletion.
+fn deletion(alloc: Global, tx: u64, key: &[u8]) -> Result<Version, AllocError> {
+    Ok(Version {
+        tx,
+        deleted: true,
+        key: Octets::from_slice(alloc, key)?,
+        value: Octets::new(alloc),
+    })
+}
 
 #[test]
 fn replies_with_numbers(rt: HostRuntime) -> Result<(), Fail> {
@@ -77,5 +101,85 @@ fn a_header_is_shown_behind_its_alh(rt: HostRuntime) -> Result<(), Fail> {
         )
     );
     assert!(rt; shown.as_slice().ends_with(json));
+    Ok(())
+}
+
+#[test]
+fn octets_are_bare_words_or_hex(rt: HostRuntime) -> Result<(), Fail> {
+    let cases: [(&[u8], &[u8]); 8] = [
+        (b"abc", b" abc"),
+        (b"", b" 0x"),
+        (b"\x00\xff", b" 0x00ff"),
+        (b"0xab", b" 0x30786162"),
+        (b"0a", b" 0a"),
+        (b"A.b-c_/9", b" A.b-c_/9"),
+        (b"a b", b" 0x612062"),
+        (b"!", b" 0x21"),
+    ];
+    for (octets, text) in cases {
+        let mut out = Vec::new(rt.alloc());
+        push_octets(rt.alloc(), &mut out, b" ", octets)?;
+        assert!(rt; out.as_slice() == text);
+    }
+    Ok(())
+}
+
+#[test]
+fn why_a_transaction_was_not_placed(rt: HostRuntime) -> Result<(), Fail> {
+    let alloc = rt.alloc();
+    let missing = PlaceError::Missing {
+        key: Octets::from_slice(alloc, b"z")?,
+    };
+    let exists = PlaceError::Exists {
+        key: Octets::from_slice(alloc, b"k")?,
+        tx: 1,
+    };
+    let modified = PlaceError::Modified {
+        key: Octets::from_slice(alloc, b"k")?,
+        tx: 2,
+    };
+    assert!(rt; place_text(alloc, &PlaceError::Full)?.as_slice() == b"full".as_slice());
+    assert!(rt; place_text(alloc, &missing)?.as_slice() == b"missing z".as_slice());
+    assert!(rt; place_text(alloc, &exists)?.as_slice() == b"exists k tx 1".as_slice());
+    assert!(rt; place_text(alloc, &modified)?.as_slice() == b"modified k tx 2".as_slice());
+    assert!(rt; place_text(alloc, &PlaceError::Memory).is_err());
+    Ok(())
+}
+
+#[test]
+fn a_value_is_told_with_its_writer_or_is_absent(rt: HostRuntime) -> Result<(), Fail> {
+    let alloc = rt.alloc();
+    let version = written(alloc, 1, b"k", b"a")?;
+    let empty = written(alloc, 20, b"k", b"")?;
+    let deleted = deletion(alloc, 4, b"k")?;
+    assert!(rt; value_text(alloc, Some(&version))?.as_slice() == b"value a tx 1".as_slice());
+    assert!(rt; value_text(alloc, Some(&empty))?.as_slice() == b"value 0x tx 20".as_slice());
+    assert!(rt; value_text(alloc, Some(&deleted))?.as_slice() == b"absent".as_slice());
+    assert!(rt; value_text(alloc, None)?.as_slice() == b"absent".as_slice());
+    Ok(())
+}
+
+#[test]
+fn a_scan_tells_its_keys_in_order(rt: HostRuntime) -> Result<(), Fail> {
+    let alloc = rt.alloc();
+    let shown = [
+        written(alloc, 2, b"j", b"b")?,
+        written(alloc, 3, b"k", b"c")?,
+    ];
+    assert!(rt; scan_text(alloc, &shown)?.as_slice() == b"scan 2 j=b@2 k=c@3".as_slice());
+    assert!(rt; scan_text(alloc, &[])?.as_slice() == b"scan 0".as_slice());
+    Ok(())
+}
+
+#[test]
+fn a_history_tells_its_deletions(rt: HostRuntime) -> Result<(), Fail> {
+    let alloc = rt.alloc();
+    let versions = [
+        written(alloc, 1, b"k", b"a")?,
+        written(alloc, 3, b"k", b"c")?,
+        deletion(alloc, 4, b"k")?,
+    ];
+    assert!(rt; history_text(alloc, &versions)?.as_slice() == b"history 3 a@1 c@3 !@4".as_slice());
+    assert!(rt; history_text(alloc, &[])?.as_slice() == b"history 0".as_slice());
     Ok(())
 }
