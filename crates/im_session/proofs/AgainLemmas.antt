@@ -15,7 +15,7 @@ use Rattle.im_wire.specs.Lines.{is_open}
 use Rattle.im_wire.specs.Messages.{HasMessage}
 use Rattle.im_script.specs.declared.commands.Line.{Line}
 use Rattle.im_script.specs.declared.commands.Command.{Command}
-use Rattle.im_script.specs.declared.commands.Command.TheVariants.{Set, Header, State, Prove, Advance, Item, Link}
+use Rattle.im_script.specs.declared.commands.Command.TheVariants.{Set, Get, Scan, History, Header, State, Prove, Advance, Item, Link}
 use Rattle.im_report.specs.Report.{Answered, Report, written}
 use Rattle.im_accept.specs.Messages.{item_between, IsReadBack}
 use Rattle.im_accept.specs.Taken.{line_text, AreReadBack, HaveSessions}
@@ -26,7 +26,10 @@ use Rattle.im_session.specs.Turns.{Turn}
 
 -- a reply that isn't open needs no reading
 pub closed-again : (hash : Hash) (history : List Transaction) (c : Command) (reply : List ℕ) → is_open reply ≡ false → IsReadBack hash history c reply
-closed-again hash history (Set drafts) reply closed = tt
+closed-again hash history (Set pres drafts) reply closed = tt
+closed-again hash history (Get key at) reply closed = tt
+closed-again hash history (Scan prefix at) reply closed = tt
+closed-again hash history (History key) reply closed = tt
 closed-again hash history (Header k) reply closed = tt
 closed-again hash history State reply closed = λ is_now. absurd (both_ways (is_open reply) closed is_now)
 closed-again hash history (Prove s t) reply closed = λ is_now. absurd (both_ways (is_open reply) closed is_now)

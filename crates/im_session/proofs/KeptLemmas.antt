@@ -1,12 +1,14 @@
 -- What a command that touches no disk leaves, and what a placed transaction does.
 use Rattle.std.proofs.Common.{◌≡◌, ◌∙◌, ℕ, ℤ, List, [], ◌∷◌, ◌++◌, refl, sym, subst, inl, inr}
-use Rattle.std.specs.Prelude.{map, Option, IfOk, Result, Ok, Err, IsErrOf}
+use Rattle.std.specs.Prelude.{map, Option, None, IfOk, Result, Ok, Err, IsErrOf}
 use Rattle.im_digest.specs.Digests.{Hash}
 use Rattle.im_disk.specs.Disk.{Files, Told}
 use Rattle.im_disk.specs.Moments.{Leaves}
 use Rattle.im_disk.proofs.Leaving.{leaves_nothing, leaves_weaker}
 use Rattle.im_draft.specs.Drafts.{entry_of, AreEntries, AreFree}
 use Rattle.im_draft.specs.declared.drafts.Draft.{Draft}
+use Rattle.im_draft.specs.declared.preconditions.Pre.{Pre}
+use Rattle.im_versions.specs.Admits.{place_refusal}
 use Rattle.im_format.specs.Standing.{Stands}
 use Rattle.im_journal.specs.Kept.{Kept}
 use Rattle.im_ledger.specs.Causes.{HasCommitCause}
@@ -47,11 +49,18 @@ module _ {D : Type 0} (told : D → Option Told) (hash : Hash) (k : KeptHistory 
   }
 
 -- a `set` was to place one transaction
-pub one-placed : (hash : Hash) (constant : Option ℤ) (drafts : List Draft) (entries : List Entry) (history : List Transaction) (before now : Option Told)
-    → AreFree drafts → AreEntries drafts → entries ≡ map entry_of drafts → MayPlaceOne hash constant entries history before now → MayPlace hash constant (Set drafts) history before now
-one-placed hash constant drafts entries history before now free are same p = record {
+pub one-placed : (hash : Hash) (constant : Option ℤ) (pres : List Pre) (drafts : List Draft) (entries : List Entry) (history : List Transaction) (before now : Option Told)
+    → place_refusal history pres ≡ None → AreFree drafts → AreEntries drafts → entries ≡ map entry_of drafts → MayPlaceOne hash constant entries history before now
+    → MayPlace hash constant (Set pres drafts) history before now
+one-placed hash constant pres drafts entries history before now admitted free are same p = record {
   left = p.tx ∷ [];
-  left_is = inr (record { drafts = drafts; asks = refl; free = free; are = are; tx = p.tx; one = refl; writes = p.writes ∙ same; timed = p.timed });
+  left_is = inr (record {
+    reaches = record { pres = pres; drafts = drafts; asks = refl; free = free; are = are; admitted = admitted };
+    tx = p.tx;
+    one = refl;
+    writes = p.writes ∙ same;
+    timed = p.timed;
+  });
   moments = p.moments;
 }
 

@@ -1,5 +1,6 @@
 pub mod AgainLemmas
 pub mod KeptLemmas
 pub mod PutLemmas
+pub mod ReadLemmas
 pub mod ServedLemmas
 pub mod TurnLemmas

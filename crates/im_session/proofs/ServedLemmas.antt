@@ -117,8 +117,8 @@ pub serves-stopped : (hash : Hash) (constant : Option ℤ) (found history : List
 serves-stopped hash constant found history lines done line before mid now octets size front less here standing told timed so_far m =
     let P : List Line → Type 0 = λ ls. Standing hash found history ls octets size in
     let Q : List Line → Type 0 = λ ls. Told hash history ls octets in
-    let R : List Line → Type 0 = λ ls. IsLeft constant ls m.left in
-    let I : Line → Type 0 = λ l. IsLeft constant (l ∷ drop (suc (length done)) lines) m.left in
+    let R : List Line → Type 0 = λ ls. IsLeft constant history ls m.left in
+    let I : Line → Type 0 = λ l. IsLeft constant history (l ∷ drop (suc (length done)) lines) m.left in
     let report : Report hash found history (take (length done) lines) octets = (subst P front standing).report in
     record {
       count = length done;
@@ -165,7 +165,7 @@ pub serves-ended : (hash : Hash) (constant : Option ℤ) (logs : ℕ) (found his
 serves-ended hash constant logs found history lines done before now octets size whole standing told timed so_far images here =
     let P : List Line → Type 0 = λ ls. Standing hash found history ls octets size in
     let Q : List Line → Type 0 = λ ls. Told hash history ls octets in
-    let R : List Line → Type 0 = λ ls. IsLeft constant ls [] in
+    let R : List Line → Type 0 = λ ls. IsLeft constant history ls [] in
     let M : List Transaction → Type 0 = λ txs. Leaves (StandsFrom hash (length found) txs) before now in
     let S : Files → Type 0 = λ image. Stands hash image history in
     let all : done ≡ take (length lines) lines = whole ∙ sym (take-length lines) in

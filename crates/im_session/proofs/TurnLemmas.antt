@@ -3,6 +3,7 @@ use Rattle.std.proofs.Common.{◌≡◌, ◌≤◌, length, ℕ, ◌+◌, ◌-�
 use Rattle.std.specs.Int.{w64}
 use Rattle.std.specs.Str.{bytes_eq}
 use Rattle.std.proofs.Math.Seq.{get_or-append_seam, take-length}
+use Rattle.std.proofs.lemmas.List.{take-append-le}
 use Rattle.std.proofs.lemmas.List.Elements.{All-push}
 use Rattle.im_digest.specs.Digests.{Hash}
 use Rattle.im_model.specs.History.{no_transaction, IsEntry, IsHistory, IsTransaction}
@@ -11,16 +12,22 @@ use Rattle.im_model.specs.declared.transactions.Transaction.{Transaction}
 use Rattle.im_draft.specs.Drafts.{entry_of, AreEntries, AreFree, IsReserved, Refuses}
 use Rattle.im_draft.specs.declared.drafts.Draft.{Draft}
 use Rattle.im_draft.specs.declared.refusals.PrepareError.{PrepareError}
+use Rattle.im_draft.specs.declared.preconditions.Pre.{Pre}
+use Rattle.im_versions.specs.Admits.{place_refusal}
+use Rattle.im_versions.specs.Versions.{versions_of}
+use Rattle.im_versions.specs.declared.refusals.PlaceError.{PlaceError}
+use Rattle.im_versions.specs.declared.refusals.PlaceError.TheVariants.{Memory}
+use Rattle.im_report.specs.Reads.{place_reply}
 use Rattle.im_tx.specs.Asked.{Asked, IsAsked}
-use Rattle.im_report.specs.Replies.{advance_reply, full_reply, header_reply, item_reply, linked_reply, prove_reply, refused_reply, reserved_reply, state_reply, tx_reply}
+use Rattle.im_report.specs.Replies.{advance_reply, header_reply, item_reply, linked_reply, prove_reply, refused_reply, reserved_reply, state_reply, tx_reply}
 use Rattle.im_report.specs.Report.{Answered, IsAnswer, floor_by, written}
 use Rattle.im_script.specs.declared.commands.Line.{Line}
 use Rattle.im_script.specs.declared.commands.Command.{Command}
-use Rattle.im_script.specs.declared.commands.Command.TheVariants.{Set, Header, State, Prove, Advance, Item, Link}
-use Rattle.im_report.proofs.PlacedLemmas.{advance-not-placed, full-not-placed, header-not-placed, item-not-placed, linked-not-placed, prove-not-placed, refused-not-placed, reserved-not-placed, state-not-placed, tx-placed}
+use Rattle.im_script.specs.declared.commands.Command.TheVariants.{Set, Get, Scan, History, Header, State, Prove, Advance, Item, Link}
+use Rattle.im_report.proofs.PlacedLemmas.{advance-not-placed, get-not-placed, header-not-placed, history-not-placed, item-not-placed, linked-not-placed, place-not-placed, prove-not-placed, refused-not-placed, reserved-not-placed, scanned-not-placed, state-not-placed, tx-placed}
 use Rattle.im_report.proofs.ReportLemmas.{Standing, Standing-next}
 use Rattle.im_ledger.specs.Ledgers.{Held, IsLedger}
-use Rattle.im_session.specs.Turns.{Answers, HasTime, Placed, Turn}
+use Rattle.im_session.specs.Turns.{Answers, HasTime, IsLooking, Placed, Turn}
 
 -- a transaction of prepared entries lies within the limits behind others, over a tree of some of them
 pub asked-transaction : (before : ℕ) (asked : Asked) (tx : Transaction) → IsAsked asked → tx.entries ≡ asked.entries → tx.bl ≤ before → FitsSigned w64 tx.ts → IsTransaction before tx
@@ -121,13 +128,18 @@ link-answers hash constant count before after reply same size l e =
     (ap (λ (r : List ℕ). bytes_eq r (tx_reply n)) e ∙ linked-not-placed n) size
 
 -- a placed transaction answers a set
-pub placed-answers : (hash : Hash) (constant : Option ℤ) (drafts : List Draft) (before after : Held) (reply : List ℕ)
-    → AreFree drafts → AreEntries drafts → Placed hash constant (map entry_of drafts) before after reply → Answers hash constant (Set drafts) before after reply
-placed-answers hash constant drafts before after reply free are p =
+pub placed-answers : (hash : Hash) (constant : Option ℤ) (pres : List Pre) (drafts : List Draft) (before after : Held) (reply : List ℕ)
+    → place_refusal before.transactions pres ≡ None → AreFree drafts → AreEntries drafts → Placed hash constant (map entry_of drafts) before after reply
+    → Answers hash constant (Set pres drafts) before after reply
+placed-answers hash constant pres drafts before after reply admitted free are p =
     let h : List Transaction = before.transactions in
     let one : List Transaction = p.tx ∷ [] in
     let size : length after.transactions ≡ length h + 1 = ap length p.grown ∙ length-append h one in
     let place : length after.transactions - 1 ≡ length h = omega arith in
+    let A : List Transaction → Type 0 = λ txs. place_refusal txs pres ≡ None in
+    let front : take (length after.transactions - 1) after.transactions ≡ h =
+    ap (λ i. take i after.transactions) place ∙ ap (λ (hs : List Transaction). take (length h) hs) p.grown
+    ∙ take-append-le (length h) h one (omega arith) ∙ take-length h in
     let last : get_or after.transactions (length after.transactions - 1) no_transaction ≡ p.tx =
     ap (λ i. get_or after.transactions i no_transaction) place
     ∙ ap (λ (hs : List Transaction). get_or hs (length h) no_transaction) p.grown ∙ get_or-append_seam h p.tx [] no_transaction in
@@ -135,7 +147,7 @@ placed-answers hash constant drafts before after reply free are p =
       more = one;
       grown = p.grown;
       ledger = p.ledger;
-      answer = inr (free, inr (are, inr (omega arith, ap (λ (t : Transaction). t.entries) last ∙ p.writes, p.told)));
+      answer = inr (free, inr (are, inr (omega arith, subst A (sym front) admitted, ap (λ (t : Transaction). t.entries) last ∙ p.writes, p.told)));
       count = sym (ap (λ b. if b then 1 else 0) (ap (λ (r : List ℕ). bytes_eq r (tx_reply (length after.transactions))) p.told ∙ tx-placed (length after.transactions)));
       timed = All-push (HasTime constant) [] p.tx (λ i d w. absurd (omega arith)) p.timed;
       over = All-push (λ (tx : Transaction). tx.bl ≡ length before.tree) [] p.tx (λ i d w. absurd (omega arith)) p.over;
@@ -143,31 +155,49 @@ placed-answers hash constant drafts before after reply free are p =
     }
 
 -- a key that begins with octet 00 is refused
-pub reserved-answers : (hash : Hash) (constant : Option ℤ) (drafts : List Draft) (i : ℕ) (held : Held) (reply : List ℕ)
-    → IsLedger hash held → IsReserved drafts i → reply ≡ reserved_reply i → Answers hash constant (Set drafts) held held reply
-reserved-answers hash constant drafts i held reply l is e =
+pub reserved-answers : (hash : Hash) (constant : Option ℤ) (pres : List Pre) (drafts : List Draft) (i : ℕ) (held : Held) (reply : List ℕ)
+    → IsLedger hash held → IsReserved drafts i → reply ≡ reserved_reply i → Answers hash constant (Set pres drafts) held held reply
+reserved-answers hash constant pres drafts i held reply l is e =
     let n : ℕ = length held.transactions in
-    kept-answers hash constant (Set drafts) held held reply refl l (inl (i, is, e))
+    kept-answers hash constant (Set pres drafts) held held reply refl l (inl (i, is, e))
     (ap (λ (r : List ℕ). bytes_eq r (tx_reply n)) e ∙ reserved-not-placed i n) refl
 
 -- drafts that are no transaction are refused
-pub refused-answers : (hash : Hash) (constant : Option ℤ) (drafts : List Draft) (why : PrepareError) (held : Held) (reply : List ℕ)
-    → IsLedger hash held → AreFree drafts → Refuses drafts why → reply ≡ refused_reply why → Answers hash constant (Set drafts) held held reply
-refused-answers hash constant drafts why held reply l free refuses e =
+pub refused-answers : (hash : Hash) (constant : Option ℤ) (pres : List Pre) (drafts : List Draft) (why : PrepareError) (held : Held) (reply : List ℕ)
+    → IsLedger hash held → AreFree drafts → Refuses drafts why → reply ≡ refused_reply why → Answers hash constant (Set pres drafts) held held reply
+refused-answers hash constant pres drafts why held reply l free refuses e =
     let n : ℕ = length held.transactions in
     let P : PrepareError → Type 0 = λ w. Refuses drafts w in
-    kept-answers hash constant (Set drafts) held held reply refl l (inr (free, inl (why, refuses, e)))
+    kept-answers hash constant (Set pres drafts) held held reply refl l (inr (free, inl (why, refuses, e)))
     (ap (λ (r : List ℕ). bytes_eq r (tx_reply n)) e ∙ refused-not-placed why n (λ m. subst P m refuses)) refl
 
--- a full history refuses all else
-pub full-answers : (hash : Hash) (constant : Option ℤ) (drafts : List Draft) (held : Held) (reply : List ℕ)
-    → IsLedger hash held → 1048576 ≤ length held.transactions → AreFree drafts → AreEntries drafts → reply ≡ full_reply → Answers hash constant (Set drafts) held held reply
-full-answers hash constant drafts held reply l full free are e =
+-- what isn't placed behind the history is refused
+pub unplaced-answers : (hash : Hash) (constant : Option ℤ) (pres : List Pre) (drafts : List Draft) (why : PlaceError) (held : Held) (reply : List ℕ)
+    → IsLedger hash held → place_refusal held.transactions pres ≡ Some why → (why ≡ Memory → ⊥) → AreFree drafts → AreEntries drafts → reply ≡ place_reply why
+    → Answers hash constant (Set pres drafts) held held reply
+unplaced-answers hash constant pres drafts why held reply l refuses told free are e =
     let n : ℕ = length held.transactions in
-    let few : n ≤ 1048576 = l.history.few in
-    let count : n ≡ 1048576 = omega arith in
-    kept-answers hash constant (Set drafts) held held reply refl l (inr (free, inr (are, inl (count, e))))
-    (ap (λ (r : List ℕ). bytes_eq r (tx_reply n)) e ∙ full-not-placed n) refl
+    let A : List Transaction → Type 0 = λ txs. place_refusal txs pres ≡ Some why in
+    kept-answers hash constant (Set pres drafts) held held reply refl l (inr (free, inr (are, inl (why, subst A (sym (take-length held.transactions)) refuses, e))))
+    (ap (λ (r : List ℕ). bytes_eq r (tx_reply n)) e ∙ place-not-placed why n told) refl
+
+-- what is looked for is read off the whole history, and says nothing of a transaction that was placed
+pub looked-answers : (hash : Hash) (constant : Option ℤ) (command : Command) (held : Held) (reply : List ℕ) → IsLooking command → IsLedger hash held
+    → IsAnswer hash held.transactions command (length held.transactions) reply → Answers hash constant command held held reply
+looked-answers hash constant (Get key at) held reply looks l is =
+    kept-answers hash constant (Get key at) held held reply refl l is (get-not-placed (take (length held.transactions) held.transactions) key at reply (length held.transactions) is) refl
+looked-answers hash constant (Scan prefix at) held reply looks l is =
+    kept-answers hash constant (Scan prefix at) held held reply refl l is (scanned-not-placed (take (length held.transactions) held.transactions) prefix at reply (length held.transactions) is) refl
+looked-answers hash constant (History key) held reply looks l is =
+    let n : ℕ = length held.transactions in
+    kept-answers hash constant (History key) held held reply refl l is (ap (λ (r : List ℕ). bytes_eq r (tx_reply n)) is ∙ history-not-placed (versions_of (take n held.transactions) key) n) refl
+looked-answers hash constant (Set pres drafts) held reply looks l is = absurd looks
+looked-answers hash constant (Header k) held reply looks l is = absurd looks
+looked-answers hash constant State held reply looks l is = absurd looks
+looked-answers hash constant (Prove s t) held reply looks l is = absurd looks
+looked-answers hash constant (Advance s t) held reply looks l is = absurd looks
+looked-answers hash constant (Item t i under) held reply looks l is = absurd looks
+looked-answers hash constant (Link count) held reply looks l is = absurd looks
 
 -- the report grows by the line
 pub turn-report : (hash : Hash) (constant : Option ℤ) (found : List Transaction) (lines : List Line) (line : Line) (before after : Held) (old new : List ℕ)

@@ -26,5 +26,5 @@ pub record MayPlaceOne (hash : Hash) (constant : Option ℤ) (entries : List Ent
 -- the history, or for it with that
 pub record MayPlace (hash : Hash) (constant : Option ℤ) (command : Command) (history : List Transaction) (before now : Option Told) : Type 0 where
   pub left : List Transaction
-  pub left_is : IsLeftBy constant command left
+  pub left_is : IsLeftBy constant history command left
   pub moments : Leaves (StandsWith hash history left) before now

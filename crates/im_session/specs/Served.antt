@@ -1,5 +1,5 @@
 -- What a session made of the lines of a script, and what it left on the disk.
-use Rattle.std.specs.Prelude.{◌≡◌, ◌⊎◌, ℤ, ℕ, ◌<◌, ◌≤◌, List, [], ◌∷◌, ◌++◌, length, map, take, drop, All, Option, IfSome}
+use Rattle.std.specs.Prelude.{◌≡◌, ◌⊎◌, ℤ, ℕ, ◌≤◌, List, [], ◌∷◌, ◌++◌, length, map, take, drop, All, Option, None, IfSome}
 use Rattle.im_digest.specs.Digests.{Hash}
 use Rattle.im_disk.specs.Disk.{Files, Told, seen}
 use Rattle.im_disk.specs.Moments.{Leaves, LeavesNow}
@@ -7,6 +7,8 @@ use Rattle.im_format.specs.Standing.{Stands}
 use Rattle.im_model.specs.declared.transactions.Transaction.{Transaction}
 use Rattle.im_draft.specs.Drafts.{entry_of, AreEntries, AreFree}
 use Rattle.im_draft.specs.declared.drafts.Draft.{Draft}
+use Rattle.im_draft.specs.declared.preconditions.Pre.{Pre}
+use Rattle.im_versions.specs.Admits.{place_refusal}
 use Rattle.im_script.specs.declared.commands.Line.{Line}
 use Rattle.im_script.specs.declared.commands.Command.{Command}
 use Rattle.im_script.specs.declared.commands.Command.TheVariants.{Set}
@@ -28,30 +30,37 @@ pub record StandsFrom (hash : Hash) (least : ℕ) (history : List Transaction) (
 abbrev pub StandsWith : Hash → List Transaction → List Transaction → Files → Type 0
 StandsWith hash history left image = Stands hash image history ⊎ Stands hash image (history ++ left)
 
--- this one transaction has the entries of the `set`, and the clock's time where it tells one
-pub record IsOneLeft (constant : Option ℤ) (command : Command) (left : List Transaction) : Type 0 where
+-- a `set` that reaches the disk: its drafts are the entries of a transaction, the history has room for it, and each
+-- of its preconditions holds behind it
+pub record ReachesDisk (history : List Transaction) (command : Command) : Type 0 where
+  pub pres : List Pre
   pub drafts : List Draft
-  pub asks : command ≡ Set drafts
+  pub asks : command ≡ Set pres drafts
   pub free : AreFree drafts
   pub are : AreEntries drafts
+  pub admitted : place_refusal history pres ≡ None
+
+-- this one transaction has the entries of a `set` that reaches the disk, and the clock's time where it tells one
+pub record IsOneLeft (constant : Option ℤ) (history : List Transaction) (command : Command) (left : List Transaction) : Type 0 where
+  pub reaches : ReachesDisk history command
   pub tx : Transaction
   pub one : left ≡ tx ∷ []
-  pub writes : tx.entries ≡ map entry_of drafts
+  pub writes : tx.entries ≡ map entry_of reaches.drafts
   pub timed : HasTime constant tx
 
--- what a command without a reply placed: nothing, or one transaction
-abbrev pub IsLeftBy : Option ℤ → Command → List Transaction → Type 0
-IsLeftBy constant command left = (left ≡ []) ⊎ IsOneLeft constant command left
+-- what a command without a reply placed behind the history: nothing, or one transaction
+abbrev pub IsLeftBy : Option ℤ → List Transaction → Command → List Transaction → Type 0
+IsLeftBy constant history command left = (left ≡ []) ⊎ IsOneLeft constant history command left
 
--- what the first of the lines without a reply placed
-abbrev pub IsLeft : Option ℤ → List Line → List Transaction → Type 0
-IsLeft constant [] left = left ≡ []
-IsLeft constant (line ∷ lines) left = IsLeftBy constant line.command left
+-- what the first of the lines without a reply placed behind it
+abbrev pub IsLeft : Option ℤ → List Transaction → List Line → List Transaction → Type 0
+IsLeft constant history [] left = left ≡ []
+IsLeft constant history (line ∷ lines) left = IsLeftBy constant history line.command left
 
 -- The first `count` lines were answered, over the history that was found: their report, whose messages are read as
--- those that were asked for. Each image of the disk now stands for the history, or for it with what the next line
--- placed, which got no reply; and each image of each moment stood for the first transactions of these, those that
--- were found among them.
+-- those that were asked for, where each line has a session's name. Each image of the disk now stands for the
+-- history, or for it with what the next line placed, which got no reply; and each image of each moment stood for the
+-- first transactions of these, those that were found among them.
 pub record Serves (hash : Hash) (constant : Option ℤ) (found : List Transaction) (lines : List Line) (before now : Option Told) (octets : List ℕ) : Type 0 where
   pub count : ℕ
   pub within : count ≤ length lines
@@ -60,17 +69,9 @@ pub record Serves (hash : Hash) (constant : Option ℤ) (found : List Transactio
   pub again : HaveSessions (take count lines) → AreReadBack hash history report.answers
   pub timed : All (HasTime constant) (drop (length found) history)
   pub left : List Transaction
-  pub left_is : IsLeft constant (drop count lines) left
+  pub left_is : IsLeft constant history (drop count lines) left
   pub images : LeavesNow (StandsWith hash history left) now
   pub moments : Leaves (StandsFrom hash (length found) (history ++ left)) before now
-
--- a `set` that reaches the disk: its drafts are the entries of a transaction, and the history has room for it
-pub record ReachesDisk (history : List Transaction) (command : Command) : Type 0 where
-  pub drafts : List Draft
-  pub asks : command ≡ Set drafts
-  pub free : AreFree drafts
-  pub are : AreEntries drafts
-  pub room : length history < 1048576
 
 -- why a command behind this history got no reply: the disk fails only at one that reaches it, and memory may run
 -- out at any

@@ -1,5 +1,5 @@
 -- What answering one line does to the ledger.
-use Rattle.std.specs.Prelude.{◌≡◌, ℤ, ℕ, List, [], ◌∷◌, ◌++◌, length, All, Option, IfSome, if◌then◌else◌}
+use Rattle.std.specs.Prelude.{◌≡◌, ◌≤◌, ℤ, ℕ, List, [], ◌∷◌, ◌++◌, length, take, All, Option, IfSome, if◌then◌else◌}
 use Rattle.std.specs.Str.{bytes_eq}
 use Rattle.im_digest.specs.Digests.{Hash}
 use Rattle.im_model.specs.declared.entries.Entry.{Entry}
@@ -8,8 +8,9 @@ use Rattle.im_report.specs.Replies.{tx_reply}
 use Rattle.im_report.specs.Report.{IsAnswer, floor_by, reply_line}
 use Rattle.im_script.specs.declared.commands.Line.{Line}
 use Rattle.im_script.specs.declared.commands.Command.{Command}
-use Rattle.im_script.specs.declared.commands.Command.TheVariants.{Set, Header, State, Prove, Advance, Item, Link}
+use Rattle.im_script.specs.declared.commands.Command.TheVariants.{Set, Get, Scan, History, Header, State, Prove, Advance, Item, Link}
 use Rattle.im_accept.specs.Messages.{IsReadBack}
+use Rattle.im_index.specs.Indexed.{Indexed, IsIndexOf}
 use Rattle.im_ledger.specs.Ledgers.{Held, IsLedger}
 
 -- a transaction has the clock's time, where the clock tells it
@@ -27,15 +28,36 @@ pub record Placed (hash : Hash) (constant : Option ℤ) (entries : List Entry) (
   pub ledger : IsLedger hash after
   pub told : reply ≡ tx_reply (length after.transactions)
 
--- a command that changes nothing: its reply is read off the ledger
+-- a command that changes nothing, and looks for no key: its reply is read off the ledger
 abbrev pub IsReading : Command → Type 0
-IsReading (Set drafts) = ⊥
+IsReading (Set pres drafts) = ⊥
+IsReading (Get key at) = ⊥
+IsReading (Scan prefix at) = ⊥
+IsReading (History key) = ⊥
 IsReading (Header k) = Unit {0}
 IsReading State = Unit {0}
 IsReading (Prove s t) = Unit {0}
 IsReading (Advance s t) = Unit {0}
 IsReading (Item t i under) = Unit {0}
 IsReading (Link count) = ⊥
+
+-- a command that looks for keys: its reply is read off the index
+abbrev pub IsLooking : Command → Type 0
+IsLooking (Set pres drafts) = ⊥
+IsLooking (Get key at) = Unit {0}
+IsLooking (Scan prefix at) = Unit {0}
+IsLooking (History key) = Unit {0}
+IsLooking (Header k) = ⊥
+IsLooking State = ⊥
+IsLooking (Prove s t) = ⊥
+IsLooking (Advance s t) = ⊥
+IsLooking (Item t i under) = ⊥
+IsLooking (Link count) = ⊥
+
+-- the index is that of the first transactions of a history
+pub record IsIndexWithin (index : Indexed) (history : List Transaction) : Type 0 where
+  pub within : index.taken ≤ length history
+  pub first : IsIndexOf index (take index.taken history)
 
 -- a command was answered by this reply: what it placed stands behind the history, over the tree as it was,
 -- and the tree is as large as the command makes it

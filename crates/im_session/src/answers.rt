@@ -1,12 +1,16 @@
-ghost use Rattle.std.specs.Prelude.{◌≡◌, ◌<◌, ℤ, ℕ, List, length, map, FitsSigned, IfOk, IsErrOf, OnOk, Option};
+ghost use Rattle.std.specs.Prelude.{◌≡◌, ◌<◌, ℤ, ℕ, List, length, map, FitsSigned, IfOk, IsErrOf, OnOk, Option, None};
 ghost use Rattle.std.specs.Int.{w64};
 ghost use Rattle.im_digest.specs.Digests.{Hash};
 ghost use Rattle.im_disk.specs.Moments.{Leaves};
 ghost use Rattle.im_draft.specs.Drafts.{entry_of, AreEntries, AreFree};
 ghost use Rattle.im_draft.specs.declared.drafts.Draft.{Draft as TheDraft};
+ghost use Rattle.im_draft.specs.declared.preconditions.Pre.{Pre as ThePre};
+ghost use Rattle.im_tx.specs.Asked.{IsAsked};
+ghost use Rattle.im_versions.specs.Admits.{place_refusal};
 ghost use Rattle.im_report.specs.Replies.{header_reply};
 ghost use Rattle.im_script.specs.declared.commands.Command.TheVariants.{Set, Link};
 ghost use Rattle.im_ledger.specs.Causes.{HasCommitCause};
+ghost use Rattle.im_ledger.specs.Grown.{Grows};
 ghost use Rattle.im_ledger.specs.Histories.{IsKept};
 ghost use Rattle.im_ledger.specs.Ledgers.{IsLedger};
 ghost use Rattle.im_ledger.specs.declared.errors.CommitError.TheVariants.{DiskFault};
@@ -18,20 +22,19 @@ ghost use Rattle.im_session.specs.Turns.{Answers, HasTime, Placed};
 use im_digest::Hash32;
 use im_disk::disk::Disk;
 use im_draft::drafts::Draft;
+use im_draft::preconditions::Pre;
 use im_edge::clock::Clock;
 use im_ledger::errors::CommitError;
 use im_ledger::kept::KeptLedger;
 use im_ledger::ledger::Ledger;
 use im_model::entries::Entries;
 use im_model::transactions::Transaction;
+use im_report::reads::place_text;
 use im_report::replies::{beyond_text, header_shown, refused_text, reserved_text, tx_text};
 use im_tx::prepare::prepare;
 use im_tx::prepared::Prepared;
 use im_tx::reserved::first_reserved;
 use std::alloc::{AllocError, Global};
-
-// The most transactions of a history.
-const MOST_TRANSACTIONS: u64 = 1_048_576;
 
 // A transaction of these entries at the clock's time, over a tree of this size.
 fn transaction_now<C: Clock>(clock: &mut C, entries: Entries, bl: u64) -> Transaction
@@ -45,31 +48,32 @@ fn transaction_now<C: Clock>(clock: &mut C, entries: Entries, bl: u64) -> Transa
     Transaction { ts, entries, bl }
 }
 
-// Places a transaction of the prepared entries, at the clock's time and over the tree as it is.
+// Places a transaction of these entries, at the clock's time and over the tree as it is.
 fn place<D: Disk, H: Hash32, C: Clock>(
     alloc: Global,
     hash: &H,
     clock: &mut C,
     kept: &mut KeptLedger<D>,
-    prepared: Prepared,
+    entries: Entries,
 ) -> Result<Vec<u8>, CommitError>
     requires kept { IsKept D.told (H.digest hash.now) kept.old }
     requires room { length kept.old.held.transactions < 1048576 }
-    ensures placed { IfOk result (λ reply. Placed (H.digest hash.now) (C.constant clock.old) prepared.entries kept.old.held kept.new.held reply.items) }
+    requires asked { (pres : List ThePre) × IsAsked (record { entries = entries; pres = pres }) }
+    ensures placed { IfOk result (λ reply. Placed (H.digest hash.now) (C.constant clock.old) entries kept.old.held kept.new.held reply.items) }
     ensures kept { OnOk result (IsKept D.told (H.digest hash.now) kept.new) }
     ensures put { (w n : ℕ) → IsKeptPut D.told (H.digest hash.now) w n kept.old → OnOk result (IsKeptPut D.told (H.digest hash.now) w n kept.new) }
     ensures moments { OnOk result (Leaves (StandsBetween (H.digest hash.now) kept.old.held.transactions kept.new.held.transactions) (D.told kept.old.journal.disk) (D.told kept.new.journal.disk)) }
-    ensures left { MayPlaceOne (H.digest hash.now) (C.constant clock.old) prepared.entries kept.old.held.transactions (D.told kept.old.journal.disk) (D.told kept.new.journal.disk) }
+    ensures left { MayPlaceOne (H.digest hash.now) (C.constant clock.old) entries kept.old.held.transactions (D.told kept.old.journal.disk) (D.told kept.new.journal.disk) }
+    ensures grows { Grows (D.told kept.old.journal.disk) (D.told kept.new.journal.disk) }
     ensures cause { HasCommitCause (D.faults kept.old.journal.disk) (D.faults kept.new.journal.disk) result }
     ensures same { C.constant clock.new ≡ C.constant clock.old }
 {
-    let (entries, _) = prepared.into_parts();
     let tx = transaction_now(clock, entries, kept.ledger().tree().size());
     kept.commit(alloc, hash, tx)?;
     Ok(tx_text(alloc, kept.ledger().count())?)
 }
 
-// Places prepared entries, unless the history holds as many transactions as it may.
+// Places prepared entries, unless the history holds as many transactions as it may, or a precondition doesn't hold.
 fn place_prepared<D: Disk, H: Hash32, C: Clock>(
     alloc: Global,
     hash: &H,
@@ -79,44 +83,49 @@ fn place_prepared<D: Disk, H: Hash32, C: Clock>(
 ) -> Result<Vec<u8>, CommitError>
     requires { IsKept D.told (H.digest hash.now) kept.old }
     ensures answers { IfOk result (λ reply. (drafts : List TheDraft) → AreFree drafts → AreEntries drafts → prepared.entries ≡ map entry_of drafts
-        → Answers (H.digest hash.now) (C.constant clock.old) (Set drafts) kept.old.held kept.new.held reply.items) }
+        → Answers (H.digest hash.now) (C.constant clock.old) (Set prepared.pres drafts) kept.old.held kept.new.held reply.items) }
     ensures kept { OnOk result (IsKept D.told (H.digest hash.now) kept.new) }
     ensures put { (w n : ℕ) → IsKeptPut D.told (H.digest hash.now) w n kept.old → OnOk result (IsKeptPut D.told (H.digest hash.now) w n kept.new) }
     ensures moments { OnOk result (Leaves (StandsBetween (H.digest hash.now) kept.old.held.transactions kept.new.held.transactions) (D.told kept.old.journal.disk) (D.told kept.new.journal.disk)) }
     ensures left { (drafts : List TheDraft) → AreFree drafts → AreEntries drafts → prepared.entries ≡ map entry_of drafts
-        → MayPlace (H.digest hash.now) (C.constant clock.old) (Set drafts) kept.old.held.transactions (D.told kept.old.journal.disk) (D.told kept.new.journal.disk) }
+        → MayPlace (H.digest hash.now) (C.constant clock.old) (Set prepared.pres drafts) kept.old.held.transactions (D.told kept.old.journal.disk) (D.told kept.new.journal.disk) }
+    ensures grows { Grows (D.told kept.old.journal.disk) (D.told kept.new.journal.disk) }
     ensures cause { HasCommitCause (D.faults kept.old.journal.disk) (D.faults kept.new.journal.disk) result }
-    ensures why { IsErrOf result DiskFault → length kept.old.held.transactions < 1048576 }
+    ensures why { IsErrOf result DiskFault → place_refusal kept.old.held.transactions prepared.pres ≡ None }
     ensures same { C.constant clock.new ≡ C.constant clock.old }
 {
-    if kept.ledger().count() >= MOST_TRANSACTIONS {
-        return Ok(Vec::from_slice(alloc, b"full")?);
+    let (entries, pres) = prepared.into_parts();
+    match kept.ledger().judge(pres) {
+        Ok(()) => place(alloc, hash, clock, kept, entries),
+        Err(why) => Ok(place_text(alloc, &why)?),
     }
-    place(alloc, hash, clock, kept, prepared)
 }
 
-/// Answers `set`: places a transaction of the drafts, unless they are refused.
+/// Answers `set` and `del`: places a transaction of the drafts, unless they are refused or a precondition doesn't
+/// hold. Each precondition costs a look at the entries from the last one back to the first of its key.
 pub(crate) fn answer_set<D: Disk, H: Hash32, C: Clock>(
     alloc: Global,
     hash: &H,
     clock: &mut C,
     kept: &mut KeptLedger<D>,
+    pres: Vec<Pre>,
     drafts: Vec<Draft>,
 ) -> Result<Vec<u8>, CommitError>
     requires { IsKept D.told (H.digest hash.now) kept.old }
-    ensures answers { IfOk result (λ reply. Answers (H.digest hash.now) (C.constant clock.old) (Set drafts.items) kept.old.held kept.new.held reply.items) }
+    ensures answers { IfOk result (λ reply. Answers (H.digest hash.now) (C.constant clock.old) (Set pres.items drafts.items) kept.old.held kept.new.held reply.items) }
     ensures kept { OnOk result (IsKept D.told (H.digest hash.now) kept.new) }
     ensures put { (w n : ℕ) → IsKeptPut D.told (H.digest hash.now) w n kept.old → OnOk result (IsKeptPut D.told (H.digest hash.now) w n kept.new) }
     ensures moments { OnOk result (Leaves (StandsBetween (H.digest hash.now) kept.old.held.transactions kept.new.held.transactions) (D.told kept.old.journal.disk) (D.told kept.new.journal.disk)) }
-    ensures left { MayPlace (H.digest hash.now) (C.constant clock.old) (Set drafts.items) kept.old.held.transactions (D.told kept.old.journal.disk) (D.told kept.new.journal.disk) }
+    ensures left { MayPlace (H.digest hash.now) (C.constant clock.old) (Set pres.items drafts.items) kept.old.held.transactions (D.told kept.old.journal.disk) (D.told kept.new.journal.disk) }
+    ensures grows { Grows (D.told kept.old.journal.disk) (D.told kept.new.journal.disk) }
     ensures cause { HasCommitCause (D.faults kept.old.journal.disk) (D.faults kept.new.journal.disk) result }
-    ensures why { IsErrOf result DiskFault → ReachesDisk kept.old.held.transactions (Set drafts.items) }
+    ensures why { IsErrOf result DiskFault → ReachesDisk kept.old.held.transactions (Set pres.items drafts.items) }
     ensures same { C.constant clock.new ≡ C.constant clock.old }
 {
     if let Some(i) = first_reserved(&drafts) {
         return Ok(reserved_text(alloc, i as u64)?);
     }
-    match prepare(alloc, drafts, Vec::new(alloc)) {
+    match prepare(alloc, drafts, pres) {
         Ok(prepared) => place_prepared(alloc, hash, clock, kept, prepared),
         Err(why) => Ok(refused_text(alloc, why)?),
     }

@@ -3,6 +3,7 @@
 
 mod answers;
 mod proofs;
+mod reads;
 pub mod serve;
 #[cfg(test)]
 mod tests;

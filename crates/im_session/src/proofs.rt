@@ -91,7 +91,7 @@ fn dual_between<H: Hash32>(
     build(alloc, hash, ledger.headers(), ledger.tree(), s, t)
 }
 
-/// The reply to `prove`: the dual proof between two transactions.
+/// The reply to `prove`: the dual proof between two transactions. It hashes each leaf of the target's tree.
 #[tactic(auto, unfolding(im_report::specs::Replies::prove_reply))]
 pub(crate) fn prove_text<H: Hash32>(
     alloc: Global,
@@ -136,7 +136,8 @@ fn anchor<H: Hash32>(
     }
 }
 
-/// The reply to `advance`: the dual proof between two transactions, and its anchor where one is due.
+/// The reply to `advance`: the dual proof between two transactions, and its anchor where one is due. Each hashes
+/// the leaves of its target's tree.
 #[tactic(auto, unfolding(im_report::specs::Replies::advance_reply))]
 pub(crate) fn advance_text<H: Hash32>(
     alloc: Global,
@@ -196,7 +197,7 @@ fn item<H: Hash32>(
 }
 
 /// The reply to `item`: an entry of a transaction by its index, proved under the named state, or under the
-/// last where none is named.
+/// last where none is named. It hashes the transaction's entries and the leaves of the state's tree.
 #[tactic(auto, unfolding(im_report::specs::Replies::item_reply))]
 pub(crate) fn item_text<H: Hash32>(
     alloc: Global,

@@ -1,7 +1,8 @@
-ghost use Rattle.std.specs.Prelude.{◌≡◌, ℤ, ℕ, length, Option, IfOk, IsErrOf, OnOk, OnErr};
+ghost use Rattle.std.specs.Prelude.{◌≡◌, ◌≤◌, ℤ, ℕ, length, Option, IfOk, IsErrOf, OnOk, OnErr};
 ghost use Rattle.im_disk.specs.Moments.{Leaves};
 ghost use Rattle.im_accept.specs.Messages.{IsReadBack};
 ghost use Rattle.im_ledger.specs.Causes.{HasCommitCause};
+ghost use Rattle.im_ledger.specs.Grown.{Grows};
 ghost use Rattle.im_ledger.specs.Histories.{IsKept};
 ghost use Rattle.im_ledger.specs.Ledgers.{IsLedger};
 ghost use Rattle.im_ledger.specs.declared.errors.CommitError.{CommitError as Why};
@@ -9,13 +10,17 @@ ghost use Rattle.im_ledger.specs.declared.errors.CommitError.TheVariants.{DiskFa
 ghost use Rattle.im_session.specs.Moves.{MayPlace, StandsBetween};
 ghost use Rattle.im_session.specs.Put.{IsKeptPut};
 ghost use Rattle.im_session.specs.Served.{ReachesDisk, Serves, ServesAll, ServesFront};
-ghost use Rattle.im_session.specs.Turns.{Answers, IsReading, Turn};
+ghost use Rattle.im_session.specs.Turns.{Answers, IsIndexWithin, IsLooking, IsReading, Turn};
+ghost use Rattle.im_report.specs.Report.{IsAnswer};
+ghost use Rattle.im_digest.specs.Digests.{Hash};
 
 use crate::answers::{answer_link, answer_set, header_text};
 use crate::proofs::{advance_text, item_text, prove_text, state_text};
+use crate::reads::{catch_up, get_text, history_shown, scan_shown};
 use im_digest::Hash32;
 use im_disk::disk::Disk;
 use im_edge::clock::Clock;
+use im_index::index::Index;
 use im_ledger::errors::CommitError;
 use im_ledger::kept::KeptLedger;
 use im_ledger::ledger::Ledger;
@@ -45,7 +50,40 @@ fn read<H: Hash32>(
             index,
             under,
         } => item_text(alloc, hash, ledger, number, index, under),
-        Command::Set { .. } | Command::Link { .. } => unreachable!(),
+        Command::Set { .. }
+        | Command::Get { .. }
+        | Command::Scan { .. }
+        | Command::History { .. }
+        | Command::Link { .. } => unreachable!(),
+    }
+}
+
+// Answers a command that looks for keys, over the index brought to the last transaction.
+fn look(
+    alloc: Global,
+    ledger: &Ledger,
+    index: &mut Index,
+    command: Command,
+) -> Result<Vec<u8>, AllocError>
+    requires few { length ledger.now.transactions ≤ 1048576 }
+    requires within { IsIndexWithin index.old ledger.now.transactions }
+    requires looking { IsLooking command }
+    ensures answer { (hash : Hash) → IfOk result (λ reply. IsAnswer hash ledger.now.transactions command (length ledger.now.transactions) reply.items) }
+    ensures within { OnOk result (IsIndexWithin index.new ledger.now.transactions) }
+{
+    catch_up(alloc, index, ledger)?;
+    let count = ledger.count();
+    match command {
+        Command::Get { key, at } => get_text(alloc, index, count, key.as_slice(), at),
+        Command::Scan { prefix, at } => scan_shown(alloc, index, count, prefix.as_slice(), at),
+        Command::History { key } => history_shown(alloc, index, count, key.as_slice()),
+        Command::Set { .. }
+        | Command::Header { .. }
+        | Command::State
+        | Command::Prove { .. }
+        | Command::Advance { .. }
+        | Command::Item { .. }
+        | Command::Link { .. } => unreachable!(),
     }
 }
 
@@ -55,22 +93,31 @@ fn answer<D: Disk, H: Hash32, C: Clock>(
     hash: &H,
     clock: &mut C,
     kept: &mut KeptLedger<D>,
+    index: &mut Index,
     command: Command,
 ) -> Result<Vec<u8>, CommitError>
-    requires { IsKept D.told (H.digest hash.now) kept.old }
+    requires kept { IsKept D.told (H.digest hash.now) kept.old }
+    requires within { IsIndexWithin index.old kept.old.held.transactions }
     ensures answers { IfOk result (λ reply. Answers (H.digest hash.now) (C.constant clock.old) command kept.old.held kept.new.held reply.items) }
     ensures again { IfOk result (λ reply. IsReadBack (H.digest hash.now) kept.new.held.transactions command reply.items) }
     ensures kept { OnOk result (IsKept D.told (H.digest hash.now) kept.new) }
+    ensures within { OnOk result (IsIndexWithin index.new kept.new.held.transactions) }
     ensures put { (w n : ℕ) → IsKeptPut D.told (H.digest hash.now) w n kept.old → OnOk result (IsKeptPut D.told (H.digest hash.now) w n kept.new) }
     ensures moments { OnOk result (Leaves (StandsBetween (H.digest hash.now) kept.old.held.transactions kept.new.held.transactions) (D.told kept.old.journal.disk) (D.told kept.new.journal.disk)) }
     ensures left { MayPlace (H.digest hash.now) (C.constant clock.old) command kept.old.held.transactions (D.told kept.old.journal.disk) (D.told kept.new.journal.disk) }
+    ensures grows { Grows (D.told kept.old.journal.disk) (D.told kept.new.journal.disk) }
     ensures cause { HasCommitCause (D.faults kept.old.journal.disk) (D.faults kept.new.journal.disk) result }
     ensures why { IsErrOf result DiskFault → ReachesDisk kept.old.held.transactions command }
     ensures same { C.constant clock.new ≡ C.constant clock.old }
 {
     match command {
-        Command::Set { drafts } => answer_set(alloc, hash, clock, kept, drafts.into_vec()),
+        Command::Set { pres, drafts } => {
+            answer_set(alloc, hash, clock, kept, pres.into_vec(), drafts.into_vec())
+        }
         Command::Link { count } => Ok(answer_link(alloc, hash, kept, count)?),
+        command @ (Command::Get { .. } | Command::Scan { .. } | Command::History { .. }) => {
+            Ok(look(alloc, kept.ledger(), index, command)?)
+        }
         command => Ok(read(alloc, hash, kept.ledger(), command)?),
     }
 }
@@ -81,22 +128,26 @@ fn turn<D: Disk, H: Hash32, C: Clock>(
     hash: &H,
     clock: &mut C,
     kept: &mut KeptLedger<D>,
+    index: &mut Index,
     out: &mut Vec<u8>,
     line: Line,
 ) -> Result<(), CommitError>
-    requires { IsKept D.told (H.digest hash.now) kept.old }
+    requires kept { IsKept D.told (H.digest hash.now) kept.old }
+    requires within { IsIndexWithin index.old kept.old.held.transactions }
     ensures turn { OnOk result (Turn (H.digest hash.now) (C.constant clock.old) line kept.old.held kept.new.held out.old.items out.new.items) }
     ensures kept { OnOk result (IsKept D.told (H.digest hash.now) kept.new) }
+    ensures within { OnOk result (IsIndexWithin index.new kept.new.held.transactions) }
     ensures put { (w n : ℕ) → IsKeptPut D.told (H.digest hash.now) w n kept.old → OnOk result (IsKeptPut D.told (H.digest hash.now) w n kept.new) }
     ensures moments { OnOk result (Leaves (StandsBetween (H.digest hash.now) kept.old.held.transactions kept.new.held.transactions) (D.told kept.old.journal.disk) (D.told kept.new.journal.disk)) }
     ensures nothing { OnErr result (out.new.items ≡ out.old.items) }
     ensures left { MayPlace (H.digest hash.now) (C.constant clock.old) line.command kept.old.held.transactions (D.told kept.old.journal.disk) (D.told kept.new.journal.disk) }
+    ensures grows { Grows (D.told kept.old.journal.disk) (D.told kept.new.journal.disk) }
     ensures cause { HasCommitCause (D.faults kept.old.journal.disk) (D.faults kept.new.journal.disk) result }
     ensures why { IsErrOf result DiskFault → ReachesDisk kept.old.held.transactions line.command }
     ensures same { C.constant clock.new ≡ C.constant clock.old }
 {
     let Line { session, command } = line;
-    let reply = answer(alloc, hash, clock, kept, command)?;
+    let reply = answer(alloc, hash, clock, kept, index, command)?;
     let count = kept.ledger().count();
     let text = reply_text(alloc, session.as_slice(), count, reply.as_slice())?;
     out.extend_from_slice(text.as_slice())?;
@@ -119,8 +170,9 @@ pub struct Served<D: Disk> {
 /// transaction is durable before its line gets its reply, and each reply that is a message is read as the one
 /// that was asked for. On the disk each transaction stands in a batch of its own, its values put over the value
 /// logs by turns. The first line that isn't answered ends the session: the disk then holds the history with what
-/// that line was to place, or without it. The disk fails only at a `set` that reaches it; memory may run out at
-/// any line.
+/// that line was to place, or without it. The disk fails only at a `set` or `del` that reaches it; memory
+/// may run out at any line. The index of keys is brought to the last transaction by the first line that looks for
+/// one, and holds a copy of each key and value.
 pub fn serve<D: Disk, H: Hash32, C: Clock>(
     alloc: Global,
     hash: &H,
@@ -133,12 +185,14 @@ pub fn serve<D: Disk, H: Hash32, C: Clock>(
     ensures some { Serves (H.digest hash.now) (C.constant clock.old) kept.held.transactions lines.items (D.told kept.journal.disk) (D.told result.disk) result.out.items }
     ensures all { OnOk result.end (ServesAll (H.digest hash.now) (C.constant clock.old) kept.logs kept.held.transactions lines.items (D.told kept.journal.disk) (D.told result.disk) result.out.items) }
     ensures front { (why : Why) → result.end ≡ Err why → ServesFront (H.digest hash.now) (C.constant clock.old) kept.held.transactions lines.items (D.told kept.journal.disk) (D.told result.disk) result.out.items why }
+    ensures grows { Grows (D.told kept.journal.disk) (D.told result.disk) }
     ensures cause { HasCommitCause (D.faults kept.journal.disk) (D.faults result.disk) result.end }
     ensures same { C.constant clock.new ≡ C.constant clock.old }
 {
+    let mut index = Index::new(alloc);
     let mut out = Vec::new(alloc);
     for line in lines {
-        if let Err(error) = turn(alloc, hash, clock, &mut kept, &mut out, line) {
+        if let Err(error) = turn(alloc, hash, clock, &mut kept, &mut index, &mut out, line) {
             return Served {
                 disk: kept.into_disk(),
                 out,

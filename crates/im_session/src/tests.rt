@@ -11,6 +11,8 @@ ghost use Rattle.im_digest.specs.Digests.{sum_digest};
 ghost use Rattle.im_disk.specs.Recorded.{told_by, unchanged};
 ghost use Rattle.im_ledger.specs.Histories.{IsKept};
 
+mod reads;
+
 use crate::serve::{Served, serve};
 use im_digest::Sum;
 use im_disk::memory::MemDisk;

@@ -1,8 +1,10 @@
 use Rattle.std.proofs.Common.{List, refl, subst, inl, inr}
 use Rattle.im_draft.specs.Drafts.{AreFree, IsReserved}
 use Rattle.im_draft.specs.declared.drafts.Draft.{Draft}
+use Rattle.im_draft.specs.declared.preconditions.Pre.{Pre}
 use Rattle.im_script.specs.declared.commands.Command.TheVariants.{Set}
 use Rattle.im_ledger.specs.Histories.{KeptHistory}
+use Rattle.im_session.specs.Moves.{MayPlace}
 use Rattle.im_session.proofs.KeptLemmas.{between-same, nothing-placed}
 use Rattle.im_session.proofs.TurnLemmas.{refused-answers, reserved-answers}
 use Rattle.im_session.proofs.answers.answer_set.Goals as goal
@@ -10,13 +12,13 @@ use Rattle.im_session.proofs.answers.answer_set.Goals as goal
 pub returns-in_err-reserved_text-clause-left : goal.returns-in_err-reserved_text-clause-left
 returns-in_err-reserved_text-clause-left g c =
     let kept : KeptHistory g.row.D.Denot = c.args.kept.now in
-    nothing-placed g.D.Disk.told (g.H.Hash32.digest c.args.hash.now) kept c.requires (g.C.Clock.constant c.args.clock.now) (Set c.args.drafts.items) kept.journal refl
+    nothing-placed g.D.Disk.told (g.H.Hash32.digest c.args.hash.now) kept c.requires (g.C.Clock.constant c.args.clock.now) (Set c.args.pres.items c.args.drafts.items) kept.journal refl
 
 pub returns-in-Some-clause-answers : goal.returns-in-Some-clause-answers
 returns-in-Some-clause-answers g c =
     let P : List Draft → Type 0 = λ ds. IsReserved ds c.in-Some.i in
     let first = subst P c.deref.ensures.value c.in-Some.ensures.some in
-    reserved-answers (g.H.Hash32.digest c.args.hash.now) (g.C.Clock.constant c.args.clock.now) c.args.drafts.items c.in-Some.i c.args.kept.now.held c.in_ok-reserved_text.field-0.items c.requires.ledger first
+    reserved-answers (g.H.Hash32.digest c.args.hash.now) (g.C.Clock.constant c.args.clock.now) c.args.pres.items c.args.drafts.items c.in-Some.i c.args.kept.now.held c.in_ok-reserved_text.field-0.items c.requires.ledger first
     c.in_ok-reserved_text.ensures
 
 pub returns-in-Some-clause-moments : goal.returns-in-Some-clause-moments
@@ -27,17 +29,21 @@ returns-in-Some-clause-moments g c =
 pub returns-in-Some-clause-left : goal.returns-in-Some-clause-left
 returns-in-Some-clause-left g c =
     let kept : KeptHistory g.row.D.Denot = c.args.kept.now in
-    nothing-placed g.D.Disk.told (g.H.Hash32.digest c.args.hash.now) kept c.requires (g.C.Clock.constant c.args.clock.now) (Set c.args.drafts.items) kept.journal refl
+    nothing-placed g.D.Disk.told (g.H.Hash32.digest c.args.hash.now) kept c.requires (g.C.Clock.constant c.args.clock.now) (Set c.args.pres.items c.args.drafts.items) kept.journal refl
 
 pub returns-in-Ok-clause-left : goal.returns-in-Ok-clause-left
 returns-in-Ok-clause-left g c =
     let F : List Draft → Type 0 = λ ds. AreFree ds in
-    c.place_prepared.ensures.left c.args.drafts.items (subst F c.deref.ensures.value c.in_default.ensures.none) c.in-Ok.ensures.entries c.in-Ok.ensures.ok
+    let kept : KeptHistory g.row.D.Denot = c.args.kept.now in
+    let now : KeptHistory g.row.D.Denot = c.place_prepared.new.kept in
+    let M : List Pre → Type 0 = λ pres. MayPlace (g.H.Hash32.digest c.args.hash.now) (g.C.Clock.constant c.args.clock.now) (Set pres c.args.drafts.items) kept.held.transactions (g.D.Disk.told kept.journal.disk) (g.D.Disk.told now.journal.disk) in
+    subst M c.in-Ok.ensures.pres
+    (c.place_prepared.ensures.left c.args.drafts.items (subst F c.deref.ensures.value c.in_default.ensures.none) c.in-Ok.ensures.entries c.in-Ok.ensures.ok)
 
 pub returns-in_err-refused_text-in-Err-clause-left : goal.returns-in_err-refused_text-in-Err-clause-left
 returns-in_err-refused_text-in-Err-clause-left g c =
     let kept : KeptHistory g.row.D.Denot = c.args.kept.now in
-    nothing-placed g.D.Disk.told (g.H.Hash32.digest c.args.hash.now) kept c.requires (g.C.Clock.constant c.args.clock.now) (Set c.args.drafts.items) kept.journal refl
+    nothing-placed g.D.Disk.told (g.H.Hash32.digest c.args.hash.now) kept c.requires (g.C.Clock.constant c.args.clock.now) (Set c.args.pres.items c.args.drafts.items) kept.journal refl
 
 pub returns-in_ok-refused_text-in-Err-clause-answers : goal.returns-in_ok-refused_text-in-Err-clause-answers
 returns-in_ok-refused_text-in-Err-clause-answers g c =
@@ -46,7 +52,7 @@ returns-in_ok-refused_text-in-Err-clause-answers g c =
     let done = c.in_ok-refused_text-in-Err in
     elim c.in-Err.ensures.err [
       | inl none ↦ absurd (done.ensures.refused none)
-      | inr refuses ↦ refused-answers (g.H.Hash32.digest c.args.hash.now) (g.C.Clock.constant c.args.clock.now) c.args.drafts.items c.in-Err.why c.args.kept.now.held done.field-0.items
+      | inr refuses ↦ refused-answers (g.H.Hash32.digest c.args.hash.now) (g.C.Clock.constant c.args.clock.now) c.args.pres.items c.args.drafts.items c.in-Err.why c.args.kept.now.held done.field-0.items
           c.requires.ledger free refuses done.ensures.text
     ]
 
@@ -58,4 +64,4 @@ returns-in_ok-refused_text-in-Err-clause-moments g c =
 pub returns-in_ok-refused_text-in-Err-clause-left : goal.returns-in_ok-refused_text-in-Err-clause-left
 returns-in_ok-refused_text-in-Err-clause-left g c =
     let kept : KeptHistory g.row.D.Denot = c.args.kept.now in
-    nothing-placed g.D.Disk.told (g.H.Hash32.digest c.args.hash.now) kept c.requires (g.C.Clock.constant c.args.clock.now) (Set c.args.drafts.items) kept.journal refl
+    nothing-placed g.D.Disk.told (g.H.Hash32.digest c.args.hash.now) kept c.requires (g.C.Clock.constant c.args.clock.now) (Set c.args.pres.items c.args.drafts.items) kept.journal refl

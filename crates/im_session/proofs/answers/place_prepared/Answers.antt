@@ -1,49 +1,61 @@
-use Rattle.std.proofs.Common.{◌≡◌, ◌≤◌, List, length, ap, refl, subst, arith}
+use Rattle.std.proofs.Common.{◌≡◌, ◌∙◌, List, None, Some, refl, subst}
 use Rattle.std.proofs.lemmas.Result.{IfOk-weaker}
+use Rattle.im_draft.specs.declared.preconditions.Pre.{Pre}
 use Rattle.im_model.specs.declared.entries.Entry.{Entry}
+use Rattle.im_versions.specs.Admits.{place_refusal}
 use Rattle.im_script.specs.declared.commands.Command.TheVariants.{Set}
 use Rattle.im_ledger.specs.Histories.{KeptHistory}
 use Rattle.im_ledger.specs.Ledgers.{Held}
 use Rattle.im_session.specs.Turns.{Placed}
 use Rattle.im_session.proofs.KeptLemmas.{between-same, nothing-placed, one-placed}
-use Rattle.im_session.proofs.TurnLemmas.{full-answers, placed-answers}
+use Rattle.im_session.proofs.TurnLemmas.{placed-answers, unplaced-answers}
 use Rattle.im_session.proofs.answers.place_prepared.Goals as goal
 
-pub returns-in_err-from_slice-clause-left : goal.returns-in_err-from_slice-clause-left
-returns-in_err-from_slice-clause-left g c drafts free are same =
+pub returns-in_err-place_text-in-Err-clause-left : goal.returns-in_err-place_text-in-Err-clause-left
+returns-in_err-place_text-in-Err-clause-left g c drafts free are same =
     let kept : KeptHistory g.row.D.Denot = c.args.kept.now in
-    nothing-placed g.D.Disk.told (g.H.Hash32.digest c.args.hash.now) kept c.requires (g.C.Clock.constant c.args.clock.now) (Set drafts) kept.journal refl
+    nothing-placed g.D.Disk.told (g.H.Hash32.digest c.args.hash.now) kept c.requires (g.C.Clock.constant c.args.clock.now) (Set c.args.prepared.pres drafts) kept.journal refl
 
-pub returns-then-count-ge-MOST_TRANSACTIONS-clause-answers : goal.returns-then-count-ge-MOST_TRANSACTIONS-clause-answers
-returns-then-count-ge-MOST_TRANSACTIONS-clause-answers g c drafts free are same =
+pub returns-in_ok-place_text-in-Err-clause-answers : goal.returns-in_ok-place_text-in-Err-clause-answers
+returns-in_ok-place_text-in-Err-clause-answers g c drafts free are same =
     let held : Held = c.args.kept.now.held in
-    let count : length c.ledger.result.now.transactions ≡ length held.transactions = ap (λ (h : Held). length h.transactions) c.ledger.ensures in
-    let full : 1048576 ≤ length held.transactions = omega arith in
-    full-answers (g.H.Hash32.digest c.args.hash.now) (g.C.Clock.constant c.args.clock.now) drafts held c.in_ok-from_slice.field-0.items c.requires.ledger full free are c.in_ok-from_slice.ensures.items
+    let done = c.in_ok-place_text-in-Err in
+    let H : Held → Type 0 = λ h. place_refusal h.transactions c.into_parts-entries.result.1 ≡ Some c.in-Err.why in
+    let R : List Pre → Type 0 = λ pres. place_refusal held.transactions pres ≡ Some c.in-Err.why in
+    let refuses : R c.args.prepared.pres = subst R c.into_parts-entries.ensures.pres (subst H c.ledger.ensures c.in-Err.ensures.refused) in
+    unplaced-answers (g.H.Hash32.digest c.args.hash.now) (g.C.Clock.constant c.args.clock.now) c.args.prepared.pres drafts c.in-Err.why held done.field-0.items
+    c.requires.ledger refuses done.ensures.refused free are done.ensures.text
 
-pub returns-then-count-ge-MOST_TRANSACTIONS-clause-moments : goal.returns-then-count-ge-MOST_TRANSACTIONS-clause-moments
-returns-then-count-ge-MOST_TRANSACTIONS-clause-moments g c =
+pub returns-in_ok-place_text-in-Err-clause-moments : goal.returns-in_ok-place_text-in-Err-clause-moments
+returns-in_ok-place_text-in-Err-clause-moments g c =
     let kept : KeptHistory g.row.D.Denot = c.args.kept.now in
     between-same g.D.Disk.told (g.H.Hash32.digest c.args.hash.now) kept c.requires kept refl refl
 
-pub returns-then-count-ge-MOST_TRANSACTIONS-clause-left : goal.returns-then-count-ge-MOST_TRANSACTIONS-clause-left
-returns-then-count-ge-MOST_TRANSACTIONS-clause-left g c drafts free are same =
+pub returns-in_ok-place_text-in-Err-clause-left : goal.returns-in_ok-place_text-in-Err-clause-left
+returns-in_ok-place_text-in-Err-clause-left g c drafts free are same =
     let kept : KeptHistory g.row.D.Denot = c.args.kept.now in
-    nothing-placed g.D.Disk.told (g.H.Hash32.digest c.args.hash.now) kept c.requires (g.C.Clock.constant c.args.clock.now) (Set drafts) kept.journal refl
+    nothing-placed g.D.Disk.told (g.H.Hash32.digest c.args.hash.now) kept c.requires (g.C.Clock.constant c.args.clock.now) (Set c.args.prepared.pres drafts) kept.journal refl
 
-pub returns-clause-answers : goal.returns-clause-answers
-returns-clause-answers g c =
+pub returns-in-Ok-clause-answers : goal.returns-in-Ok-clause-answers
+returns-in-Ok-clause-answers g c =
     let hash = g.H.Hash32.digest c.args.hash.now in
     let before : Held = c.args.kept.now.held in
     let after : Held = c.place.new.kept.held in
+    let H : Held → Type 0 = λ h. place_refusal h.transactions c.into_parts-entries.result.1 ≡ None in
+    let R : List Pre → Type 0 = λ pres. place_refusal before.transactions pres ≡ None in
+    let admitted : R c.args.prepared.pres = subst R c.into_parts-entries.ensures.pres (subst H c.ledger.ensures c.in-Ok.ensures.admitted) in
     IfOk-weaker c.place.result _ _
     (λ reply placed. λ drafts free are same.
     let P : List Entry → Type 0 = λ es. Placed hash (g.C.Clock.constant c.args.clock.now) es before after reply.items in
-    placed-answers hash (g.C.Clock.constant c.args.clock.now) drafts before after reply.items free are (subst P same placed))
+    placed-answers hash (g.C.Clock.constant c.args.clock.now) c.args.prepared.pres drafts before after reply.items admitted free are
+    (subst P (c.into_parts-entries.ensures.entries ∙ same) placed))
     c.place.ensures.placed
 
-pub returns-clause-left : goal.returns-clause-left
-returns-clause-left g c drafts free are same =
+pub returns-in-Ok-clause-left : goal.returns-in-Ok-clause-left
+returns-in-Ok-clause-left g c drafts free are same =
     let before : KeptHistory g.row.D.Denot = c.args.kept.now in
-    one-placed (g.H.Hash32.digest c.args.hash.now) (g.C.Clock.constant c.args.clock.now) drafts c.args.prepared.entries before.held.transactions
-    (g.D.Disk.told before.journal.disk) (g.D.Disk.told c.place.new.kept.journal.disk) free are same c.place.ensures.left
+    let H : Held → Type 0 = λ h. place_refusal h.transactions c.into_parts-entries.result.1 ≡ None in
+    let R : List Pre → Type 0 = λ pres. place_refusal before.held.transactions pres ≡ None in
+    let admitted : R c.args.prepared.pres = subst R c.into_parts-entries.ensures.pres (subst H c.ledger.ensures c.in-Ok.ensures.admitted) in
+    one-placed (g.H.Hash32.digest c.args.hash.now) (g.C.Clock.constant c.args.clock.now) c.args.prepared.pres drafts c.into_parts-entries.result.0 before.held.transactions
+    (g.D.Disk.told before.journal.disk) (g.D.Disk.told c.place.new.kept.journal.disk) admitted free are (c.into_parts-entries.ensures.entries ∙ same) c.place.ensures.left

@@ -1,30 +1,64 @@
-use Rattle.std.proofs.Common.{ℤ, ℕ, List, Option, Err, ap, refl, subst, ◌∙◌}
+use Rattle.std.proofs.Common.{ℤ, ℕ, List, Option, Err, length, ap, inl, inr, refl, subst, sym, ◌∙◌}
 use Rattle.std.proofs.lemmas.Result.{err_from_is_err_and}
 use Rattle.im_accept.specs.Messages.{IsReadBack}
 use Rattle.im_digest.specs.Digests.{Hash}
 use Rattle.im_ledger.specs.Histories.{KeptHistory}
 use Rattle.im_ledger.specs.Ledgers.{Held}
 use Rattle.im_ledger.specs.declared.errors.CommitError.TheVariants.{DiskFault}
-use Rattle.im_session.specs.Turns.{Answers}
+use Rattle.im_ledger.proofs.GrownLemmas.{grows-none}
+use Rattle.im_report.specs.Report.{IsAnswer}
+use Rattle.im_script.specs.declared.commands.Command.{Command}
+use Rattle.im_session.specs.Turns.{Answers, IsLooking}
 use Rattle.im_session.proofs.KeptLemmas.{between-same, memory-cause, never-err, never-fault, never-ok, nothing-placed, ok-cause}
 use Rattle.im_session.proofs.PutLemmas.{put-same}
+use Rattle.im_session.proofs.TurnLemmas.{looked-answers}
 use Rattle.im_session.proofs.serve.answer.Goals as goal
 
 pub returns-in_err-answer_link-in-Link-clause-left : goal.returns-in_err-answer_link-in-Link-clause-left
 returns-in_err-answer_link-in-Link-clause-left g c =
-    nothing-placed g.D.Disk.told (g.H.Hash32.digest c.args.hash.now) c.args.kept.now c.requires (g.C.Clock.constant c.args.clock.now) c.args.command c.answer_link.new.kept.journal c.answer_link.ensures.journal
+    nothing-placed g.D.Disk.told (g.H.Hash32.digest c.args.hash.now) c.args.kept.now c.requires.kept (g.C.Clock.constant c.args.clock.now) c.args.command c.answer_link.new.kept.journal c.answer_link.ensures.journal
 
 pub returns-in_ok-answer_link-in-Link-clause-moments : goal.returns-in_ok-answer_link-in-Link-clause-moments
 returns-in_ok-answer_link-in-Link-clause-moments g c =
-    between-same g.D.Disk.told (g.H.Hash32.digest c.args.hash.now) c.args.kept.now c.requires c.answer_link.new.kept c.answer_link.ensures.journal c.in_ok-answer_link-in-Link.ensures.same
+    between-same g.D.Disk.told (g.H.Hash32.digest c.args.hash.now) c.args.kept.now c.requires.kept c.answer_link.new.kept c.answer_link.ensures.journal c.in_ok-answer_link-in-Link.ensures.same
 
 pub returns-in_ok-answer_link-in-Link-clause-left : goal.returns-in_ok-answer_link-in-Link-clause-left
 returns-in_ok-answer_link-in-Link-clause-left g c =
-    nothing-placed g.D.Disk.told (g.H.Hash32.digest c.args.hash.now) c.args.kept.now c.requires (g.C.Clock.constant c.args.clock.now) c.args.command c.answer_link.new.kept.journal c.answer_link.ensures.journal
+    nothing-placed g.D.Disk.told (g.H.Hash32.digest c.args.hash.now) c.args.kept.now c.requires.kept (g.C.Clock.constant c.args.clock.now) c.args.command c.answer_link.new.kept.journal c.answer_link.ensures.journal
 
 pub returns-in_ok-answer_link-in-Link-clause-put : goal.returns-in_ok-answer_link-in-Link-clause-put
 returns-in_ok-answer_link-in-Link-clause-put g c w n p =
     put-same g.D.Disk.told (g.H.Hash32.digest c.args.hash.now) w n c.args.kept.now c.answer_link.new.kept c.answer_link.ensures.journal c.in_ok-answer_link-in-Link.ensures.same c.answer_link.ensures.logs p
+
+pub returns-in_err-look-in-Get-clause-left : goal.returns-in_err-look-in-Get-clause-left
+returns-in_err-look-in-Get-clause-left g c =
+    let kept : KeptHistory g.row.D.Denot = c.args.kept.now in
+    nothing-placed g.D.Disk.told (g.H.Hash32.digest c.args.hash.now) kept c.requires.kept (g.C.Clock.constant c.args.clock.now) c.args.command kept.journal refl
+
+pub returns-in_ok-look-in-Get-clause-answers : goal.returns-in_ok-look-in-Get-clause-answers
+returns-in_ok-look-in-Get-clause-answers g c =
+    let hash : Hash = g.H.Hash32.digest c.args.hash.now in
+    let held : Held = c.args.kept.now.held in
+    let done = c.in_ok-look-in-Get in
+    let reply : List ℕ = done.field-0.items in
+    let L : Command → Type 0 = λ k. IsLooking k in
+    let A : Held → Type 0 = λ h. IsAnswer hash h.transactions c.args.command (length h.transactions) reply in
+    let looks : L c.args.command = elim c.in-Get.is [
+      | inl (key, at, is) ↦ subst L (sym is) tt
+      | inr (inl (prefix, at, is)) ↦ subst L (sym is) tt
+      | inr (inr (key, is)) ↦ subst L (sym is) tt
+    ] in
+    looked-answers hash (g.C.Clock.constant c.args.clock.now) c.args.command held reply looks c.requires.kept.ledger (subst A c.ledger.ensures (done.ensures.answer hash))
+
+pub returns-in_ok-look-in-Get-clause-moments : goal.returns-in_ok-look-in-Get-clause-moments
+returns-in_ok-look-in-Get-clause-moments g c =
+    let kept : KeptHistory g.row.D.Denot = c.args.kept.now in
+    between-same g.D.Disk.told (g.H.Hash32.digest c.args.hash.now) kept c.requires.kept kept refl refl
+
+pub returns-in_ok-look-in-Get-clause-left : goal.returns-in_ok-look-in-Get-clause-left
+returns-in_ok-look-in-Get-clause-left g c =
+    let kept : KeptHistory g.row.D.Denot = c.args.kept.now in
+    nothing-placed g.D.Disk.told (g.H.Hash32.digest c.args.hash.now) kept c.requires.kept (g.C.Clock.constant c.args.clock.now) c.args.command kept.journal refl
 
 pub returns-in_err-read-in_default : goal.returns-in_err-read-in_default
 returns-in_err-read-in_default g c =
@@ -35,9 +69,11 @@ returns-in_err-read-in_default g c =
       answers = never-ok _ given error.0 error.1;
       again = never-ok _ given error.0 error.1;
       kept = never-ok _ given error.0 error.1;
+      within = never-ok _ given error.0 error.1;
       put = λ w n p. never-ok _ given error.0 error.1;
       moments = never-ok _ given error.0 error.1;
-      left = nothing-placed g.D.Disk.told (g.H.Hash32.digest c.args.hash.now) kept c.requires (g.C.Clock.constant c.args.clock.now) c.args.command kept.journal refl;
+      left = nothing-placed g.D.Disk.told (g.H.Hash32.digest c.args.hash.now) kept c.requires.kept (g.C.Clock.constant c.args.clock.now) c.args.command kept.journal refl;
+      grows = grows-none (g.D.Disk.told kept.journal.disk);
       cause = memory-cause (g.D.Disk.faults kept.journal.disk) given (error.1 ∙ ap Err error.2);
       why = λ fault. absurd (never-fault given (error.1 ∙ ap Err error.2) fault);
       same = refl;
@@ -53,12 +89,14 @@ returns-in_ok-read-in_default g c =
     let A : Held → Type 0 = λ h. Answers hash constant c.args.command h h reply in
     let R : Held → Type 0 = λ h. IsReadBack hash h.transactions c.args.command reply in
     record {
-      answers = subst A c.ledger.ensures (done.ensures.answers constant);
-      again = subst R c.ledger.ensures done.ensures.again;
-      kept = c.requires;
+      answers = subst A c.ledger-in_default.ensures (done.ensures.answers constant);
+      again = subst R c.ledger-in_default.ensures done.ensures.again;
+      kept = c.requires.kept;
+      within = c.requires.within;
       put = λ w n p. p;
-      moments = between-same g.D.Disk.told hash kept c.requires kept refl refl;
-      left = nothing-placed g.D.Disk.told hash kept c.requires constant c.args.command kept.journal refl;
+      moments = between-same g.D.Disk.told hash kept c.requires.kept kept refl refl;
+      left = nothing-placed g.D.Disk.told hash kept c.requires.kept constant c.args.command kept.journal refl;
+      grows = grows-none (g.D.Disk.told kept.journal.disk);
       cause = ok-cause (g.D.Disk.faults kept.journal.disk) _;
       why = λ fault. absurd (never-err done.field-0 DiskFault fault);
       same = refl;

@@ -6,9 +6,11 @@ use Rattle.std.proofs.lemmas.List.{map-id}
 use Rattle.im_digest.specs.Digests.{Hash}
 use Rattle.im_disk.specs.Disk.{Told as DiskTold}
 use Rattle.im_ledger.specs.Causes.{HasCommitCause}
+use Rattle.im_ledger.specs.Grown.{Grows}
 use Rattle.im_ledger.specs.Histories.{KeptHistory}
 use Rattle.im_ledger.specs.declared.errors.CommitError.TheVariants.{DiskFault}
 use Rattle.im_ledger.proofs.GrowLemmas.{kept-images}
+use Rattle.im_ledger.proofs.GrownLemmas.{grows-both, grows-none}
 use Rattle.im_model.specs.declared.transactions.Transaction.{Transaction}
 use Rattle.im_script.specs.declared.commands.Line.{Line}
 use Rattle.im_report.proofs.ReportLemmas.{Standing}
@@ -18,6 +20,7 @@ use Rattle.im_session.specs.Turns.{HasTime, Turn}
 use Rattle.im_session.proofs.AgainLemmas.{Told, Told-first, turn-told}
 use Rattle.im_session.proofs.KeptLemmas.{error-is, never-err, ok-cause}
 use Rattle.im_session.proofs.PutLemmas.{put-first, put-shown}
+use Rattle.im_session.proofs.ReadLemmas.{within-none}
 use Rattle.im_session.proofs.ServedLemmas.{found-standing, found-within, front-stopped, is-why, moments-first, moments-next, serves-ended, timed-next}
 use Rattle.im_session.proofs.TurnLemmas.{turn-report}
 use Rattle.im_session.proofs.serve.serve.Goals as goal
@@ -35,9 +38,11 @@ loop-line-init g c =
       standing = subst Q (sym c.new-out.ensures.items) (found-standing hash found (length kept.held.tree) c.requires.kept.ledger.history c.requires.filled);
       told = subst V (sym c.new-out.ensures.items) (Told-first hash found);
       kept = c.requires.kept;
+      within = within-none c.new-index.result found c.new-index.ensures;
       put = put-first g.D.Disk.told hash kept c.requires.kept;
       timed = subst T (sym (drop-length found)) (λ i d h. absurd (omega arith));
       moments = moments-first hash found now (kept-images g.D.Disk.told hash kept c.requires.kept);
+      grows = grows-none now;
       faults = refl;
       same = refl;
     }
@@ -60,10 +65,12 @@ loop-line-preserved g c =
       standing = turn-report hash clock found c.loop-line.yielded line before.held after.held old new c.loop-line.invariant.standing turn;
       told = turn-told hash clock c.loop-line.yielded line before.held after.held old new c.loop-line.invariant.told turn;
       kept = c.in_default.ensures.kept;
+      within = c.in_default.ensures.within;
       put = c.in_default.ensures.put c.args.kept.logs (length found) c.loop-line.invariant.put;
       timed = timed-next hash first line (length found) before.held after.held old new most (subst P c.loop-line.invariant.same turn) c.loop-line.invariant.timed;
       moments = moments-next hash (length found) before.held.transactions turn.answers.more after.held.transactions
           (g.D.Disk.told c.args.kept.journal.disk) (g.D.Disk.told before.journal.disk) (g.D.Disk.told after.journal.disk) most turn.answers.grown c.loop-line.invariant.moments c.in_default.ensures.moments;
+      grows = grows-both (g.D.Disk.told c.args.kept.journal.disk) (g.D.Disk.told before.journal.disk) (g.D.Disk.told after.journal.disk) c.loop-line.invariant.grows c.turn.ensures.grows;
       faults = c.in_default.ensures.cause.others (λ fault. cc) ∙ c.loop-line.invariant.faults;
       same = c.turn.ensures.same ∙ c.loop-line.invariant.same;
     }
@@ -103,6 +110,14 @@ returns-in-Err-clause-cause g c =
     let E : g.row.D.Denot → Type 0 = λ d. HasCommitCause {T = Unit {0}} (g.D.Disk.faults c.args.kept.journal.disk) (g.D.Disk.faults d) (Err c.in-Err.error) in
     let F : ℕ → Type 0 = λ n. HasCommitCause {T = Unit {0}} n (g.D.Disk.faults c.turn.new.kept.journal.disk) (Err c.in-Err.error) in
     subst E (sym c.into_disk.ensures) (subst F c.loop-line.invariant.faults c.in-Err.ensures.cause)
+
+pub returns-in-Err-clause-grows : goal.returns-in-Err-clause-grows
+returns-in-Err-clause-grows g c =
+    let start : Option DiskTold = g.D.Disk.told c.args.kept.journal.disk in
+    let mid : Option DiskTold = g.D.Disk.told c.loop-line.kept.journal.disk in
+    let now : Option DiskTold = g.D.Disk.told c.turn.new.kept.journal.disk in
+    let E : g.row.D.Denot → Type 0 = λ d. Grows start (g.D.Disk.told d) in
+    subst E (sym c.into_disk.ensures) (grows-both start mid now c.loop-line.invariant.grows c.turn.ensures.grows)
 
 pub returns-clause-all : goal.returns-clause-all
 returns-clause-all g c =
