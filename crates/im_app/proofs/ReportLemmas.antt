@@ -15,7 +15,9 @@ use Rattle.im_script.specs.declared.commands.Line.{Line}
 use Rattle.im_accept.specs.Taken.{AreReadBack, HaveSessions}
 use Rattle.im_accept.proofs.CutLemmas.{report-texts, script-sessions}
 use Rattle.im_accept.proofs.TakenLemmas.{report-taken}
+use Rattle.im_ledger.specs.Grown.{Grows}
 use Rattle.im_ledger.specs.declared.errors.CommitError.{CommitError}
+use Rattle.im_ledger.proofs.GrownLemmas.{grows-both}
 use Rattle.im_session.specs.Served.{Serves, ServesAll, ServesFront, StandsFrom, StopsAt}
 use Rattle.im_app.specs.Runs.{IsGiven, IsReport, IsWhole}
 
@@ -53,14 +55,20 @@ moments-both hash found history left (Some t) mid now begins opened served =
     (leaves_weaker (λ image. Stands hash image found) (StandsFrom hash (length found) (history ++ left)) (found-stands hash found history left begins) (Some (after Synced t)) mid opened)
     served
 
+-- the calls of opening behind its sync, and then those of the session
+grows-served : (before mid now : Option Told) → IfSome before (λ t. Grows (Some (after Synced t)) mid) → Grows mid now → IfSome before (λ t. Grows (Some (after Synced t)) now)
+grows-served None mid now opened served = tt
+grows-served (Some t) mid now opened served = grows-both (Some (after Synced t)) mid now opened served
+
 -- what opening found, and what a session made of it
 pub record Opens (hash : Hash) (found : List Transaction) (before mid : Option Told) : Type 0 where
   pub found_is : IfSome before (λ t. Stands hash (seen t) found)
   pub opened : IfSome before (λ t. Leaves (λ image. Stands hash image found) (Some (after Synced t)) mid)
+  pub grew : IfSome before (λ t. Grows (Some (after Synced t)) mid)
 
 pub is-report : (hash : Hash) (constant : Option ℤ) (script octets : List ℕ) (lines : List Line) (found : List Transaction) (before mid now : Option Told)
-    → IsGiven script lines → Opens hash found before mid → Serves hash constant found lines mid now octets → IsReport hash constant script octets before now
-is-report hash constant script octets lines found before mid now given o s =
+    → IsGiven script lines → Opens hash found before mid → Grows mid now → Serves hash constant found lines mid now octets → IsReport hash constant script octets before now
+is-report hash constant script octets lines found before mid now given o served s =
     let front : List Line = take s.count lines in
     let names : HaveSessions front = sessions-front lines s.count (script-sessions script lines given.read) in
     record {
@@ -79,13 +87,14 @@ is-report hash constant script octets lines found before mid now given o s =
       left_is = s.left_is;
       images = s.images;
       moments = moments-both hash found s.history s.left before mid now s.report.begins o.opened s.moments;
+      grows = grows-served before mid now o.grew served;
     }
 
 pub is-whole : (hash : Hash) (constant : Option ℤ) (logs : ℕ) (script octets : List ℕ) (lines : List Line) (found : List Transaction) (before mid now : Option Told)
-    → IsGiven script lines → Opens hash found before mid → ServesAll hash constant logs found lines mid now octets → IsWhole hash constant logs script octets before now
+    → IsGiven script lines → Opens hash found before mid → Grows mid now → ServesAll hash constant logs found lines mid now octets → IsWhole hash constant logs script octets before now
 unfolding is-report
-is-whole hash constant logs script octets lines found before mid now given o s = record {
-  report = is-report hash constant script octets lines found before mid now given o s.serves;
+is-whole hash constant logs script octets lines found before mid now given o served s = record {
+  report = is-report hash constant script octets lines found before mid now given o served s.serves;
   all = s.all;
   here = s.here;
 }
@@ -96,10 +105,10 @@ pub record IsFront (hash : Hash) (constant : Option ℤ) (why : CommitError) (sc
   pub stops : StopsAt why report.history (drop report.count report.lines)
 
 pub is-front : (hash : Hash) (constant : Option ℤ) (why : CommitError) (script octets : List ℕ) (lines : List Line) (found : List Transaction) (before mid now : Option Told)
-    → IsGiven script lines → Opens hash found before mid → ServesFront hash constant found lines mid now octets why → IsFront hash constant why script octets before now
+    → IsGiven script lines → Opens hash found before mid → Grows mid now → ServesFront hash constant found lines mid now octets why → IsFront hash constant why script octets before now
 unfolding is-report
-is-front hash constant why script octets lines found before mid now given o s = record {
-  report = is-report hash constant script octets lines found before mid now given o s.serves;
+is-front hash constant why script octets lines found before mid now given o served s = record {
+  report = is-report hash constant script octets lines found before mid now given o served s.serves;
   stops = s.stops;
 }
 

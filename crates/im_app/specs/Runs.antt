@@ -14,6 +14,7 @@ use Rattle.im_report.specs.Report.{Report}
 use Rattle.im_script.specs.Script.{IsScript}
 use Rattle.im_script.specs.declared.commands.Line.{Line}
 use Rattle.im_accept.specs.Taken.{line_text, AreTaken}
+use Rattle.im_ledger.specs.Grown.{Grows}
 use Rattle.im_ledger.specs.declared.errors.CommitError.{CommitError}
 use Rattle.im_opening.specs.Cut.{WasOpened}
 use Rattle.im_session.specs.Put.{StandsPut}
@@ -32,7 +33,8 @@ pub record IsGiven (script : List ℕ) (lines : List Line) : Type 0 where
 -- keeps its target. Behind an advance that client keeps its target. Every other line is passed over.
 -- Each image that a crash may leave of the disk now stands for the history, or for it with the one transaction
 -- of the next line, which got no reply. And at each moment since the first sync each image stood for the first
--- transactions of these, those that were found among them.
+-- transactions of these, those that were found among them. The disk tells its calls as before, a sync that succeeded,
+-- and others behind it.
 pub record IsReport (hash : Hash) (constant : Option ℤ) (script octets : List ℕ) (before now : Option Told) : Type 0 where
   pub lines : List Line
   pub given : IsGiven script lines
@@ -46,9 +48,10 @@ pub record IsReport (hash : Hash) (constant : Option ℤ) (script octets : List 
   pub texts : AreTexts octets (map line_text report.answers)
   pub taken : AreTaken hash history report.answers
   pub left : List Transaction
-  pub left_is : IsLeft constant (drop count lines) left
+  pub left_is : IsLeft constant history (drop count lines) left
   pub images : LeavesNow (StandsWith hash history left) now
   pub moments : IfSome before (λ t. Leaves (StandsFrom hash (length found) (history ++ left)) (Some (after Synced t)) now)
+  pub grows : IfSome before (λ t. Grows (Some (after Synced t)) now)
 
 -- all lines were answered, so that no transaction is without a reply, and what reads give stands for the history,
 -- where each transaction that was placed stands in a batch of its own, its values put over so many value logs

@@ -39,7 +39,7 @@ words_of Memory = codes "memory"
 words_of Long = codes "long"
 words_of (Kept line) = codes "kept"
 
--- a run of a script ends so
+-- words that ask for a run end so, where clap refuses them too
 abbrev pub EndsRun : Status → Type 0
 EndsRun Ok = Unit {0}
 EndsRun Usage = Unit {0}
@@ -54,7 +54,7 @@ EndsRun Memory = Unit {0}
 EndsRun Long = Unit {0}
 EndsRun (Kept line) = ⊥
 
--- `verify` ends so
+-- words that ask for `verify` end so, where clap refuses them too
 abbrev pub EndsVerify : Status → Type 0
 EndsVerify Ok = Unit {0}
 EndsVerify Usage = Unit {0}

@@ -4,6 +4,7 @@
 mod exchange;
 mod faults;
 mod proofs;
+mod reads;
 mod stored;
 mod taken;
 

@@ -171,7 +171,8 @@ pub fn top<
 
     // Where the sink failed, what was written is a front part of the report. Where the disk failed or memory ran out
     // at a line, the lines before it were answered and told, as far as the sink took them, and what the disk stands for
-    // has all of them. Else the sink wasn't touched. A source without a script of the grammar has nothing touched.
+    // has all of them. Else the sink wasn't touched. A source without a script of the grammar has neither
+    // sink, clock nor disk touched.
     ensures part { (asks : AsksRun (map string_bytes words.now)) → result.status ≡ Status.WriteFault
         → WritesPart (H.digest hash.now) (C.constant clock) asks.0 (S.left source.old) (D.told disk) (D.told result.disk) (K.written sink.old) (K.written sink.new) }
     ensures front { (why : Why) → AsksRun (map string_bytes words.now) → result.status ≡ status_for why
@@ -222,7 +223,7 @@ pub fn top<
     ensures kept { (k : ℕ) → result.status ≡ Status.Kept k → IfSome (P.kept keeper.old) (λ kept.
         (n : ℕ) × (k ≡ n + 1) × StopsKept (H.digest hash.now) kept n) }
 
-    // The source was read to its end before anything was written, kept, or done to the disk.
+    // At these ends, and where a run was given a script, the source was read to its end.
     ensures emptied { (result.status ≡ Status.Ok) ⊎ ((result.status ≡ Status.WriteFault) ⊎ ((result.status ≡ Status.KeeperFault) ⊎ ((result.status ≡ Status.Refused) ⊎ ((k : ℕ) × (result.status ≡ Status.Kept k))))) →
         IfSome (S.left source.old) (λ _. S.left source.new ≡ Some []) }
     ensures long { result.status ≡ Status.Long → IfSome (S.left source.old) (λ octets. 67108864 < length octets) }
@@ -265,13 +266,14 @@ pub fn top<
         → (Rose (P.faults keeper.old) (P.faults keeper.new) → ⊥)
         → IfSome (S.left source.old) (λ stream. IfSome (P.kept keeper.old) (HasVerdict (H.digest hash.now) result.status stream)) }
 
-    // `verify` leaves the disk as it was handed in, and so does a script that wasn't run; a run leaves the keeper. The
-    // clock comes back as one that gives the same constant.
+    // `verify` leaves the disk as it was handed in, and so does a script that wasn't read, want of memory aside; a run
+    // leaves the keeper. The clock comes back as one that gives the same constant.
     ensures disk { AsksVerify (map string_bytes words.now) ⊎ (EndsReading result.status × (result.status ≡ Status.Memory → ⊥)) → result.disk ≡ disk }
     ensures keeper { AsksRun (map string_bytes words.now) → keeper.new ≡ keeper.old }
     ensures clock { C.constant result.clock ≡ C.constant clock }
 
-    // The clock isn't asked by `verify`, nor before the script was read and the disk opened.
+    // The clock comes back as it was from `verify`, from a script that wasn't read, and from a disk whose files are
+    // damaged.
     ensures idle { AsksVerify (map string_bytes words.now) ⊎ ((EndsReading result.status × (result.status ≡ Status.Memory → ⊥)) ⊎ ((d : Damage) × (result.status ≡ Status.Damaged d))) → result.clock ≡ clock }
 {
     let mut clock = clock;

@@ -87,6 +87,23 @@ fn a_transaction_stays_from_run_to_run(rt: HostRuntime) -> Result<(), Fail> {
     Ok(())
 }
 
+// What deletes a key and what no index shows are read off the records.
+#[test]
+fn keys_are_read_over_what_was_found(rt: HostRuntime) -> Result<(), Fail> {
+    let disk = MemDisk::new(rt.alloc(), Vec::new(rt.alloc()))?;
+    let script = b"a: set ~h=1 k=a\na: set k=b\na: del k\n";
+    let (status, _, disk) = run_over(&rt, script, disk)?;
+    assert_eq!(rt; status, Status::Ok);
+    let script =
+        b"a: get k\na: get k @2\na: history k\na: get h\na: set exists:k k=c\na: set missing:k since:k@3 k=c\na: scan 0x\n";
+    let report =
+        b"a 3 absent\na 3 value b tx 2\na 3 history 3 a@1 b@2 !@3\na 3 absent\na 3 missing k\na 4 tx 4\na 4 scan 1 k=c@4\n";
+    let (status, written, _) = run_over(&rt, script, disk)?;
+    assert_eq!(rt; status, Status::Ok);
+    assert_eq!(rt; written.as_slice(), report.as_slice());
+    Ok(())
+}
+
 // Opening makes the calls 1 to 3, and the `set` 4 to 9: the value log, the transaction log, the commit log, a
 // sync, the gate, a sync.
 #[test]

@@ -8,6 +8,7 @@ use Rattle.im_edge.specs.Counts.{Rose}
 use Rattle.im_edge.specs.Sinks.{AddsPart}
 use Rattle.im_format.specs.Standing.{Stands}
 use Rattle.im_model.specs.declared.transactions.Transaction.{Transaction}
+use Rattle.im_ledger.specs.Grown.{Grows}
 use Rattle.im_session.specs.Served.{Serves, ServesAll}
 use Rattle.im_app.specs.Runs.{IsWhole, KeepsFound}
 use Rattle.im_app.proofs.FoundLemmas.{opened-keeps, served-keeps}
@@ -39,6 +40,7 @@ returns-clause-report g c = λ script given e.
     let opens : Opens hash found before mid = record {
       found_is = if-told before (λ t. Stands hash (seen t) found) c.in-Ok.ensures.stands;
       opened = if-told before (λ t. Leaves (λ image. Stands hash image found) (Some (after Synced t)) mid) c.in-Ok.ensures.moments;
+      grew = if-told before (λ t. Grows (Some (after Synced t)) mid) c.in-Ok.ensures.grows;
     } in
     let all : ServesAll hash constant c.in-Ok.kept.logs found c.args.lines.items mid now out =
     on-ok c.serve-disk.result.end (ServesAll hash constant c.in-Ok.kept.logs found c.args.lines.items mid now out) both.0 c.serve-disk.ensures.all in
@@ -47,7 +49,7 @@ returns-clause-report g c = λ script given e.
       script = script;
       script_is = refl;
       octets = out;
-      report = subst L c.in-Ok.ensures.logs (is-whole hash constant c.in-Ok.kept.logs script out c.args.lines.items found before mid now given opens all);
+      report = subst L c.in-Ok.ensures.logs (is-whole hash constant c.in-Ok.kept.logs script out c.args.lines.items found before mid now given opens c.serve-disk.ensures.grows all);
       whole = subst A c.as_slice.ensures.value (on-ok c.write_all-wrote.result (A c.as_slice.result.now) both.1 c.write_all-wrote.ensures.whole);
     }
 
@@ -65,6 +67,7 @@ returns-clause-part g c = λ script given e.
     let opens : Opens hash found before mid = record {
       found_is = if-told before (λ t. Stands hash (seen t) found) c.in-Ok.ensures.stands;
       opened = if-told before (λ t. Leaves (λ image. Stands hash image found) (Some (after Synced t)) mid) c.in-Ok.ensures.moments;
+      grew = if-told before (λ t. Grows (Some (after Synced t)) mid) c.in-Ok.ensures.grows;
     } in
     let all : ServesAll hash constant c.in-Ok.kept.logs found c.args.lines.items mid now out =
     on-ok c.serve-disk.result.end (ServesAll hash constant c.in-Ok.kept.logs found c.args.lines.items mid now out) answered c.serve-disk.ensures.all in
@@ -73,7 +76,7 @@ returns-clause-part g c = λ script given e.
       script = script;
       script_is = refl;
       octets = out;
-      report = subst L c.in-Ok.ensures.logs (is-whole hash constant c.in-Ok.kept.logs script out c.args.lines.items found before mid now given opens all);
+      report = subst L c.in-Ok.ensures.logs (is-whole hash constant c.in-Ok.kept.logs script out c.args.lines.items found before mid now given opens c.serve-disk.ensures.grows all);
       part = subst A c.as_slice.ensures.value c.write_all-wrote.ensures.part;
     }
 
@@ -98,10 +101,11 @@ returns-clause-front g c = λ script why given e.
     let opens : Opens hash found before mid = record {
       found_is = if-told before (λ t. Stands hash (seen t) found) c.in-Ok.ensures.stands;
       opened = if-told before (λ t. Leaves (λ image. Stands hash image found) (Some (after Synced t)) mid) c.in-Ok.ensures.moments;
+      grew = if-told before (λ t. Grows (Some (after Synced t)) mid) c.in-Ok.ensures.grows;
     } in
     let wrote : W c.as_slice.result.now = wrote-either c.write_all-wrote.result (A c.as_slice.result.now) (faults_now ≡ faults_before) (B c.as_slice.result.now) (Rose faults_before faults_now)
     c.write_all-wrote.ensures.whole c.write_all-wrote.ensures.same c.write_all-wrote.ensures.part c.write_all-wrote.ensures.failed in
-    let told = is-front hash constant why script out c.args.lines.items found before mid now given opens front in
+    let told = is-front hash constant why script out c.args.lines.items found before mid now given opens c.serve-disk.ensures.grows front in
     inr (record {
       script = script;
       script_is = refl;
