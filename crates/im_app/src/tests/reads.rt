@@ -135,14 +135,14 @@ fn del_is_refused_as_a_set_of_its_key(rt: HostRuntime) -> Result<(), Fail> {
     Ok(())
 }
 
-// Its metadata is 02. The entry's digest is 02 + 02 + 01 + 6b + 76 = e6, which is the root of the entries; the inner
+// Its metadata is 02. The entry's digest is 01 + 02 + 01 + 6b + 76 = e5, which is the root of the entries; the inner
 // digest adds 2, and the Alh 1.
 #[test]
 fn an_entry_that_no_index_shows_is_proved_and_not_read(rt: HostRuntime) -> Result<(), Fail> {
     let script =
         b"a: set ~k=v\na: get k\na: scan 0x\na: history k\na: set missing:k since:k@0 j=1\na: item 1 0 @1\n";
     let report =
-        b"a 1 tx 1\na 1 absent\na 1 scan 0\na 1 history 0\na 2 tx 2\na 2 {\"dual\":{\"consistency\":[],\"inclusion\":[],\"lastInclusion\":[],\"linear\":[\"00000000000000000000000000000000000000000000000000000000000000e9\"],\"linearAdvance\":{\"inclusions\":[],\"terms\":[]},\"source\":{\"blRoot\":\"0000000000000000000000000000000000000000000000000000000000000000\",\"blTxId\":0,\"eh\":\"00000000000000000000000000000000000000000000000000000000000000e6\",\"id\":1,\"md\":\"\",\"nentries\":1,\"prevAlh\":\"0000000000000000000000000000000000000000000000000000000000000000\",\"ts\":0,\"version\":1},\"target\":{\"blRoot\":\"0000000000000000000000000000000000000000000000000000000000000000\",\"blTxId\":0,\"eh\":\"00000000000000000000000000000000000000000000000000000000000000e6\",\"id\":1,\"md\":\"\",\"nentries\":1,\"prevAlh\":\"0000000000000000000000000000000000000000000000000000000000000000\",\"ts\":0,\"version\":1},\"targetBlTxAlh\":\"0000000000000000000000000000000000000000000000000000000000000000\"},\"entry\":{\"key\":\"6b\",\"md\":\"02\",\"value\":\"76\"},\"index\":0,\"path\":[],\"type\":\"item\"}\n";
+        b"a 1 tx 1\na 1 absent\na 1 scan 0\na 1 history 0\na 2 tx 2\na 2 {\"dual\":{\"consistency\":[],\"inclusion\":[],\"lastInclusion\":[],\"linear\":[\"00000000000000000000000000000000000000000000000000000000000000e8\"],\"linearAdvance\":{\"inclusions\":[],\"terms\":[]},\"source\":{\"blRoot\":\"0000000000000000000000000000000000000000000000000000000000000000\",\"blTxId\":0,\"eh\":\"00000000000000000000000000000000000000000000000000000000000000e5\",\"id\":1,\"md\":\"\",\"nentries\":1,\"prevAlh\":\"0000000000000000000000000000000000000000000000000000000000000000\",\"ts\":0,\"version\":1},\"target\":{\"blRoot\":\"0000000000000000000000000000000000000000000000000000000000000000\",\"blTxId\":0,\"eh\":\"00000000000000000000000000000000000000000000000000000000000000e5\",\"id\":1,\"md\":\"\",\"nentries\":1,\"prevAlh\":\"0000000000000000000000000000000000000000000000000000000000000000\",\"ts\":0,\"version\":1},\"targetBlTxAlh\":\"0000000000000000000000000000000000000000000000000000000000000000\"},\"entry\":{\"key\":\"6b\",\"md\":\"02\",\"value\":\"76\"},\"index\":0,\"path\":[],\"type\":\"item\"}\n";
     assert!(rt; is_answered(&rt, script, report)?);
     Ok(())
 }
