@@ -10,9 +10,9 @@ use im_mtree::paths::turned;
 use im_mtree::roots::root;
 use std::alloc::{AllocError, Global};
 
-/// The consistency list from the first m leaves to all of them: SUBPROOF of RFC 6962, section 2.1.2, with
-/// its first term always there; empty where m is their number. It hashes each leaf once. Its only error is
-/// want of memory.
+/// The consistency list from the first m leaves to all of them: PROOF of RFC 6962, section 2.1.2, with its
+/// first term always there; empty where m is their number. `checks::check_consistency` is its twin. It hashes
+/// each leaf once, and nothing where m is their number. Its only error is want of memory.
 #[tactic(auto, using(crate::proofs::BuiltLemmas::list_whole, crate::proofs::BuiltLemmas::list_more))]
 pub fn consistency<H: Hash32>(
     alloc: Global,

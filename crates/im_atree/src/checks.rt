@@ -8,7 +8,8 @@ use im_mtree::paths::{root_by_path, terms_of};
 use im_proof::faults::DualFault;
 
 /// Whether a path, its terms from the leaf up, leads from the Alh of transaction s, from 1, to the root of
-/// a tree of `size` leaves, where s is below the tree's end; else it is empty. It takes no memory.
+/// a tree of `size` leaves, where s is below the tree's end; else it is empty. `Tree::inclusion` is its twin,
+/// which builds one. It takes no memory, and hashes at most a leaf, and a node for each term.
 ///
 /// # Errors
 ///
@@ -41,7 +42,8 @@ pub fn check_inclusion<H: Hash32>(
 
 /// Whether a consistency list leads from the root of m leaves to that of n, where m is above 0 and below
 /// n; else it is empty, and both are one root where m is above 0 (RFC 9162, section 2.1.4.2, with the first
-/// term always there). It takes no memory.
+/// term always there). `Tree::consistency` is its twin, which builds one. It takes no memory, and hashes at
+/// most two nodes for each term behind the first.
 ///
 /// # Errors
 ///
@@ -108,7 +110,8 @@ fn check_growth<H: Hash32>(
 }
 
 /// Whether a path leads from an Alh to the root of a tree of `size` leaves, as that of the last leaf; it is
-/// empty where there is no leaf. It takes no memory.
+/// empty where there is no leaf. `Tree::inclusion` of the last leaf is its twin, which builds one. It takes no
+/// memory, and hashes at most a leaf, and a node for each term.
 ///
 /// # Errors
 ///

@@ -11,7 +11,9 @@ use im_mtree::places::{Place, above, is_left, meeting};
 /// The roots of one tree at two sizes.
 #[derive(Clone, Copy)]
 pub struct Roots {
+    /// The root at the smaller size.
     pub older: D32,
+    /// The root at the greater size.
     pub newer: D32,
 }
 
@@ -29,7 +31,8 @@ pub fn terms_between(m: u64, n: u64) -> u64
 }
 
 /// The roots that a consistency list of the exact length gives (RFC 9162, section 2.1.4.2, without its
-/// prepending, since the first term is always there). It takes no memory.
+/// prepending, since the first term is always there). `built::consistency` builds the list. It takes no
+/// memory, and hashes at most two nodes for each term behind the first.
 pub fn roots_between<H: Hash32>(hash: &H, m: u64, n: u64, known: &D32, list: &[D32]) -> Roots
     requires some { 0 < m }
     requires grows { m < n }

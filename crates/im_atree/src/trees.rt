@@ -7,7 +7,16 @@ use std::alloc::{AllocError, Global};
 use std::marker::Model;
 
 /// A hash tree that leaves are added to at its end. A clause sees the list of its leaves: the Alh of
-/// transaction k at place k - 1.
+/// transaction k at place k - 1. It keeps the leaves alone, 32 octets each: every root and every proof is
+/// hashed afresh.
+///
+/// # Thread safety
+///
+/// None is claimed. Who adds leaves holds the tree alone (`&mut`).
+///
+/// # Invariants
+///
+/// A leaf stays at its place: `append` adds one at the end, and nothing else changes the list.
 #[derive(Drop)]
 pub struct Tree {
     leaves: Vec<D32>,
@@ -64,7 +73,8 @@ impl Tree {
         self.leaves.as_slice()
     }
 
-    /// The root of the tree of the first n leaves: MTH of RFC 6962, section 2.1. It takes no memory.
+    /// The root of the tree of the first n leaves: MTH of RFC 6962, section 2.1. It takes no memory, and
+    /// hashes each of these leaves and each node above them once.
     pub fn root_at<H: Hash32>(&self, hash: &H, n: u64) -> D32
         requires some { 1 ≤ n }
         requires within { n ≤ length self.now }
@@ -74,8 +84,9 @@ impl Tree {
     }
 
     /// The path of transaction i, from 1, in the tree of the first n, its terms from the leaf up: PATH of
-    /// RFC 6962, section 2.1.1. It has the exact length, and leads to the tree's root. Its only error is
-    /// want of memory.
+    /// RFC 6962, section 2.1.1. It has the exact length, and leads to the tree's root.
+    /// `checks::check_inclusion` is its twin. It hashes once each other one of the first n leaves, and each
+    /// node that isn't above the transaction's own. Its only error is want of memory.
     pub fn inclusion<H: Hash32>(
         &self,
         alloc: Global,
@@ -93,9 +104,10 @@ impl Tree {
         path(alloc, hash, self.first(n), (i - 1) as usize)
     }
 
-    /// The consistency list from the first m leaves to the first n: SUBPROOF of RFC 6962, section 2.1.2,
-    /// with its first term always there; empty where both are one number. It has the exact length, and
-    /// passes its check against the roots of both trees. Its only error is want of memory.
+    /// The consistency list from the first m leaves to the first n: PROOF of RFC 6962, section 2.1.2, with its
+    /// first term always there; empty where both are one number. It has the exact length, and passes its check
+    /// against the roots of both trees. `checks::check_consistency` is its twin. It hashes each of the first n
+    /// leaves once, and nothing where both are one number. Its only error is want of memory.
     #[tactic(auto, using(crate::proofs::PassLemmas::list_exact, crate::proofs::PassLemmas::list_passes))]
     pub fn consistency<H: Hash32>(
         &self,

@@ -1,5 +1,5 @@
 -- Books that grow by a transaction.
-use Rattle.std.proofs.Common.{◌≡◌, ◌<◌, ◌≤◌, length, ℕ, suc, ◌+◌, ◌-◌, List, [], ◌∷◌, ◌++◌, refl, arith, ap, subst, ◌∙◌, sym, length-append, get_or, All}
+use Rattle.std.proofs.Common.{◌≡◌, ◌<◌, ◌≤◌, length, ℕ, suc, ◌+◌, ◌-◌, List, [], ◌∷◌, ◌++◌, refl, arith, ap, subst, ◌∙◌, sym, length-append, get_or}
 use Rattle.im_digest.specs.Digests.{Hash}
 use Rattle.im_model.specs.Headers.{alh}
 use Rattle.im_model.specs.History.{header_of, next_header, Follow, IsHistory, IsTransaction}
@@ -38,11 +38,6 @@ history-behind history tx h room is over =
 pub last-bl-behind : (bl : ℕ) (history : List Transaction) (tx : Transaction) → last_bl_or bl (history ++ tx ∷ []) ≡ tx.bl
 last-bl-behind bl [] tx = refl
 last-bl-behind bl (t ∷ txs) tx = last-bl-behind t.bl txs tx
-
--- the last tree is within what each is within
-pub last-bl-within : (n bl : ℕ) (history : List Transaction) → bl ≤ n → All (λ tx. tx.bl ≤ n) history → last_bl_or bl history ≤ n
-last-bl-within n bl [] least all = least
-last-bl-within n bl (t ∷ txs) least all = last-bl-within n t.bl txs (all 0 t (omega arith)) (λ i d h. all (suc i) d (omega arith))
 
 -- what is so of lists is so of equal ones
 pub book-same : (P : Booked → Type 0) (a b : Booked) → a.transactions ≡ b.transactions → a.headers ≡ b.headers → a.alhs ≡ b.alhs → P b → P a

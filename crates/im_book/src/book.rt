@@ -16,6 +16,16 @@ use std::marker::Model;
 const MOST: usize = 1_048_576;
 
 /// Placed transactions, with the header and the Alh of each. A clause sees the three lists.
+///
+/// # Thread safety
+///
+/// None of its own: one owner places. Calls that take `&self` change nothing.
+///
+/// # Invariants
+///
+/// `IsBook`, for one hash: the three lists are those of one history. `empty` and `new` begin with it, `place` keeps
+/// it, and so does `push` of the next header and its Alh; an error of either leaves the book as it was. `of` takes
+/// the lists as they are.
 #[derive(Drop)]
 pub struct Book {
     transactions: Vec<Transaction>,
@@ -131,7 +141,7 @@ impl Book {
     }
 
     /// Judges preconditions against all placed transactions. It takes no memory. It costs, for each
-    /// precondition, a look at the entries from the last one back to the first of its key.
+    /// precondition, a look at the entries from the last one back to its key's last version.
     ///
     /// # Errors
     ///

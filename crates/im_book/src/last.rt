@@ -11,11 +11,12 @@ use im_versions::entries::is_shown;
 // The attribute of an entry that deletes its key.
 const DELETED: u8 = 0;
 
-/// The last version of a key: the number of the transaction that wrote it, from 1, and whether it deleted
-/// the key.
+/// The last version of a key: which transaction wrote it, and whether that deleted the key.
 #[derive(Clone, Copy)]
 pub(crate) struct Last {
+    /// The number of the transaction, from 1.
     pub tx: u64,
+    /// The key was deleted.
     pub deleted: bool,
 }
 

@@ -20,7 +20,7 @@ use std::alloc::{AllocError, Global};
 mod tests;
 
 /// The Alh of transaction k: the digest of `k 8 | the Alh before it 32 | its inner digest 32`. It takes no
-/// memory.
+/// memory, and costs one hash.
 pub fn step<H: Hash32>(hash: &H, k: u64, previous: &D32, inner: &D32) -> D32
     ensures { result ≡ H.digest hash.now (link_string k previous.now inner.now) }
 {
@@ -28,7 +28,8 @@ pub fn step<H: Hash32>(hash: &H, k: u64, previous: &D32, inner: &D32) -> D32
 }
 
 /// The linear terms from transaction s to t: the Alh of s, and the inner digests of s + 1 to t. Of lists
-/// in which each Alh is a step from the one before they pass their check. The only error is want of memory.
+/// in which each Alh is a step from the one before they pass `check_linear`, the twin. It hashes nothing, and
+/// copies the terms. The only error is want of memory.
 #[tactic(auto, using(crate::proofs::LinearLemmas::linear_passes))]
 pub fn linear(
     alloc: Global,
@@ -51,7 +52,8 @@ pub fn linear(
 }
 
 /// Whether linear terms lead from transaction `from`, from 1, with an Alh, to transaction `to` with another.
-/// It takes no memory.
+/// `linear` is its twin, which builds them. It takes no memory, and hashes at most once for each term behind
+/// the first.
 ///
 /// # Errors
 ///

@@ -1,4 +1,4 @@
-//! Cutting a text at a mark, behind a prefix, into words and into lines: what readers of grammars share.
+//! Cutting a text at a mark, behind a prefix and into lines: what readers of grammars share.
 #![tactic(auto)]
 
 ghost use Rattle.std.specs.Prelude.{◌≡◌, ◌++◌, ◌<◌, List, ℕ, length, IfSome, IfNone};

@@ -1,4 +1,5 @@
--- Functions from octet strings to digests of 32 octets.
+-- Hash functions: functions from octet strings to octet strings. That a digest has 32 octets is said by
+-- Hash32.
 use Rattle.std.specs.Prelude.{ℕ, ◌%◌, List, [], ◌∷◌, ◌++◌, replicate, sum}
 
 -- a hash function; each definition that hashes takes one

@@ -40,7 +40,8 @@ pub record AreEntries (drafts : List Draft) : Type 0 where
   pub each : All IsFine drafts
   pub distinct : HaveDistinctKeys drafts
 
--- draft i is the first that isn't fine, of drafts that are neither none nor too many
+-- draft i is one of drafts that are neither none nor too many, and each before it is fine; what is wrong
+-- with it stands beside this
 pub record IsFirstAtFault (drafts : List Draft) (i : ℕ) : Type 0 where
   pub few : length drafts ≤ 1024
   pub within : i < length drafts

@@ -13,8 +13,11 @@ pub struct Attrs {
 /// An entry as it is asked for, whatever its lengths.
 #[derive(Drop)]
 pub struct Draft {
+    /// Its attributes.
     pub attrs: Attrs,
+    /// The key that it writes.
     pub key: Octets,
+    /// What it writes there.
     pub value: Octets,
 }
 

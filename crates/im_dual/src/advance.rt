@@ -14,11 +14,20 @@ use im_proof::proofs::AdvanceProof;
 /// The size of a hash tree, and its root.
 #[derive(Clone, Copy)]
 pub struct TreeHead {
+    /// The number of leaves.
     pub size: u64,
+    /// The root over them.
     pub root: D32,
 }
 
 /// Whether an advance from transaction a to e leads to the Alh of e, and each Alh on the way is in the tree.
+/// `build::advance` is its twin, which builds one. It takes no memory, and hashes at most once for each term
+/// behind the first, and for each path a leaf, and a node a term.
+///
+/// # Errors
+///
+/// The first check that fails: of the number of terms, of the number of paths, of the paths in their order,
+/// of the Alh at the end.
 pub fn check_advance<H: Hash32>(
     hash: &H,
     a: u64,

@@ -19,8 +19,8 @@ use im_proof::proofs::{AdvanceProof, DualProof};
 use std::alloc::{AllocError, Global};
 
 /// The dual proof between transactions s and t of a history, from the headers of the history and the tree
-/// of its first Alh. It passes its check. Only headers that the proof is about are hashed, besides what
-/// the paths need of the tree. The only error is want of memory.
+/// of its first Alh. It passes `check`, its twin. Only headers that the proof is about are hashed, and at most
+/// the target's tree once for each path and for the consistency list. The only error is want of memory.
 pub fn build<H: Hash32>(
     alloc: Global,
     hash: &H,
@@ -103,17 +103,7 @@ fn copy_of(alloc: Global, headers: &[Header], k: usize) -> Result<Header, AllocE
     headers[k - 1].try_clone(alloc)
 }
 
-// The last leaf, or zeros where there is none.
-fn last_of(leaves: &[D32]) -> D32
-    ensures { result ≡ (if nat_eq (length leaves.now) 0 then no_digest else slice_index_or leaves.now (length leaves.now - 1) []) }
-{
-    match leaves.last() {
-        Some(leaf) => *leaf,
-        None => [0; 32],
-    }
-}
-
-// The path of transaction s, where it is below the tree's end.
+// The path of transaction s, where it is below the tree's end. `check_inclusion` checks it.
 fn inclusion_of<H: Hash32>(
     alloc: Global,
     hash: &H,
@@ -130,7 +120,7 @@ fn inclusion_of<H: Hash32>(
     }
 }
 
-// The consistency list from the first `old` leaves, where there are any.
+// The consistency list from the first `old` leaves, where there are any. `check_consistency` checks it.
 fn consistency_of<H: Hash32>(
     alloc: Global,
     hash: &H,
@@ -147,7 +137,17 @@ fn consistency_of<H: Hash32>(
     }
 }
 
-// The path of the last leaf, where there is one.
+// The last leaf, or zeros where there is none. `check_bl` checks it.
+fn last_of(leaves: &[D32]) -> D32
+    ensures { result ≡ (if nat_eq (length leaves.now) 0 then no_digest else slice_index_or leaves.now (length leaves.now - 1) []) }
+{
+    match leaves.last() {
+        Some(leaf) => *leaf,
+        None => [0; 32],
+    }
+}
+
+// The path of the last leaf, where there is one. `check_last` checks it.
 fn last_inclusion_of<H: Hash32>(
     alloc: Global,
     hash: &H,
@@ -162,7 +162,7 @@ fn last_inclusion_of<H: Hash32>(
     }
 }
 
-// The linear terms from transaction s to t. It hashes their headers alone.
+// The linear terms from transaction s to t. It hashes their headers alone. `check_linear` checks them.
 fn linear_of<H: Hash32>(
     alloc: Global,
     hash: &H,
@@ -183,7 +183,7 @@ fn linear_of<H: Hash32>(
     Ok(Digests::from_vec(terms))
 }
 
-// The linear advance from transaction a to e in the tree of these leaves.
+// The linear advance from transaction a to e in the tree of these leaves. `check_advance` checks it.
 #[tactic(auto, unfolding(im_proof::specs::Built::advance_of))]
 fn advance<H: Hash32>(
     alloc: Global,

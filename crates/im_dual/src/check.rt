@@ -12,8 +12,10 @@ use im_header::alh;
 use im_proof::faults::DualFault;
 use im_proof::proofs::DualProof;
 
-/// Whether a dual proof holds: one history leads from its source's header to its target's. It takes no
-/// memory.
+/// Whether a dual proof holds: one history leads from its source's header to its target's. `build` is its
+/// twin: the lists that it builds are checked here in their order in `DualProof`. It takes no memory. It
+/// hashes at most each header twice, for each path a leaf and a node a term, two nodes for each term of the
+/// consistency list, and once each linear term but the first.
 ///
 /// # Errors
 ///

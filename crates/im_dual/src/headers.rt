@@ -40,8 +40,12 @@ pub fn check_header(header: &Header) -> Result<(), HeaderFault>
     Ok(())
 }
 
-/// Whether both headers are such as this store makes, and neither the transaction nor its tree is behind
-/// the target's.
+/// Whether both headers are such as this store makes, and neither the source's number nor the size of its
+/// tree is above the target's. It takes no memory.
+///
+/// # Errors
+///
+/// The first check that fails: of the source's header, of the target's, of their numbers, of their trees.
 #[tactic(auto, using(im_proof::proofs::CheckLemmas::fail_both, im_proof::proofs::CheckLemmas::fail_append), unfolding(im_proof::specs::Duals::both_headers_checks))]
 pub fn check_headers(source: &Header, target: &Header) -> Result<(), DualFault>
     ensures first { result ≡ first_fail (both_headers_checks source.now target.now) }
@@ -71,7 +75,7 @@ fn check_target(header: &Header) -> Result<(), DualFault>
     check_header(header).map_err(|fault| DualFault::Target { fault })
 }
 
-// Whether neither the transaction nor its tree is behind the target's.
+// Whether neither the source's number nor the size of its tree is above the target's.
 fn check_order(source: &Header, target: &Header) -> Result<(), DualFault>
     ensures first { result ≡ first_fail (order_checks source.now target.now) }
     ensures order { IfOk result (λ u. source.now.id ≤ target.now.id) }

@@ -8,6 +8,7 @@ use thiserror::Error;
 #[derive(Clone, Copy, Debug, PartialEq, Eq, Error)]
 #[error("octet {at} of the metadata can't stand there")]
 pub struct BadMeta {
+    /// The place of that octet, from 0.
     pub at: u32,
 }
 

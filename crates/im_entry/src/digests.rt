@@ -7,7 +7,8 @@ use im_model::entries::Entry;
 use im_octet::buffers::append;
 use im_octet::fields::two;
 
-/// The digest of an entry: of `mdLen 2 | md | keyLen 2 | key | H(value) 32`. It takes no memory.
+/// The digest of an entry: of `mdLen 2 | md | keyLen 2 | key | H(value) 32`. It takes no memory, and costs two
+/// hashes: the value, and the entry.
 pub fn digest<H: Hash32>(hash: &H, entry: &Entry) -> D32
     ensures { result ≡ entry_digest (H.digest hash.now) entry.now }
 {

@@ -15,12 +15,16 @@ use thiserror::Error;
 /// Why a key and a value make no entry. Lengths are in octets.
 #[derive(Clone, Copy, Debug, PartialEq, Eq, Error)]
 pub enum EntryError {
+    /// Memory ran out.
     #[error("out of memory")]
     Memory,
+    /// The key is empty.
     #[error("the key is empty")]
     KeyEmpty,
+    /// The key is longer than a key may be.
     #[error("the key has {len} octets, more than 1024")]
     KeyLong { len: u64 },
+    /// The value is longer than a value may be.
     #[error("the value has {len} octets, more than 4096")]
     ValueLong { len: u64 },
 }

@@ -11,6 +11,16 @@ use std::marker::Model;
 /// The roots of the whole subtrees of a list of leaves that only grows, one for each one in the binary
 /// digits of their number. It has room for as many as a count of 64 bits can want, and takes no memory.
 /// A clause sees the roots, the last first, and the number of leaves.
+///
+/// # Thread safety
+///
+/// None is claimed. Who adds leaves holds the frontier alone (`&mut`).
+///
+/// # Invariants
+///
+/// There are as many roots as ones in the number of leaves, which is below 2^64. Where they are what is kept
+/// of some leaves under a hash (`IsFrontier`), they are so of these and the added ones after each `append` and
+/// `extend` with that hash.
 #[derive(Drop)]
 pub struct Frontier {
     stack: ArrayVec<D32, 64>,
@@ -60,7 +70,8 @@ impl Frontier {
         self.size += 1;
     }
 
-    /// Adds the leaves of some digests in their order behind all others.
+    /// Adds the leaves of some digests in their order behind all others. It hashes a leaf for each, and
+    /// fewer than 64 nodes more than there are digests: over many about two hashes a leaf.
     pub fn extend<H: Hash32>(&mut self, hash: &H, digests: &[D32])
         requires { self.old.size + length digests.now < 2 ^ 64 }
         ensures size { self.new.size ≡ self.old.size + length digests.now }

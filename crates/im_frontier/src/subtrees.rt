@@ -7,8 +7,8 @@ use arrayvec::ArrayVec;
 use im_digest::{D32, Hash32};
 use im_model::trees::{leaf_digest, node_digest};
 
-// Adds a leaf behind `size` others to the whole subtrees of those. Two subtrees of one size become one,
-// as often as the size ends in ones in binary.
+/// Adds a leaf behind `size` others to the whole subtrees of those. Two subtrees of one size become one,
+/// as often as the size ends in ones in binary.
 pub fn add_leaf<H: Hash32>(hash: &H, stack: &mut ArrayVec<D32, 64>, size: u64, digest: &D32)
     requires room { size < u64.MAX }
     requires height { length stack.old.items ≡ ones size }
@@ -36,7 +36,7 @@ fn merge<H: Hash32>(hash: &H, stack: &mut ArrayVec<D32, 64>, right: &D32) -> D32
     node_digest(hash, &left, right)
 }
 
-// The root over whole subtrees, the last at the end, and a last part behind them.
+/// The root over whole subtrees, the last at the end, and a last part behind them.
 pub fn fold<H: Hash32>(hash: &H, subtrees: &[D32], last: D32) -> D32
     ensures { result ≡ folded (H.digest hash.now) (reverse subtrees.now) last }
 {

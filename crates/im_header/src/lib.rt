@@ -10,7 +10,8 @@ use im_model::headers::Header;
 use im_octet::buffers::append;
 use im_octet::fields::{eight, four, signed_eight, two};
 
-/// The inner digest: of `Ts 8 | Version 2 | mdLen 2 | md | NEntries 4 | Eh 32 | BlTxID 8 | BlRoot 32`.
+/// The inner digest: of `Ts 8 | Version 2 | mdLen 2 | md | NEntries 4 | Eh 32 | BlTxID 8 | BlRoot 32`. It
+/// costs one hash.
 pub fn inner<H: Hash32>(hash: &H, header: &Header) -> D32
     ensures { result ≡ inner (H.digest hash.now) header.now }
 {
@@ -27,7 +28,8 @@ pub fn inner<H: Hash32>(hash: &H, header: &Header) -> D32
     hash.hash(front.as_slice(), md, back.as_slice())
 }
 
-/// The accumulated linear hash, Alh: the digest of `ID 8 | PrevAlh 32 | inner 32`.
+/// The accumulated linear hash, Alh: the digest of `ID 8 | PrevAlh 32 | inner 32`. It costs two hashes: the
+/// inner digest, and its own.
 pub fn alh<H: Hash32>(hash: &H, header: &Header) -> D32
     ensures { result ≡ alh (H.digest hash.now) header.now }
 {

@@ -12,8 +12,18 @@ use std::marker::Model;
 /// their keys and values. A clause sees the versions, and the number of transactions.
 ///
 /// What a read costs: `get` and `versions` find the versions of the first `n` transactions by halving, then
-/// `get` looks at them from the last one back to the first of its key, and `versions` at each. `scan` looks at
+/// `get` looks at them from the last one back to the last one of its key, and `versions` at each. `scan` looks at
 /// each too, and puts those of keys with its prefix into a map. Only what is answered is copied.
+///
+/// # Thread safety
+///
+/// None of its own: one owner calls `take`. Reads take `&self` and change nothing, and a `Snapshot` shares nothing
+/// with the index.
+///
+/// # Invariants
+///
+/// `IsIndexOf`: the versions and the number of transactions are those of one history. `new` begins with that of the
+/// empty one, `take` goes on to the next, and its error leaves the index as it was.
 #[derive(Drop)]
 pub struct Index {
     versions: Vec<Version>,

@@ -31,7 +31,7 @@ pub(crate) fn copy_of(alloc: Global, versions: &[Version]) -> Result<Vec<Version
     Ok(copies)
 }
 
-// A copy of the last version of a key. It looks at the versions from the last one back to the first of the key.
+// A copy of the last version of a key. It looks at the versions from the last one back to that one.
 pub(crate) fn last(
     alloc: Global,
     versions: &[Version],

@@ -8,9 +8,15 @@ use std::marker::Model;
 /// What stands after some transactions of a history: a value of the caller's own, which later transactions
 /// don't change. A clause sees the versions, and the number of transactions.
 ///
-/// Thread safety: reads of a snapshot need no lock, since it shares nothing with the index that it was taken of.
-///
 /// A read costs what it costs of the index whose last transaction is the snapshot's.
+///
+/// # Thread safety
+///
+/// It shares nothing with the index that it was taken of, and no call changes it, so that reads need no lock.
+///
+/// # Invariants
+///
+/// `IsIndexOf`, of the first transactions of the index's history, as `Index::snapshot` gives it.
 #[derive(Drop)]
 pub struct Snapshot {
     versions: Vec<Version>,

@@ -65,7 +65,7 @@ header_of hash history k = next_header hash (alhs_of hash (take (k - 1) history)
 abbrev pub alh_of : Hash → List Transaction → ℕ → List ℕ
 alh_of hash history k = if k == 0 then first_alh hash else slice_index_or (alhs_of hash history) (k - 1) []
 
--- an entry within the limits
+-- an entry within the limits, with the metadata of the two attributes or none
 pub record IsEntry (entry : Entry) : Type 0 where
   pub deleted : Bool
   pub non_indexable : Bool

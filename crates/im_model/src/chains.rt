@@ -5,7 +5,7 @@ use im_digest::{D32, Hash32};
 use im_octet::fields::eight;
 
 /// The Alh that a chain ends with: from the Alh of transaction k, over the inner digests of those
-/// behind it. It takes no memory.
+/// behind it. It takes no memory, and hashes once for each inner digest.
 pub fn chain_end<H: Hash32>(hash: &H, alh: &D32, k: u64, inners: &[D32]) -> D32
     requires { k + length inners.now < 2 ^ 64 }
     ensures { result ≡ chain (H.digest hash.now) alh.now k inners.now }

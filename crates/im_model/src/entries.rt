@@ -6,15 +6,18 @@ use std::marker::Model;
 /// An entry of a transaction: one write of a key.
 #[derive(Drop)]
 pub struct Entry {
+    /// Its metadata: in a history the codes of its attributes, in rising order.
     pub md: Metadata,
+    /// The key that it writes.
     pub key: Key,
+    /// What it writes there.
     pub value: EntryValue,
 }
 
 impl Entry {
     ghost use Rattle.std.specs.Prelude.{◌≡◌, IfOk};
 
-    /// A copy of this entry. Its only error is want of memory.
+    /// A copy of this entry: of its metadata, its key and its value. Its only error is want of memory.
     pub fn try_clone(&self, alloc: Global) -> Result<Self, AllocError>
         ensures { IfOk result (λ entry. entry ≡ self.now) }
     {

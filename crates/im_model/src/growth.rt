@@ -5,8 +5,9 @@ use crate::trees::{node_digest, split};
 use im_digest::{D32, Hash32};
 
 /// The root over the first m digests that a consistency list from m to n gives (RFC 6962, section
-/// 2.1.2, with the first term always there). The empty list leaves the known root. It takes no memory.
-/// A list of another length than a proof's gives a digest too, so test the length.
+/// 2.1.2, with the first term always there). The empty list leaves the known root. It takes no memory,
+/// and hashes at most one node for each term behind the first. A list of another length than a proof's
+/// gives a digest too, so test the length.
 pub fn older_root<H: Hash32>(hash: &H, m: usize, n: usize, known: &D32, list: &[D32]) -> D32
     ensures { result ≡ older_root (H.digest hash.now) m n known.now list.now }
 {
@@ -17,7 +18,7 @@ pub fn older_root<H: Hash32>(hash: &H, m: usize, n: usize, known: &D32, list: &[
 }
 
 /// The root over all n digests that a consistency list from m to n gives. The empty list leaves the
-/// known root. It takes no memory.
+/// known root. It takes no memory, and hashes one node for each term behind the first.
 pub fn newer_root<H: Hash32>(hash: &H, m: usize, n: usize, known: &D32, list: &[D32]) -> D32
     ensures { result ≡ newer_root (H.digest hash.now) m n known.now list.now }
 {

@@ -29,7 +29,7 @@ pub struct Header {
 impl Header {
     ghost use Rattle.std.specs.Prelude.{◌≡◌, IfOk};
 
-    /// A copy of this header. Its only error is want of memory.
+    /// A copy of this header. Only its metadata takes memory. Its only error is want of memory.
     pub fn try_clone(&self, alloc: Global) -> Result<Self, AllocError>
         ensures { IfOk result (λ header. header ≡ self.now) }
     {

@@ -5,8 +5,9 @@ use crate::trees::{leaf_digest, node_digest, split};
 use im_digest::{D32, Hash32};
 
 /// The root that a path gives for the leaf of a digest, at `index` from 0 in a tree of `width` leaves
-/// (RFC 6962, section 2.1.1). The path has its terms from the leaf up. It takes no memory. A path of
-/// another length than a proof's gives a digest too, so test the length.
+/// (RFC 6962, section 2.1.1). The path has its terms from the leaf up. It takes no memory, and hashes the
+/// leaf, and a node for each term. A path of another length than a proof's gives a digest too, so test the
+/// length.
 pub fn root_by_path<H: Hash32>(
     hash: &H,
     width: usize,

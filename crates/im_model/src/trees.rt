@@ -3,14 +3,14 @@ ghost use Rattle.im_model.specs.Trees.{leaf, node, split_of, root};
 
 use im_digest::{D32, Hash32};
 
-/// The digest of a leaf: H(00 | digest), RFC 6962, section 2.1. It takes no memory.
+/// The digest of a leaf: H(00 | digest), RFC 6962, section 2.1. It takes no memory, and costs one hash.
 pub fn leaf_digest<H: Hash32>(hash: &H, digest: &D32) -> D32
     ensures { result ≡ leaf (H.digest hash.now) digest.now }
 {
     hash.hash(&[0], digest, &[])
 }
 
-/// The digest of a node: H(01 | left | right), RFC 6962, section 2.1. It takes no memory.
+/// The digest of a node: H(01 | left | right), RFC 6962, section 2.1. It takes no memory, and costs one hash.
 pub fn node_digest<H: Hash32>(hash: &H, left: &D32, right: &D32) -> D32
     ensures { result ≡ node (H.digest hash.now) left.now right.now }
 {

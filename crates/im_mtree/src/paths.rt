@@ -16,8 +16,8 @@ use im_model::trees::{leaf_digest, node_digest, split};
 use std::alloc::{AllocError, Global};
 
 /// The path of leaf i, from 0, to the root over the digests: PATH of RFC 6962, section 2.1.1, its terms
-/// from the leaf up. It hashes each other leaf once, and each node once that isn't above leaf i.
-/// Its only error is want of memory.
+/// from the leaf up. `check_path` is its twin. It hashes each other leaf once, and each node once that isn't
+/// above leaf i. Its only error is want of memory.
 #[tactic(auto, using(crate::proofs::InclusionLemmas::path_exact, crate::proofs::InclusionLemmas::path_leads, crate::proofs::InclusionLemmas::path_turned))]
 pub fn path<H: Hash32>(
     alloc: Global,
@@ -98,8 +98,9 @@ fn part_of<'a>(digests: &'a [D32], i: usize) -> Parts<'a>
 }
 
 /// Whether a path, its terms from the leaf up, leads from the leaf of a digest to a root, as that of leaf
-/// i, from 0, of `width` leaves (RFC 9162, section 2.1.3.2). It takes no memory. A path doesn't fix the
-/// width, and may pass with other widths too: the caller knows the width from elsewhere.
+/// i, from 0, of `width` leaves (RFC 9162, section 2.1.3.2). `path` is its twin, which builds one. It takes no
+/// memory, and hashes at most the leaf, and a node for each term. A path doesn't fix the width, and may pass
+/// with other widths too: the caller knows the width from elsewhere.
 ///
 /// # Errors
 ///
@@ -130,7 +131,7 @@ pub fn check_path<H: Hash32>(
     Ok(())
 }
 
-/// The number of terms of a path of leaf i, from 0, of `width` leaves.
+/// The number of terms of a path of leaf i, from 0, of `width` leaves. It hashes nothing.
 pub fn terms_of(i: u64, width: u64) -> u64
     requires { i < width }
     ensures { result ≡ path_length width i }
@@ -148,7 +149,8 @@ pub fn terms_of(i: u64, width: u64) -> u64
 }
 
 /// The root that a path of the exact length, its terms from the leaf up, gives for the leaf of a digest,
-/// leaf i, from 0, of `width` leaves (RFC 9162, section 2.1.3.2). It takes no memory.
+/// leaf i, from 0, of `width` leaves (RFC 9162, section 2.1.3.2). It takes no memory, and hashes the leaf, and
+/// a node for each term.
 pub fn root_by_path<H: Hash32>(hash: &H, digest: &D32, i: u64, width: u64, path: &[D32]) -> D32
     requires within { i < width }
     requires exact { length path.now ≡ path_length width i }
@@ -180,7 +182,7 @@ fn climb<H: Hash32>(hash: &H, digest: &D32, mut place: Place, path: &[D32]) -> D
     digest
 }
 
-/// The node of a digest and the term beside it.
+/// The node of a digest and the term beside it. It costs one hash.
 pub fn meet<H: Hash32>(hash: &H, left: bool, digest: &D32, term: &D32) -> D32
     ensures { result ≡ meet (H.digest hash.now) left digest.now term.now }
 {

@@ -4,7 +4,9 @@ ghost use Rattle.im_mtree.specs.Ways.{sides, Meets};
 /// A node on the way from a leaf to the root: its index on its level, and that of the level's last node.
 #[derive(Clone, Copy)]
 pub struct Place {
+    /// The node's index on its level, from 0.
     pub index: u64,
+    /// The index of the level's last node.
     pub last: u64,
 }
 

@@ -12,8 +12,12 @@ pub struct Short {
     pub at: usize,
 }
 
-/// Reads big-endian fields from the front of an octet string. It takes no memory. A clause sees
-/// how many octets were read, and those that are left.
+/// Reads big-endian fields from the front of an octet string, as `Writer`, its twin, writes them. It takes no
+/// memory, and copies a field's octets alone. A clause sees how many octets were read, and those that are left.
+///
+/// # Invariants
+///
+/// The octets read and those left are together fewer than 2^64. A call that fails leaves both as they were.
 #[derive(Drop)]
 pub struct Reader<'a> {
     at: usize,

@@ -2,7 +2,12 @@ use crate::fields::{eight, four, signed_eight, two};
 use std::alloc::{AllocError, Global};
 use std::marker::Model;
 
-/// Collects big-endian fields and octet strings. A clause sees the list of the octets written.
+/// Collects big-endian fields and octet strings, which `Reader`, its twin, reads back. A clause sees the list
+/// of the octets written.
+///
+/// # Invariants
+///
+/// What was written stays: a call adds at the end, or, where memory is short, nothing.
 #[derive(Drop)]
 pub struct Writer {
     octets: Vec<u8>,

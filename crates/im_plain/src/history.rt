@@ -12,7 +12,8 @@ use im_mtree::roots::root;
 use im_octet::octets::Octets;
 use std::alloc::{AllocError, Global};
 
-/// Eh: the root over the digests of some entries.
+/// Eh: the root over the digests of some entries. It hashes each value, each entry, each leaf and each node
+/// once, and takes memory for a digest an entry. Its only error is want of memory.
 pub fn entry_root<H: Hash32>(alloc: Global, hash: &H, entries: &[Entry]) -> Result<D32, AllocError>
     requires { 1 ≤ length entries.now }
     ensures { IfOk result (λ eh. eh ≡ entries_root (H.digest hash.now) entries.now) }
@@ -24,7 +25,8 @@ pub fn entry_root<H: Hash32>(alloc: Global, hash: &H, entries: &[Entry]) -> Resu
     Ok(root(hash, digests.as_slice()))
 }
 
-/// The header of a transaction, where `alhs` are the Alh of all those before it.
+/// The header of a transaction, where `alhs` are the Alh of all those before it. It hashes what `entry_root`
+/// does, and the whole tree of the first `tx.bl` Alh. Its only error is want of memory.
 #[tactic(auto, unfolding(im_model::specs::History::next_header))]
 pub fn header_after<H: Hash32>(
     alloc: Global,
@@ -58,7 +60,8 @@ pub fn header_after<H: Hash32>(
     })
 }
 
-/// The Alh of each transaction of a history.
+/// The Alh of each transaction of a history. It hashes the tree of each transaction whole, so its hashes may
+/// grow with the square of the history's length. Its only error is want of memory.
 pub fn alhs<H: Hash32>(
     alloc: Global,
     hash: &H,
@@ -75,7 +78,8 @@ pub fn alhs<H: Hash32>(
     Ok(alhs)
 }
 
-/// The header of transaction k of a history, from 1.
+/// The header of transaction k of a history, from 1. It costs no more than `alhs` over the first k. Its only
+/// error is want of memory.
 pub fn header_at<H: Hash32>(
     alloc: Global,
     hash: &H,

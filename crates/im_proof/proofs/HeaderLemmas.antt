@@ -1,5 +1,5 @@
 -- The headers of a history: their number, each of them, and what becomes of them with one transaction more.
-use Rattle.std.proofs.Common.{◌≡◌, ◌<◌, ◌≤◌, length, ℕ, suc, zero, ◌+◌, ◌-◌, List, [], ◌∷◌, ◌++◌, append-nil, append_assoc, map, take, refl, arith, ap, ◌∙◌, sym, get_or}
+use Rattle.std.proofs.Common.{◌≡◌, ◌<◌, ◌≤◌, length, ℕ, suc, zero, ◌-◌, List, [], ◌∷◌, ◌++◌, append-nil, append_assoc, map, take, refl, arith, ap, ◌∙◌, sym, get_or}
 use Rattle.im_digest.specs.Digests.{Hash}
 use Rattle.im_model.specs.Headers.{inner, alh}
 use Rattle.im_model.specs.History.{next_header, alhs_from, alhs_of, no_transaction, header_of}

@@ -54,17 +54,17 @@ growth_first hash leaves m = growth_first_within (length leaves) hash leaves m
 unfoldable pub growth_rest : Hash → List (List ℕ) → ℕ → List (List ℕ)
 growth_rest hash leaves m = growth_rest_within (length leaves) hash leaves m
 
--- SUBPROOF (RFC 6962, section 2.1.2), with the first term always there: the consistency list from m to the
+-- PROOF (RFC 6962, section 2.1.2), with the first term always there: the consistency list from m to the
 -- number of the leaves, as a proof holds it. Between equal sizes it is empty.
 unfoldable pub consistency : Hash → List (List ℕ) → ℕ → List (List ℕ)
 consistency hash leaves m = if m == length leaves then [] else growth_first hash leaves m ∷ reverse (growth_rest hash leaves m)
 
--- the paths of leaf i and of those behind it, so many
+-- the paths of leaf i and of those behind it, `count` in all
 abbrev pub paths_from : Hash → List (List ℕ) → ℕ → ℕ → List (List (List ℕ))
 paths_from hash leaves i zero = []
 paths_from hash leaves i (suc count) = path_of hash leaves i ∷ paths_from hash leaves (i + 1) count
 
--- the linear advance from a to e in the tree of the first Alh, so many
+-- the linear advance from a to e in the tree of the first `size` Alh
 unfoldable pub advance_of : Hash → List (List ℕ) → List (List ℕ) → ℕ → ℕ → ℕ → AdvanceProof
 advance_of hash alhs inners a e size =
     if nat_le e (a + 1) then record { terms = []; inclusions = [] }
@@ -90,7 +90,8 @@ dual_of hash source target alhs inners =
       linear_advance = if nat_lt s size then advance_of hash alhs inners old s size else advance_of hash alhs inners old size size;
     }
 
--- a header that this store makes, of a transaction of those with these Alh
+-- a header that passes its checks, whose Alh is the one that stands at its number, and whose BlRoot is that
+-- of the first Alh, as many as its BlTxID
 pub record IsRecorded (hash : Hash) (alhs : List (List ℕ)) (header : Header) : Type 0 where
   pub checked : first_fail (header_checks header) ≡ Ok tt
   pub within : header.id ≤ length alhs

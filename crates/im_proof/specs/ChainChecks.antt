@@ -24,10 +24,11 @@ linear_checks hash from to start end terms =
     ∷ (bytes_eq (end_of hash from terms) end, LinearEnd end (end_of hash from terms))
     ∷ []
 
--- the number of the terms, and of the paths, of an advance from a to e
+-- the number of the terms of an advance from a to e
 abbrev pub advance_terms : ℕ → ℕ → ℕ
 advance_terms a e = if nat_le e (a + 1) then 0 else e - a
 
+-- the number of its paths: one for each term but the last
 abbrev pub advance_paths : ℕ → ℕ → ℕ
 advance_paths a e = if nat_le e (a + 1) then 0 else e - a - 1
 

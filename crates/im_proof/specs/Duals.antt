@@ -15,7 +15,7 @@ use Rattle.im_proof.specs.declared.faults.DualFault.TheVariants.{Source, Target,
 abbrev pub as_faults : {F G : Type 0} → (F → G) → List (Check F) → List (Check G)
 as_faults name checks = map (λ c. (c.0, name c.1)) checks
 
--- neither the transaction nor its tree is behind the target's
+-- neither the source's number nor the size of its tree is above the target's
 abbrev pub order_checks : Header → Header → List (Check DualFault)
 order_checks source target =
     (nat_le source.id target.id, Order source.id target.id)

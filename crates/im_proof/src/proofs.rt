@@ -8,7 +8,9 @@ use im_mtree::digests::Digests;
 /// a + 1.
 #[derive(Drop)]
 pub struct AdvanceProof {
+    /// The Alh of transaction a + 1, and the inner digests of those behind it up to e.
     pub terms: Digests,
+    /// The paths of the transactions a + 1 to e - 1, in order.
     pub inclusions: DigestLists,
 }
 
@@ -16,7 +18,9 @@ pub struct AdvanceProof {
 /// linear advance). Lists that aren't due are empty. Paths go from the leaf up.
 #[derive(Drop)]
 pub struct DualProof {
+    /// The header of the transaction that the proof leads from.
     pub source: Header,
+    /// The header of the transaction that it leads to.
     pub target: Header,
     /// The source's Alh in the target's tree, where the source is below the tree's end.
     pub inclusion: Digests,

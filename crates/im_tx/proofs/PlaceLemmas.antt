@@ -1,29 +1,19 @@
 -- The places of keys that are looked up one after the other.
 use Rattle.std.specs.Map.{update}
 use Rattle.std.specs.Str.{bytes_eq}
-use Rattle.std.specs.Prelude.{All}
-use Rattle.std.proofs.Common.{◌≡◌, ◌≢◌, ◌⊎◌, inl, inr, ◌<◌, ◌≤◌, ◌+◌, ℕ, List, length, take, get_or, arith, refl, sym, ◌∙◌, ap, subst, true, false, Bool, Option, Some, None, cond}
+use Rattle.std.proofs.Common.{◌≡◌, ◌≢◌, ◌⊎◌, inl, inr, ◌<◌, ◌+◌, ℕ, List, length, take, get_or, arith, refl, sym, ◌∙◌, ap, subst, true, false, Bool, Option, Some, None, cond}
 use Rattle.std.proofs.lemmas.List.{take_more, length-take, get_or-take, get_or_default}
 use Rattle.std.proofs.lemmas.Bool.{both_ways, cases_lt}
 use Rattle.std.proofs.lemmas.List.Quantifiers.{all_pairs_push}
 use Rattle.std.proofs.lemmas.Slice.Eq.{bytes_eq-Decides}
-use Rattle.im_draft.specs.Drafts.{draft_of, no_draft, IsFine, HaveDistinctKeys, Refuses}
+use Rattle.im_draft.specs.Drafts.{draft_of, no_draft, HaveDistinctKeys}
 use Rattle.im_draft.specs.declared.drafts.Draft.{Draft}
-use Rattle.im_draft.specs.declared.refusals.PrepareError.TheVariants.{Twice}
 
 -- a look-up gives the place of each key of the first n drafts, whose keys are distinct, and of no other
 pub record ArePlaces (drafts : List Draft) (n : ℕ) (find : List ℕ → Option ℕ) : Type 0 where
   pub distinct : HaveDistinctKeys (take n drafts)
   pub found : (key : List ℕ) (i : ℕ) → find key ≡ Some i → (i < n) × ((draft_of drafts i).key ≡ key)
   pub absent : (key : List ℕ) (i : ℕ) → find key ≡ None → i < n → (draft_of drafts i).key ≢ key
-
--- before the first draft nothing is found
-pub ArePlaces-zero : (drafts : List Draft) (find : List ℕ → Option ℕ) → ((key : List ℕ) → find key ≡ None) → ArePlaces drafts 0 find
-ArePlaces-zero drafts find none = record {
-  distinct = λ i j d h k. absurd (omega (arith, length-take 0 drafts));
-  found = λ key i e. absurd (let n = none key in cc);
-  absent = λ key i e h. absurd (omega arith);
-}
 
 -- what a look-up gives after a key was put at place n
 put-cases : (find : List ℕ → Option ℕ) (put key : List ℕ) (n : ℕ) (place : Option ℕ) → update bytes_eq find put (Some n) key ≡ place
@@ -76,11 +66,3 @@ ArePlaces-suc drafts n put find next h is none steps places = record {
     ]
   ];
 }
-
--- a key that is found stood earlier
-pub ArePlaces-twice : (drafts : List Draft) (n i : ℕ) (key : List ℕ) (find : List ℕ → Option ℕ) → n < length drafts
-    → length drafts ≤ 1024 → All IsFine drafts
-    → key ≡ (draft_of drafts n).key → find key ≡ Some i → ArePlaces drafts n find → Refuses drafts (Twice i n)
-ArePlaces-twice drafts n i key find h few fine is e places =
-    let found = places.found key i e in
-    (few, fine, found.0, h, found.1 ∙ is, places.distinct)

@@ -64,12 +64,6 @@ last-among xs v e = elim (last-among-or None xs v e) [
   | inr is ↦ is
 ]
 
--- what is inserted is a member
-pub among-inserted : {X : Type 0} (xs : List X) (i : ℕ) (x : X) → IsAmong (insert xs i x) x
-among-inserted xs zero x = among-first x xs
-among-inserted [] (suc i) x = among-first x []
-among-inserted (y ∷ ys) (suc i) x = among-rest y (insert ys i x) x (among-inserted ys i x)
-
 -- members stay members as another is inserted
 pub among-insert : {X : Type 0} (xs : List X) (i : ℕ) (x v : X) → IsAmong xs v → IsAmong (insert xs i x) v
 among-insert xs zero x v is = among-rest x xs v is

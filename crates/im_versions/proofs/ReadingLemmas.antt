@@ -1,26 +1,11 @@
 -- What a loop over entries or transactions has read so far, and the last of a list.
-use Rattle.std.proofs.Common.{◌≡◌, ◌<◌, ℕ, ◌+◌, true, false, cond, List, [], ◌∷◌, ◌++◌, length, take, get_or, map, refl, arith, ap, ◌∙◌, Some, None, Option}
-use Rattle.std.specs.List.{filter, last_or}
+use Rattle.std.proofs.Common.{◌≡◌, ◌<◌, ℕ, ◌+◌, List, [], ◌∷◌, ◌++◌, length, take, get_or, refl, arith, ap, ◌∙◌, Some, None, Option}
+use Rattle.std.specs.List.{last_or}
 use Rattle.std.specs.Option.{option_to_list, IsSome}
-use Rattle.std.proofs.lemmas.List.{take_more, map-append, length-take-le, append-nil}
-use Rattle.std.proofs.lemmas.List.Elements.{filter_more}
-use Rattle.im_model.specs.declared.entries.Entry.{Entry}
+use Rattle.std.proofs.lemmas.List.{take_more, length-take-le}
 use Rattle.im_model.specs.declared.transactions.Transaction.{Transaction}
-use Rattle.im_versions.specs.Versions.{is_shown, version_of, versions_in, all_versions}
+use Rattle.im_versions.specs.Versions.{versions_in, all_versions}
 use Rattle.im_versions.proofs.VersionLemmas.{versions-push}
-
--- one more entry, that is a version, adds it
-pub versions_in_more_shown : (k : ℕ) (entries : List Entry) (i : ℕ) (d : Entry) → i < length entries → is_shown (get_or entries i d) ≡ true → versions_in k (take (i + 1) entries) ≡ versions_in k (take i entries) ++ version_of k (get_or entries i d) ∷ []
-versions_in_more_shown k entries i d h shown =
-    let e : Entry = get_or entries i d in
-    ap (map (version_of k)) (filter_more is_shown entries i d h ∙ ap (λ b. filter is_shown (take i entries) ++ cond b (e ∷ []) []) shown)
-    ∙ map-append (version_of k) (filter is_shown (take i entries)) (e ∷ [])
-
--- one more entry, that isn't a version, adds none
-pub versions_in_more_hidden : (k : ℕ) (entries : List Entry) (i : ℕ) (d : Entry) → i < length entries → is_shown (get_or entries i d) ≡ false → versions_in k (take (i + 1) entries) ≡ versions_in k (take i entries)
-versions_in_more_hidden k entries i d h hidden =
-    let e : Entry = get_or entries i d in
-    ap (map (version_of k)) (filter_more is_shown entries i d h ∙ ap (λ b. filter is_shown (take i entries) ++ cond b (e ∷ []) []) hidden ∙ append-nil (filter is_shown (take i entries)))
 
 -- one more transaction adds the versions that its entries are
 pub all_versions_more : (history : List Transaction) (i : ℕ) (d : Transaction) → i < length history → all_versions (take (i + 1) history) ≡ all_versions (take i history) ++ versions_in (i + 1) (get_or history i d).entries

@@ -1,5 +1,5 @@
 -- Keys in order, and what a scan has found in the versions that it has looked at.
-use Rattle.std.proofs.Common.{◌≡◌, ◌<◌, ◌≤◌, ◌+◌, ℕ, true, false, not, ◌&&◌, List, [], length, take, get_or, refl, arith, ap, subst, ◌∙◌, sym, inl, inr, ◌⊎◌, Some, None, Option}
+use Rattle.std.proofs.Common.{◌≡◌, ◌<◌, ◌≤◌, ◌+◌, ℕ, true, false, not, ◌&&◌, List, length, take, get_or, refl, arith, ap, subst, ◌∙◌, sym, inl, inr, ◌⊎◌, Some, None, Option}
 use Rattle.std.specs.List.{All, AllPairs, IsAmong, insert}
 use Rattle.std.specs.Prelude.{IsTrue, if◌then◌else◌}
 use Rattle.std.specs.Cmp.Lexicographic.{slice_cmp}
@@ -70,15 +70,6 @@ pub record IsScanOf (history : List Transaction) (prefix : List ℕ) (seen shown
 -- what is shown of a key: its last version, where it is live and begins with the prefix
 abbrev pub shown_of : List Transaction → List ℕ → List ℕ → Option Version
 shown_of history prefix key = if begins_with prefix key && is_live history key then last_version history key else None
-
--- before the first version nothing is found
-pub scan-start : (history : List Transaction) (prefix : List ℕ) (vs : List Version) → IsScanOf history prefix (take 0 vs) []
-scan-start history prefix vs = record {
-  rising = λ i j d l m. absurd (omega arith);
-  live = λ i d l. absurd (omega arith);
-  begin = λ i d l. absurd (omega arith);
-  all = λ i d l. absurd (omega arith);
-}
 
 -- behind the last version the scan is whole
 pub scan-all : (history : List Transaction) (prefix : List ℕ) (shown : List Version) → IsScanOf history prefix (all_versions history) shown → IsScan history prefix shown

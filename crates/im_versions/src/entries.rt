@@ -26,7 +26,8 @@ pub fn is_shown(entry: &Entry) -> bool
     !has_attribute(NON_INDEXABLE, entry)
 }
 
-/// The version that an entry of transaction `k` is. Its only error is want of memory.
+/// The version that an entry of transaction `k` is: its key and its value are copied. Its only error is want of
+/// memory.
 pub fn version_of(alloc: Global, k: u64, entry: &Entry) -> Result<Version, AllocError>
     ensures { IfOk result (λ v. v ≡ version_of k entry.now) }
 {

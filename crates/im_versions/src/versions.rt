@@ -9,6 +9,7 @@ pub struct Version {
     pub tx: u64,
     /// The key was deleted.
     pub deleted: bool,
+    /// The key.
     pub key: Octets,
     /// What was written. A deletion that a script asks for writes nothing.
     pub value: Octets,
@@ -17,7 +18,7 @@ pub struct Version {
 impl Version {
     ghost use Rattle.std.specs.Prelude.{◌≡◌, IfOk};
 
-    /// A copy of this version. Its only error is want of memory.
+    /// A copy of this version, of its key and its value too. Its only error is want of memory.
     pub fn try_clone(&self, alloc: Global) -> Result<Self, AllocError>
         ensures { IfOk result (λ version. version ≡ self.now) }
     {

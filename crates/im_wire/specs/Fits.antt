@@ -45,7 +45,8 @@ pub record IsHeader (h : Header) : Type 0 where
   pub nentries : h.nentries < 2 ^ 32
   pub eh : IsDigest h.eh
 
--- an entry within the limits
+-- an entry within the type's limits: metadata of at most 256 octets, whatever they are, a key of 1 to 1024,
+-- a value of at most 4096
 pub record IsEntry (e : Entry) : Type 0 where
   pub md : IsBounded 0 256 e.md
   pub key : IsBounded 1 1024 e.key

@@ -7,7 +7,7 @@ use thiserror::Error;
 /// Why a text was not read as a message.
 #[derive(Debug, Drop, Error)]
 pub enum WireError {
-    /// The allocator refused memory.
+    /// Memory ran out.
     #[error("out of memory")]
     Memory,
     /// The text says no message.

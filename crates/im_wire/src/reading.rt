@@ -103,6 +103,7 @@ fn message_of(alloc: Global, value: &Value) -> Result<Message, WireError>
 }
 
 /// The message that a text of JSON says (RFC 8259): one value and whitespace, nested at most 127 deep.
+/// `write`, its twin, writes a message.
 ///
 /// Hex is read in both cases. Of equal names in an object the last counts, and unknown members are passed
 /// over. `Syntax` exactly where the text says no message: no UTF-8, no JSON, a member missing or of

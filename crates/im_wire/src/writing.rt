@@ -120,7 +120,8 @@ fn put_message(alloc: Global, out: &mut Writer, message: &Message) -> Result<(),
 }
 
 /// The one text of a message: compact JSON (RFC 8259), members in rising octet order of their names,
-/// octets as lower-case hex. `read_message` gives the message back. It refuses for want of memory alone.
+/// octets as lower-case hex. `read_message`, its twin, gives the message back. It refuses for want of memory
+/// alone.
 pub fn write(alloc: Global, message: &Message) -> Result<Vec<u8>, AllocError>
     ensures text { IfOk result (λ octets. octets.items ≡ text message.now) }
     ensures again { IfOk result (λ octets. HasMessage octets.items message.now) }
