@@ -14,7 +14,8 @@ use std::{fs, io};
 /// A keeper over a file of lines, each ended by LF. It opens the file at each call, and makes it only to
 /// append; a file that isn't there has no line. An append that fails half way may leave a part of its
 /// line at the file's end, and then the next line stands behind that part. A line with an LF in it comes
-/// back as several. No clause says what the file holds.
+/// back as several. No clause says what the file holds. Each append opens the file, writes the line, and
+/// syncs it (`sync_data`); each reading of the lines reads the file whole, and copies each line.
 #[derive(Drop)]
 pub struct FileKeeper<'a, R> {
     rt: &'a R,

@@ -8,7 +8,8 @@ pub enum Point {
     After { session: u8, line: u64 },
 }
 
-/// Is called before and after each line. It may hold up the session that calls it.
+/// What a session can call before and after each line, and what may hold it up there. No session calls it
+/// yet.
 pub trait Gate {
     /// Returns once the session may go on from this point.
     fn pause(&self, point: Point);

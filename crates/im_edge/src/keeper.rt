@@ -25,7 +25,17 @@ impl From<AllocError> for KeeperError {
     }
 }
 
-/// Keeps lines, in the order in which they came. An error leaves them as they were.
+/// Keeps lines, in the order in which they came. An error leaves them as they were, where the keeper tells
+/// them.
+///
+/// # Thread safety
+///
+/// None is claimed. Each call takes the keeper by `&mut`, so one caller at a time holds it.
+///
+/// # Invariants
+///
+/// Where the lines are told (`kept`), no call changes or drops one, and a new one stands behind the others.
+/// The count of failures (`faults`) never falls.
 pub trait Keeper {
     /// The lines that are kept, where the keeper tells them.
     ghost kept: { Self → Option (List (List ℕ)) };

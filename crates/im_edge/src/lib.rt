@@ -1,5 +1,6 @@
 //! Where octets come from and go to, kept lines, the time, and a gate round lines. Each trait
-//! stands beside a form in memory or an adapter over std's readers, writers and files.
+//! stands beside a form in memory or an adapter over std's readers, writers and files. `FixedClock`,
+//! `TickingClock`, `MemKeeper` and `FusedKeeper` serve tests alone.
 #![tactic(auto)]
 
 pub mod clock;

@@ -15,6 +15,15 @@ pub enum Given {
 }
 
 /// A sink of octets, which are added at the end.
+///
+/// # Thread safety
+///
+/// None is claimed. Each call takes the sink by `&mut`, so one caller at a time holds it.
+///
+/// # Invariants
+///
+/// Where what was written is told (`written`), no call changes or drops an octet of it. The count of failures
+/// (`faults`) never falls.
 pub trait Sink {
     /// The octets that were written, where the sink tells them.
     ghost written: { Self → Option (List ℕ) };
@@ -33,7 +42,8 @@ pub trait Sink {
 #[derive(Clone, Copy, Debug, PartialEq, Eq)]
 pub struct WriteFault;
 
-/// Writes a text. After a fault a front part of it is written.
+/// Writes a text. After a fault a front part of it is written. It copies nothing: each give
+/// gets all that is left.
 pub fn write_all<K: Sink>(sink: &mut K, text: &[u8]) -> Result<(), WriteFault>
     ensures whole { OnOk result (Appends (K.written sink.old) (K.written sink.new) text.now) }
     ensures part { AddsPart text.now (K.written sink.old) (K.written sink.new) }

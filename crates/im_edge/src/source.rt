@@ -20,6 +20,15 @@ pub enum Taken {
 }
 
 /// A source of octets, which are taken from the front.
+///
+/// # Thread safety
+///
+/// None is claimed. Each call takes the source by `&mut`, so one caller at a time holds it.
+///
+/// # Invariants
+///
+/// Where what is left is told (`left`), a call only takes octets from its front. The count of failures
+/// (`faults`) never falls.
 pub trait Source {
     /// The octets that are left, where the source tells them.
     ghost left: { Self → Option (List ℕ) };
@@ -57,7 +66,7 @@ impl From<AllocError> for ReadError {
 }
 
 /// Reads a source to its end, unless it has more than `most` octets. After an error a front part of
-/// what was left is taken.
+/// what was left is taken. It asks for 4096 octets a take, and takes at most `most` and 4096 more.
 pub fn read_all<S: Source>(alloc: Global, source: &mut S, most: usize) -> Result<Vec<u8>, ReadError>
     ensures whole { IfOk result (λ octets. IfSome (S.left source.old) (λ xs. octets.items ≡ xs)) }
     ensures emptied { OnOk result (IfSome (S.left source.old) (λ _. S.left source.new ≡ Some [])) }

@@ -1,4 +1,4 @@
-use crate::clock::{Clock, FixedClock};
+use crate::clock::{Clock, FixedClock, TickingClock};
 use crate::file_keeper::FileKeeper;
 use crate::fused_keeper::FusedKeeper;
 use crate::gate::{Gate, OpenGate, Point};
@@ -167,9 +167,15 @@ fn lines_in_a_file(rt: HostRuntime) -> Result<(), Fail> {
 }
 
 #[test]
-fn a_clock_and_a_gate(rt: HostRuntime) -> Result<(), Fail> {
+fn clocks_and_a_gate(rt: HostRuntime) -> Result<(), Fail> {
     let mut clock = FixedClock { time: -1 };
     assert_eq!(rt; clock.now(), -1);
+    let mut ticking = TickingClock { asked: 0 };
+    assert_eq!(rt; ticking.now(), 1);
+    assert_eq!(rt; ticking.now(), 2);
+    let mut full = TickingClock { asked: u32::MAX };
+    assert_eq!(rt; full.now(), 4_294_967_295);
+    assert_eq!(rt; full.asked, u32::MAX);
     let point = Point::Before {
         session: 0,
         line: 1,
