@@ -51,11 +51,6 @@ pub if_told_both : (P Q R : Told → Type 0) → ((t : Told) → P t → Q t →
 if_told_both P Q R step None p q = tt
 if_told_both P Q R step (Some t) p q = step t p q
 
--- what holds of it one call later
-pub if_told_after : (P Q : Told → Type 0) (call : Call) → ((t : Told) → P t → Q (after call t)) → (o : Option Told) → IfSome o P → IfSome (option_map (after call) o) Q
-if_told_after P Q call step None h = tt
-if_told_after P Q call step (Some t) h = step t h
-
 -- what holds after a changing call, by its three answers
 pub by_answer : {T : Type 0} (Q : Option Told → Type 0) (good bad : Call) (before now : Option Told) (result : Result T DiskError)
     → OnOk result (now ≡ option_map (after good) before) → (IsErrOf result Failed → now ≡ option_map (after bad) before) → (IsErrOf result Memory → now ≡ before)

@@ -1,4 +1,5 @@
 pub mod Burning
+pub mod Growing
 pub mod Leaving
 pub mod Recording
 pub mod Tearing

@@ -28,7 +28,8 @@ seen_after first (Tore file at n ∷ calls) = seen_after first calls
 seen_after first (Synced ∷ calls) = seen_after first calls
 seen_after first (Missed ∷ calls) = seen_after first calls
 
--- after a write of n octets that a crash cuts short: any octets in the range and past the old end, the same elsewhere
+-- after a write of n octets, from a place within the old ones on, that a crash cuts short: any octets in the range and
+-- past the old end, the same elsewhere. From a place past their end no disk takes a write, and this leaves the old ones.
 pub record Torn (at n : ℕ) (old new : List ℕ) : Type 0 where
   pub before : take at new ≡ take at old
   pub after : drop (at + n) new ≡ drop (at + n) old

@@ -25,7 +25,7 @@ told_through told d = option_map (with_calls d.failed) (told d.disk)
 abbrev pub faults_through : {D : Type 0} → (D → ℕ) → Fused D → ℕ
 faults_through faults d = faults d.disk + length d.failed
 
--- the calls that failed here came behind the last one that was passed on
+-- the calls that failed here came behind the last one that was passed on, and each of them is a failure
 pub record IsOrderly (calls_left : ℕ) (failed : List Call) : Type 0 where
   pub behind : 0 < calls_left → failed ≡ []
   pub failures : All (λ call. IsTrue (is_failure call)) (reverse failed)

@@ -2,6 +2,7 @@ pub mod Brought
 pub mod Causes
 pub mod Disk
 pub mod Fused
+pub mod Grown
 pub mod Moments
 pub mod Recorded
 pub mod Records

@@ -32,6 +32,18 @@ impl From<AllocError> for DiskError {
 /// lies past the old end up to the furthest written octet, may hold any octets after a crash, and
 /// the length may be any between; the octets elsewhere stay. A failed write counts as written.
 /// After a sync that succeeds a crash leaves what reads give.
+///
+/// # Thread safety
+///
+/// None: one owner holds it, and each call borrows it for itself.
+///
+/// # Invariants
+///
+/// - The record, where it is told, only grows: `len` and `read` leave it (`told`), and a changing call
+///   adds itself as the last one, as it succeeded or failed (`ok`, `failed`), or nothing where memory
+///   ran out (`memory`).
+/// - Failures are counted: `Failed` comes only where the count rose, and every other answer leaves the
+///   count (`cause`, by `HasCause`).
 pub trait Disk: Drop {
     /// What the files were at first, and the changing calls so far, where the disk tells them. What
     /// reads give, and what a crash may leave now and might have left since an earlier time,

@@ -1,9 +1,9 @@
-ghost use Rattle.std.specs.Prelude.{◌≡◌, ◌<◌, ◌≤◌, ◌+◌, ◌↔◌, true, IsTrue, IsOk, IsErr, IfErr, OnErr, OnOk, IsFalse, slice_set, slice_index_or, replicate, false};
+ghost use Rattle.std.specs.Prelude.{◌≡◌, ◌<◌, ◌≤◌, ◌+◌, ◌-◌, ◌^◌, ◌↔◌, ◌⊎◌, min, true, IsTrue, IsOk, IsErr, IsErrOf, IfErr, OnErr, OnOk, IsFalse, slice_set, slice_index_or, replicate, false};
 ghost use Rattle.std.specs.IoError.{error_kind};
 ghost use Rattle.std.specs.declared.io.ErrorKind.TheVariants.{OutOfMemory};
 ghost use Rattle.im_disk.specs.declared.disk.DiskError.TheVariants.{Failed, Memory};
 ghost use Rattle.im_disk.specs.Causes.{HasCause};
-ghost use Rattle.im_disk.specs.Brought.{AllBrought, Stays};
+ghost use Rattle.im_disk.specs.Brought.{AllBrought, KeepsRest, Stays};
 
 use crate::disk::{Disk, DiskError};
 use im_edge::sink::{Writing, write_all};
@@ -16,8 +16,31 @@ use std::{fs, io};
 /// A disk over the files of a folder, which are named by their numbers: `0`, `1` and so on. It opens
 /// a file at each call that needs it, and makes files and the folder only to write; what isn't there
 /// is empty. A read past a file's end fails, and so does a write behind it. Nothing is tried again:
-/// once the system couldn't bring something to the disk, no later sync succeeds. It tells no
-/// content, and no clause says what the files hold.
+/// once a sync failed, no later one succeeds. It tells no content, and no clause says what the files
+/// hold.
+///
+/// `len`, `read` and `write_at` open their file and ask for its length, and then `read` and `write_at`
+/// go to the place and read or write until all octets are through. A write to a file that isn't there
+/// looks for the folder, and makes what is missing. `sync` opens each file that was written since it
+/// was last brought to the disk, and calls `sync_data`; it does the same by `sync_all` with the folder
+/// where files were made in it, and with the one that names the folder where that was made. The first
+/// `sync` does so with all of them that are there. Opening a file takes memory for its path.
+///
+/// # Thread safety
+///
+/// None: one owner holds it. Nothing keeps another disk or process from the folder's files.
+///
+/// # Invariants
+///
+/// - What a sync still has to bring to the disk stays marked: a write marks its file (`unsynced`) and
+///   takes no other mark away (`stays`, by `Stays`). After a sync that succeeds nothing is marked
+///   (`all`, by `AllBrought`), and after one that ends in an error something still is (`left`), and
+///   what comes behind it keeps its mark (`kept`, by `KeepsRest`).
+/// - What was lost stays lost: a sync that fails loses (`failed`), and no sync succeeds from then on
+///   (`lost`, `still`).
+/// - Failures are counted, as for each disk (`cause`), and each one as one, up to `u64::MAX`
+///   (`count`).
+/// - The folder stays the same (`path`).
 #[derive(Drop)]
 pub struct FolderDisk<'a, R> {
     rt: &'a R,
@@ -37,13 +60,14 @@ struct Unsynced {
     names: bool,
     // Whether the folder was made.
     folder: bool,
-    // Whether the system couldn't bring something to the disk.
+    // Whether a sync failed. The system may then have dropped what it was to bring, so that trying
+    // again would succeed for nothing.
     lost: bool,
 }
 
 impl<'a, R: Files> FolderDisk<'a, R> {
-    /// A disk over the folder at `path`, which hasn't failed yet. It doesn't look at the folder. The
-    /// first sync covers what was there before.
+    /// A disk over the folder at `path`, which hasn't failed yet. It doesn't look at the folder, and
+    /// takes no memory. The first sync covers what was there before.
     pub fn new(rt: &'a R, alloc: Global, path: &'a str) -> Self
         ensures folder { result.folder ≡ path.entry }
         ensures failures { result.failures ≡ 0 }
@@ -106,6 +130,7 @@ impl<'a, R: Files> FolderDisk<'a, R> {
     fn put(&mut self, file: u8, at: u64, piece: &[u8]) -> Result<(), DiskError>
         requires { file < 16 }
         ensures failures { self.new.failures ≡ self.old.failures }
+        ensures path { self.new.folder ≡ self.old.folder }
         ensures unsynced { self.new.unsynced.files ≡ slice_set self.old.unsynced.files file true }
         ensures stays { Stays self.old.unsynced self.new.unsynced }
     {
@@ -125,6 +150,7 @@ impl<'a, R: Files> FolderDisk<'a, R> {
     // Makes a file, and the folder where it isn't there.
     fn made(&mut self, file: u8) -> Result<R::File, DiskError>
         ensures failures { self.new.failures ≡ self.old.failures }
+        ensures path { self.new.folder ≡ self.old.folder }
         ensures files { self.new.unsynced.files ≡ self.old.unsynced.files }
         ensures names { OnOk result (IsTrue self.new.unsynced.names) }
         ensures stays { Stays self.old.unsynced self.new.unsynced }
@@ -143,9 +169,13 @@ impl<'a, R: Files> FolderDisk<'a, R> {
     // Each file before the folder that names it.
     fn bring_all(&mut self) -> Result<(), DiskError>
         ensures failures { self.new.failures ≡ self.old.failures }
+        ensures path { self.new.folder ≡ self.old.folder }
         ensures lost { IsTrue self.old.unsynced.lost → IsErr result }
         ensures all { OnOk result (AllBrought self.new.unsynced) }
-        ensures still { IsTrue self.old.unsynced.lost → IsTrue self.new.unsynced.lost }
+        ensures left { OnErr result
+            (IsFalse self.old.unsynced.lost → AllBrought self.new.unsynced → ⊥) }
+        ensures kept { OnErr result (KeepsRest self.old.unsynced self.new.unsynced) }
+        ensures still { self.new.unsynced.lost ≡ self.old.unsynced.lost }
     {
         if self.unsynced.lost {
             return Err(DiskError::Failed);
@@ -160,15 +190,19 @@ impl<'a, R: Files> FolderDisk<'a, R> {
     fn bring_file(&mut self, file: u8) -> Result<(), DiskError>
         requires { file < 16 }
         ensures failures { self.new.failures ≡ self.old.failures }
+        ensures path { self.new.folder ≡ self.old.folder }
         ensures files { OnOk result
             (self.new.unsynced.files ≡ slice_set self.old.unsynced.files file false) }
         ensures kept { OnErr result (self.new.unsynced.files ≡ self.old.unsynced.files) }
-        ensures still { IsTrue self.old.unsynced.lost → IsTrue self.new.unsynced.lost }
+        ensures marked { OnErr result
+            (slice_index_or self.new.unsynced.files file false ≡ true) }
+        ensures names { self.new.unsynced.names ≡ self.old.unsynced.names }
+        ensures folder { self.new.unsynced.folder ≡ self.old.unsynced.folder }
+        ensures still { self.new.unsynced.lost ≡ self.old.unsynced.lost }
     {
         if self.unsynced.files[file as usize] {
             if let Some(opened) = self.opened(OpenOptions::new().read(true), file)? {
-                let answer = opened.sync_data();
-                self.brought(answer)?;
+                brought(opened.sync_data())?;
             }
         }
         self.unsynced.files[file as usize] = false;
@@ -178,10 +212,15 @@ impl<'a, R: Files> FolderDisk<'a, R> {
     // Brings to the disk which files the folder has, and which folders its own folder has.
     fn bring_names(&mut self) -> Result<(), DiskError>
         ensures failures { self.new.failures ≡ self.old.failures }
+        ensures path { self.new.folder ≡ self.old.folder }
         ensures files { self.new.unsynced.files ≡ self.old.unsynced.files }
         ensures names { OnOk result (IsFalse self.new.unsynced.names) }
         ensures folder { OnOk result (IsFalse self.new.unsynced.folder) }
-        ensures still { IsTrue self.old.unsynced.lost → IsTrue self.new.unsynced.lost }
+        ensures left { OnErr result
+            (IsTrue self.new.unsynced.names ⊎ IsTrue self.new.unsynced.folder) }
+        ensures behind { IsTrue self.new.unsynced.names →
+            self.new.unsynced.folder ≡ self.old.unsynced.folder }
+        ensures still { self.new.unsynced.lost ≡ self.old.unsynced.lost }
     {
         if self.unsynced.names {
             self.bring_folder(self.folder)?;
@@ -195,38 +234,11 @@ impl<'a, R: Files> FolderDisk<'a, R> {
     }
 
     // Brings the names in a folder to the disk, where it's there.
-    fn bring_folder(&mut self, folder: &str) -> Result<(), DiskError>
-        ensures failures { self.new.failures ≡ self.old.failures }
-        ensures files { self.new.unsynced.files ≡ self.old.unsynced.files }
-        ensures names { self.new.unsynced.names ≡ self.old.unsynced.names }
-        ensures still { IsTrue self.old.unsynced.lost → IsTrue self.new.unsynced.lost }
-    {
+    fn bring_folder(&self, folder: &str) -> Result<(), DiskError> {
         match fs::open(self.rt, folder) {
-            Ok(opened) => {
-                let answer = opened.sync_all();
-                self.brought(answer)
-            }
+            Ok(opened) => brought(opened.sync_all()),
             Err(error) if error.kind() == ErrorKind::NotFound => Ok(()),
             Err(error) => Err(DiskError::from(error)),
-        }
-    }
-
-    // Whether the system brought something to the disk. Where it couldn't, it may have dropped what it
-    // was to bring, so that trying again would succeed for nothing: no later sync succeeds.
-    fn brought(&mut self, answer: io::Result<()>) -> Result<(), DiskError>
-        ensures failures { self.new.failures ≡ self.old.failures }
-        ensures files { self.new.unsynced.files ≡ self.old.unsynced.files }
-        ensures names { self.new.unsynced.names ≡ self.old.unsynced.names }
-        ensures ok { IsOk result ↔ IsOk answer }
-        ensures lost { IsErr answer → IsTrue self.new.unsynced.lost }
-        ensures still { IsTrue self.old.unsynced.lost → IsTrue self.new.unsynced.lost }
-    {
-        match answer {
-            Ok(()) => Ok(()),
-            Err(_) => {
-                self.unsynced.lost = true;
-                Err(DiskError::Failed)
-            }
         }
     }
 }
@@ -242,6 +254,9 @@ impl<R: Files> Disk for FolderDisk<'_, R> {
         requires { file < 16 }
         ensures unsynced { self.new.unsynced ≡ self.old.unsynced }
         ensures cause { HasCause self.old.failures self.new.failures result }
+        ensures count { IsErrOf result Failed →
+            self.new.failures ≡ min (self.old.failures + 1) (2 ^ 64 - 1) }
+        ensures path { self.new.folder ≡ self.old.folder }
     {
         let answer = self.length_of(file);
         counted(&mut self.failures, answer)
@@ -251,6 +266,9 @@ impl<R: Files> Disk for FolderDisk<'_, R> {
         requires { file < 16 }
         ensures unsynced { self.new.unsynced ≡ self.old.unsynced }
         ensures cause { HasCause self.old.failures self.new.failures result }
+        ensures count { IsErrOf result Failed →
+            self.new.failures ≡ min (self.old.failures + 1) (2 ^ 64 - 1) }
+        ensures path { self.new.folder ≡ self.old.folder }
     {
         let answer = self.fill_from(file, at, buffer);
         counted(&mut self.failures, answer)
@@ -261,6 +279,9 @@ impl<R: Files> Disk for FolderDisk<'_, R> {
         ensures unsynced { self.new.unsynced.files ≡ slice_set self.old.unsynced.files file true }
         ensures stays { Stays self.old.unsynced self.new.unsynced }
         ensures cause { HasCause self.old.failures self.new.failures result }
+        ensures count { IsErrOf result Failed →
+            self.new.failures ≡ min (self.old.failures + 1) (2 ^ 64 - 1) }
+        ensures path { self.new.folder ≡ self.old.folder }
     {
         let answer = self.put(file, at, piece);
         counted(&mut self.failures, answer)
@@ -269,10 +290,20 @@ impl<R: Files> Disk for FolderDisk<'_, R> {
     fn sync(&mut self) -> Result<(), DiskError>
         ensures lost { IsTrue self.old.unsynced.lost → IsErr result }
         ensures all { OnOk result (AllBrought self.new.unsynced) }
+        ensures left { OnErr result
+            (IsFalse self.old.unsynced.lost → AllBrought self.new.unsynced → ⊥) }
+        ensures kept { OnErr result (KeepsRest self.old.unsynced self.new.unsynced) }
+        ensures failed { IsErrOf result Failed → IsTrue self.new.unsynced.lost }
         ensures still { IsTrue self.old.unsynced.lost → IsTrue self.new.unsynced.lost }
         ensures cause { HasCause self.old.failures self.new.failures result }
+        ensures count { IsErrOf result Failed →
+            self.new.failures ≡ min (self.old.failures + 1) (2 ^ 64 - 1) }
+        ensures path { self.new.folder ≡ self.old.folder }
     {
         let answer = self.bring_all();
+        if matches!(answer, Err(DiskError::Failed)) {
+            self.unsynced.lost = true;
+        }
         counted(&mut self.failures, answer)
     }
 }
@@ -293,11 +324,22 @@ impl From<io::Error> for DiskError {
 fn counted<T>(failures: &mut u64, answer: Result<T, DiskError>) -> Result<T, DiskError>
     ensures same { result ≡ answer }
     ensures cause { HasCause failures.old failures.new result }
+    ensures count { IsErrOf result Failed →
+        failures.new ≡ min (failures.old + 1) (2 ^ 64 - 1) }
 {
     if matches!(answer, Err(DiskError::Failed)) {
         *failures = failures.saturating_add(1);
     }
     answer
+}
+
+// Whether the system brought something to the disk. Where it couldn't, it may have dropped what it was
+// to bring, so that is a failure also where it wanted memory.
+fn brought(answer: io::Result<()>) -> Result<(), DiskError>
+    ensures ok { IsOk result ↔ IsOk answer }
+    ensures failed { IfErr result (λ error. error ≡ Failed) }
+{
+    answer.map_err(|_| DiskError::Failed)
 }
 
 // Fails unless `n` octets from `at` on are among the first `length`.

@@ -11,11 +11,11 @@ use crate::disk::{Disk, DiskError};
 use std::alloc::Global;
 use std::marker::Model;
 
-/// A disk that passes so many changing calls on to another one, and fails at each changing call
-/// behind them: what a test makes of a disk that breaks at a known call. A call that fails here
-/// doesn't reach the disk within, but is told on top of what that one tells. A call that the disk
-/// within leaves for want of memory doesn't count. A clause sees the disk within, how many calls are
-/// still passed on, and those that failed here.
+/// A double for tests, of a disk that breaks at a known call: it passes so many changing calls on to
+/// another disk, and fails at each changing call behind them. A call that fails here doesn't reach
+/// the disk within, but is told on top of what that one tells. A call that the disk within leaves for
+/// want of memory doesn't count. A clause sees the disk within, how many calls are still passed on,
+/// and those that failed here.
 #[derive(Drop)]
 pub struct Fuse<D> {
     inner: D,

@@ -1,5 +1,6 @@
-//! A disk of sixteen files, by the record of its changing calls: one that keeps nothing, one in
-//! memory, one that burns through at a known call, and one over the files of a folder.
+//! A disk of sixteen files, by the record of its changing calls, and a disk over the files of a
+//! folder. Three more stand in for it in tests, as doubles, and no program uses them: one that keeps
+//! nothing (`NoDisk`), one in memory (`MemDisk`), and one that burns through at a known call (`Fuse`).
 #![tactic(auto)]
 
 pub mod calls;

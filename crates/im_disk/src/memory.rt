@@ -11,10 +11,22 @@ use im_octet::octets::Octets;
 use std::alloc::{AllocError, Global};
 use std::marker::Model;
 
-/// A disk in memory, which keeps each changing call, and tells by them what a crash may leave at
-/// any moment. Some changing calls are to fail: those change no octet that reads give, and count as
-/// written. No other call fails. A clause sees the files at first, the changing calls, the numbers of
-/// those that are to fail, and how often it has failed, at most `u64::MAX`.
+/// A double for tests: a disk in memory, which keeps each changing call, and tells by them what a
+/// crash may leave at any moment. Some changing calls are to fail: those change no octet that reads
+/// give, and count as written. No other call fails. A clause sees the files at first, the changing
+/// calls, the numbers of those that are to fail, and how often it has failed, at most `u64::MAX`.
+///
+/// `read` copies its octets once, and a write that succeeds copies its piece twice, for the record and
+/// for the file. A changing call looks for its number among all of those that are to fail.
+///
+/// # Thread safety
+///
+/// None: one owner holds it.
+///
+/// # Invariants
+///
+/// `Stores`: there are sixteen files, each is what the changing calls made of the one at first, and
+/// each write lay within what reads gave. So what it tells is what reads give (`file`, `len`, `read`).
 #[derive(Drop)]
 pub struct MemDisk {
     alloc: Global,

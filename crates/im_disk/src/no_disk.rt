@@ -2,8 +2,8 @@ ghost use Rattle.std.specs.Prelude.{◌≡◌, ◌<◌, length, replicate};
 
 use crate::disk::{Disk, DiskError};
 
-/// A disk that keeps nothing and tells nothing. Each file is empty, reads give 00 octets, what is
-/// written is dropped, and no call fails.
+/// A double for tests: a disk that keeps nothing and tells nothing. Each file is empty, reads give 00
+/// octets, what is written is dropped, and no call fails.
 #[derive(Clone, Copy, Debug, PartialEq, Eq)]
 pub struct NoDisk;
 

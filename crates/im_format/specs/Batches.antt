@@ -31,6 +31,7 @@ batch_octets first count end = batch_fields first count end ++ (0 ∷ [])
 abbrev pub value_span : List ℕ → ValueRef → Span
 value_span value ref = record { file = 2 + ref.log; at = ref.at; octets = value }
 
+-- where the values of entries stand, each by its reference
 abbrev pub entries_spans : List Entry → List ValueRef → List Span
 entries_spans [] refs = []
 entries_spans (entry ∷ entries) [] = []
@@ -57,6 +58,7 @@ spans_from gate id end (batch ∷ batches) =
     batch_spans gate id end batch
     ++ spans_from (gate + 25) (id + length batch) (end + length (records_octets id batch)) batches
 
+-- what stands of the batches from the first one on, which begin at place 0 of both logs
 abbrev pub spans_of : List (List Record) → List Span
 spans_of batches = spans_from 0 1 0 batches
 

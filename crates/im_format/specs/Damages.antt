@@ -11,11 +11,11 @@ use Rattle.im_format.specs.Spans.{octets_at}
 use Rattle.im_format.specs.declared.damages.Damage.{Damage}
 use Rattle.im_format.specs.declared.damages.Difference.TheVariants.{Numbers, Digests}
 
--- what was wanted and what was found at a place of a file: two numbers (of a bound the bound and the field),
--- or two digests
+-- what was wanted and what was found at a place of a file: two numbers, of a bound the bound and the field
 abbrev pub numbers : ℕ → ℕ → ℕ → ℕ → Damage
 numbers number place want got = record { file = number; at = place; found = Numbers want got }
 
+-- the same of two digests
 abbrev pub digests : ℕ → ℕ → List ℕ → List ℕ → Damage
 digests number place want got = record { file = number; at = place; found = Digests want got }
 

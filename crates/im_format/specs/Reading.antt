@@ -7,13 +7,15 @@ use Rattle.im_model.specs.declared.transactions.Transaction.{Transaction}
 use Rattle.im_format.specs.Spans.{octets_at}
 use Rattle.im_format.specs.declared.references.ValueRef.{ValueRef}
 
--- the numbers of 2, 4 and 8 octets at a place
+-- the number of the 2 octets at a place
 unfoldable pub number2 : List ℕ → ℕ → ℕ
 number2 log at = from_be_bytes w16 (octets_at log at 2)
 
+-- that of 4
 unfoldable pub number4 : List ℕ → ℕ → ℕ
 number4 log at = from_be_bytes w32 (octets_at log at 4)
 
+-- that of 8
 unfoldable pub number8 : List ℕ → ℕ → ℕ
 number8 log at = from_be_bytes w64 (octets_at log at 8)
 
@@ -69,17 +71,19 @@ value_at image ref = octets_at (image (2 + ref.log)) ref.at ref.len
 abbrev pub entry_in : Files → Slot → Entry
 entry_in image slot = record { md = slot.md; key = slot.key; value = value_at image slot.ref }
 
--- ID 8 | Ts 8 | BlTxID 8 | entry count 4 | the entries | Alh 32
+-- Ts of the record at a place, which is ID 8 | Ts 8 | BlTxID 8 | entry count 4 | the entries | Alh 32
 abbrev pub ts_at : List ℕ → ℕ → ℤ
 ts_at log at = cast_signed w64 (number8 log (at + 8))
 
+-- its BlTxID
 abbrev pub bl_at : List ℕ → ℕ → ℕ
 bl_at log at = number8 log (at + 16)
 
+-- its entry count
 abbrev pub count_at : List ℕ → ℕ → ℕ
 count_at log at = number4 log (at + 24)
 
--- the transaction whose record begins at a place, and where its Alh stands
+-- the transaction whose record begins at a place
 abbrev pub transaction_in : Files → ℕ → Transaction
 transaction_in image at = record {
   ts = ts_at (image 0) at;
@@ -87,17 +91,20 @@ transaction_in image at = record {
   bl = bl_at (image 0) at;
 }
 
+-- where its Alh begins, behind its entries
 abbrev pub alh_place : Files → ℕ → ℕ
 alh_place image at = slots_end (image 0) (at + 28) (count_at (image 0) at)
 
+-- where its record ends
 abbrev pub record_end : Files → ℕ → ℕ
 record_end image at = alh_place image at + 32
 
--- so many transactions that follow each other, and where they end
+-- so many transactions that follow each other
 abbrev pub transactions_in : Files → ℕ → ℕ → List Transaction
 transactions_in image at zero = []
 transactions_in image at (suc count) = transaction_in image at ∷ transactions_in image (record_end image at) count
 
+-- where their records end
 abbrev pub records_end : Files → ℕ → ℕ → ℕ
 records_end image at zero = at
 records_end image at (suc count) = records_end image (record_end image at) count
@@ -106,13 +113,15 @@ records_end image at (suc count) = records_end image (record_end image at) count
 abbrev pub counts : List ℕ → ℕ → Bool
 counts log gate = nat_eq (slice_index_or log gate 0) 1 && nat_lt (gate + 25) (length log)
 
--- the fields of a batch, whose gate stands at a place of the commit log
+-- the first ID of the batch whose gate stands at a place of the commit log
 abbrev pub first_at : List ℕ → ℕ → ℕ
 first_at log gate = number8 log (gate + 1)
 
+-- its count
 abbrev pub number_at : List ℕ → ℕ → ℕ
 number_at log gate = number8 log (gate + 9)
 
+-- where it says that its records end in the transaction log
 abbrev pub end_at : List ℕ → ℕ → ℕ
 end_at log gate = number8 log (gate + 17)
 

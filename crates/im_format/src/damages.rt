@@ -12,8 +12,10 @@ pub enum Difference {
 /// The first place of the files that doesn't hold what it should.
 #[derive(Clone, Copy, Debug, PartialEq, Eq)]
 pub struct Damage {
+    /// The number of the file, 0 to 5.
     pub file: u8,
     /// The place of the field or value at fault.
     pub at: u64,
+    /// What was wanted there, and what was found.
     pub found: Difference,
 }

@@ -7,7 +7,9 @@ use im_disk::calls::Call;
 /// A range of a file: the place where it begins, and how many octets it has.
 #[derive(Clone, Copy)]
 pub struct WrittenRange {
+    /// The place where it begins.
     pub at: usize,
+    /// The number of its octets.
     pub count: usize,
 }
 

@@ -10,7 +10,9 @@ use im_octet::octets::Octets;
 /// A piece that was written of a file: the place where it begins, and its octets.
 #[derive(Clone, Copy)]
 pub struct WrittenPiece<'a> {
+    /// The place where it begins.
     pub at: usize,
+    /// Its octets, which are lent.
     pub octets: &'a [u8],
 }
 
