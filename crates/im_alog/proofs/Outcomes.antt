@@ -1,24 +1,17 @@
 -- What a changing call leaves, by what it answers.
-use Rattle.std.proofs.Common.{◌≡◌, ℕ, ◌+◌, ◌≤◌, List, length, refl, sym, subst, arith}
-use Rattle.std.specs.Prelude.{Option, Some, None, IfSome, Result, Ok, Err, OnOk, IsErrOf}
+use Rattle.std.proofs.Common.{◌≡◌, ℕ, ◌+◌, ◌≤◌, List, length, sym, subst, arith}
+use Rattle.std.specs.Prelude.{Option, Some, None, IfSome, Result, Ok, OnOk, IsErrOf}
 use Rattle.std.specs.Option.{option_map}
 use Rattle.im_disk.specs.Disk.{Files, Told, LiesWithin, TornFile, seen, after}
-use Rattle.im_disk.specs.Moments.{Leaves, LeavesNow, LeavesOnly}
+use Rattle.im_disk.specs.Moments.{Leaves, LeavesNow}
 use Rattle.im_disk.specs.declared.calls.Call.{Call}
 use Rattle.im_disk.specs.declared.calls.Call.TheVariants.{Wrote, Tore, Synced, Missed}
 use Rattle.im_disk.specs.declared.disk.DiskError.{DiskError}
 use Rattle.im_disk.specs.declared.disk.DiskError.TheVariants.{Failed, Memory}
-use Rattle.im_disk.proofs.Leaving.{leaves_nothing, leaves_more}
+use Rattle.im_disk.proofs.Leaving.{by_answer, if_told_both, leaves_by_answer}
+use Rattle.im_disk.proofs.Tearing.{decide_same, written_torn}
 use Rattle.im_format.specs.Spans.{Reads}
-use Rattle.im_alog.proofs.Torn.{decide_file, written_torn, written_reads}
-
-pub if_some : (P Q : Told → Type 0) → ((t : Told) → P t → Q t) → (o : Option Told) → IfSome o P → IfSome o Q
-if_some P Q step None h = tt
-if_some P Q step (Some t) h = step t h
-
-pub if_both : (P Q R : Told → Type 0) → ((t : Told) → P t → Q t → R t) → (o : Option Told) → IfSome o P → IfSome o Q → IfSome o R
-if_both P Q R f None p q = tt
-if_both P Q R f (Some t) p q = f t p q
+use Rattle.im_alog.proofs.Torn.{written_reads}
 
 pub if_mapped : (P Q : Told → Type 0) (f : Told → Told) → ((t : Told) → P t → Q (f t)) → (o : Option Told) → IfSome o P → IfSome (option_map f o) Q
 if_mapped P Q f step None h = tt
@@ -36,35 +29,13 @@ pub record HasAnswer {T : Type 0} (good bad : Call) (o n : Option Told) (r : Res
   pub failed : IsErrOf r Failed → n ≡ option_map (after bad) o
   pub memory : IsErrOf r Memory → n ≡ o
 
--- what holds for each of the three answers holds
-pub by_answer : {T : Type 0} (Q : Option Told → Type 0) (good bad : Call) (o n : Option Told) (r : Result T DiskError)
-    → HasAnswer good bad o n r → Q (option_map (after good) o) → Q (option_map (after bad) o) → Q o → Q n
-by_answer Q good bad o n (Ok x) a on_good on_bad on_none = subst Q (sym a.ok) on_good
-by_answer Q good bad o n (Err Failed) a on_good on_bad on_none = subst Q (sym (a.failed refl)) on_bad
-by_answer Q good bad o n (Err Memory) a on_good on_bad on_none = subst Q (sym (a.memory refl)) on_none
-
--- what holds after a call that is recorded holds where the answer is Ok
-pub on_ok : {T : Type 0} (Q : Option Told → Type 0) (n m : Option Told) (r : Result T DiskError) → OnOk r (n ≡ m) → Q m → OnOk r (Q n)
-on_ok Q n m (Ok x) ok h = subst Q (sym ok) h
-on_ok Q n m (Err e) ok h = tt
-
--- each image of the call's moments has P, where each has P before, after the call, and after its failure
-pub leaves_by_answer : {T : Type 0} (P : Files → Type 0) (good bad : Call) (o n : Option Told) (r : Result T DiskError)
-    → HasAnswer good bad o n r → LeavesNow P o
-    → LeavesNow P (option_map (after good) o) → LeavesNow P (option_map (after bad) o) → Leaves P o n
-leaves_by_answer P good bad o n r a before then_good then_bad =
-    by_answer (λ m. LeavesOnly P o m × LeavesNow P m) good bad o n r a
-    (leaves_more P o o good (leaves_nothing P o) then_good, then_good)
-    (leaves_more P o o bad (leaves_nothing P o) then_bad, then_bad)
-    (leaves_nothing P o, before)
-
 -- each image of the moments of a write has P, where a torn write keeps it
 pub leaves_of_write : {T : Type 0} (P : Files → Type 0) (file at : ℕ) (piece : List ℕ) (o n : Option Told) (r : Result T DiskError)
     → HasAnswer (Wrote file at piece) (Tore file at (length piece)) o n r
     → ((old new : Files) → TornFile file at (length piece) old new → P old → P new)
     → LeavesNow P o → Leaves P o n
 leaves_of_write P file at piece o n r a keeps before =
-    leaves_by_answer P (Wrote file at piece) (Tore file at (length piece)) o n r a before
+    leaves_by_answer P (Wrote file at piece) (Tore file at (length piece)) o n r a.ok a.failed a.memory before
     (if_mapped _ _ (after (Wrote file at piece)) (λ t h image from. keeps from.0 image from.2 (h from.0 from.1)) o before)
     (if_mapped _ _ (after (Tore file at (length piece))) (λ t h image from. keeps from.0 image from.2 (h from.0 from.1)) o before)
 
@@ -73,7 +44,7 @@ pub leaves_of_sync : {T : Type 0} (P : Files → Type 0) (o n : Option Told) (r 
     → HasAnswer Synced Missed o n r
     → LeavesNow P o → IfSome o (λ t. (image : Files) → ((k : ℕ) → image k ≡ seen t k) → P image) → Leaves P o n
 leaves_of_sync P o n r a before here =
-    leaves_by_answer P Synced Missed o n r a before
+    leaves_by_answer P Synced Missed o n r a.ok a.failed a.memory before
     (if_mapped _ _ (after Synced) (λ t h. h) o here)
     (if_mapped _ _ (after Missed) (λ t h. h) o before)
 
@@ -83,9 +54,9 @@ pub seen_of_write : {T : Type 0} (P : Files → Type 0) (file at : ℕ) (piece :
     → ((old new : Files) → TornFile file at (length piece) old new → P old → P new)
     → IfSome o (λ t. P (seen t)) → IfSome n (λ t. P (seen t))
 seen_of_write P file at piece o n r a within keeps here =
-    by_answer (λ m. IfSome m (λ t. P (seen t))) (Wrote file at piece) (Tore file at (length piece)) o n r a
+    by_answer (λ m. IfSome m (λ t. P (seen t))) (Wrote file at piece) (Tore file at (length piece)) o n r a.ok a.failed a.memory
     (if_mapped _ _ (after (Wrote file at piece)) (λ t h. keeps (seen t) _ (written_torn (seen t) file at piece (omega (arith, h.0))) h.1) o
-    (if_both _ _ (λ t. (at + 0 ≤ length (seen t file)) × P (seen t)) (λ t x y. (x, y)) o within here))
+    (if_told_both _ _ (λ t. (at + 0 ≤ length (seen t file)) × P (seen t)) (λ t x y. (x, y)) o within here))
     (if_mapped _ _ (after (Tore file at (length piece))) (λ t h. h) o here)
     here
 
@@ -93,7 +64,7 @@ seen_of_write P file at piece o n r a within keeps here =
 pub seen_of_sync : {T : Type 0} (Q : Files → Type 0) (o n : Option Told) (r : Result T DiskError)
     → HasAnswer Synced Missed o n r → IfSome o (λ t. Q (seen t)) → IfSome n (λ t. Q (seen t))
 seen_of_sync Q o n r a here =
-    by_answer (λ m. IfSome m (λ t. Q (seen t))) Synced Missed o n r a
+    by_answer (λ m. IfSome m (λ t. Q (seen t))) Synced Missed o n r a.ok a.failed a.memory
     (if_mapped _ _ (after Synced) (λ t h. h) o here)
     (if_mapped _ _ (after Missed) (λ t h. h) o here)
     here
@@ -108,6 +79,6 @@ reads_of_write file at piece o within =
 pub keeps_long : (ends : ℕ → ℕ) (file at n : ℕ) (old new : Files) → TornFile file at n old new
     → ((k : ℕ) → ends k ≤ length (old k)) → (k : ℕ) → ends k ≤ length (new k)
 keeps_long ends file at n old new torn long k =
-    decide_file k file
+    decide_same k file
     (λ same. subst (λ (j : ℕ). ends j ≤ length (new j)) (sym same) (omega (arith, long file, torn.torn.no_shorter)))
     (λ other. subst (λ (l : List ℕ). ends k ≤ length l) (sym (torn.others k other)) (long k))

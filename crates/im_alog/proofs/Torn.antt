@@ -1,21 +1,13 @@
 -- What a write leaves standing in what reads give, and in a file that a crash tears.
-use Rattle.std.proofs.Common.{◌≡◌, ◌≢◌, ℕ, ◌+◌, ◌-◌, ◌≤◌, List, [], ◌∷◌, ◌++◌, length, take, drop, refl, sym, ◌∙◌, ap, subst, arith, rules, eqb-true, eq-eqb, ne_eqb, length-drop, length-take, length-append, true, false, append_assoc, ⊎_elim}
-use Rattle.std.proofs.lemmas.Bool.{false≢true}
+use Rattle.std.proofs.Common.{◌≡◌, ℕ, ◌+◌, ◌-◌, ◌≤◌, List, [], ◌∷◌, ◌++◌, length, take, drop, refl, sym, ◌∙◌, ap, subst, arith, rules, eq-eqb, length-drop, length-append, append_assoc, ⊎_elim}
 use Rattle.std.proofs.lemmas.List.{take-take, drop-take, take_at, drop_at, drop-drop}
 use Rattle.std.proofs.lemmas.List.Elements.{All-weaker, All-nil, All-cons, All-head, All-tail}
-use Rattle.std.specs.Prelude.{◌==◌, All, if◌then◌else◌}
-use Rattle.im_disk.specs.Disk.{Files, Torn, TornFile, written, with_file}
+use Rattle.std.specs.Prelude.{All, if◌then◌else◌}
+use Rattle.im_disk.specs.Disk.{Files, TornFile, written, with_file}
+use Rattle.im_disk.proofs.Tearing.{decide_same}
 use Rattle.im_format.specs.Spans.{Reads, Misses, octets_at}
 use Rattle.im_format.specs.declared.spans.Span.{Span}
 use Rattle.im_alog.specs.Holding.{Holds}
-
--- two numbers are the same, or not
-pub decide_file : {P : Type 0} (a b : ℕ) → (a ≡ b → P) → (a ≢ b → P) → P
-decide_file {P} a b same other = go (a == b) refl
-  where
-    go : (t : _) → (a == b) ≡ t → P
-    go true is = same (eqb-true a b is)
-    go false is = other (λ e. false≢true (sym is ∙ eq-eqb a b e))
 
 -- octets that end before a place don't depend on what stands from there on
 same_front : (p n at : ℕ) (old new : List ℕ) → p + n ≤ at → take at new ≡ take at old → octets_at new p n ≡ octets_at old p n
@@ -38,7 +30,7 @@ same_back p n at old new le same =
 pub kept_octets : (file at n : ℕ) (old new : Files) (s : Span) → TornFile file at n old new → Misses file at n s
     → octets_at (new s.file) s.at (length s.octets) ≡ octets_at (old s.file) s.at (length s.octets)
 kept_octets file at n old new s torn misses =
-    decide_file s.file file
+    decide_same s.file file
     (λ same.
     subst (λ (k : ℕ). octets_at (new k) s.at (length s.octets) ≡ octets_at (old k) s.at (length s.octets)) (sym same)
     (⊎_elim
@@ -67,37 +59,6 @@ same_reads old new same s r = record { reads = ap (λ (l : List ℕ). octets_at 
 
 pub same_all : (old new : Files) → ((k : ℕ) → new k ≡ old k) → (spans : List Span) → Holds spans old → Holds spans new
 same_all old new same spans = All-weaker (Reads old) (Reads new) (same_reads old new same) spans
-
--- what reads give after a write is a torn write too
-pub written_torn : (files : Files) (file at : ℕ) (piece : List ℕ) → at ≤ length (files file)
-    → TornFile file at (length piece) files (with_file files file (written (files file) at piece))
-written_torn files file at piece le =
-    let old = files file in
-    let new = written old at piece in
-    let front : length (take at old) ≡ at = search (rules, le) in
-    let grouped : new ≡ take at old ++ (piece ++ drop (at + length piece) old) =
-    append_assoc (take at old) piece (drop (at + length piece) old)
-    in
-    let here : with_file files file new file ≡ new = ap (λ t. if t then new else files file) (eq-eqb file file refl) in
-    let sizes : length new ≡ at + length piece + (length old - (at + length piece)) =
-    omega (
-      arith,
-      length-append (take at old ++ piece) (drop (at + length piece) old),
-      length-append (take at old) piece,
-      front,
-      length-drop (at + length piece) old,
-    )
-    in
-    record {
-      torn = subst (λ (l : List ℕ). Torn at (length piece) old l) (sym here) (record {
-        before = ap (λ (l : List ℕ). take at l) grouped ∙ take_at (take at old) _ at front;
-        after = drop_at (take at old ++ piece) (drop (at + length piece) old) (at + length piece)
-            (omega (arith, length-append (take at old) piece, front));
-        no_shorter = omega (arith, sizes);
-        no_longer = omega (arith, sizes);
-      });
-      others = λ k other. ap (λ t. if t then new else files k) (ne_eqb k file other);
-    }
 
 -- what was written reads back
 pub written_reads : (files : Files) (file at : ℕ) (piece : List ℕ) → at ≤ length (files file)
@@ -141,13 +102,3 @@ part_reads image file at before octets behind r =
           ∙ ap (λ (k : List ℕ). take n k) (drop_at before (octets ++ behind) (length before) refl)
           ∙ take_at octets behind n refl;
     }
-
--- what reads lies within its file
-pub reads_within : (image : Files) (s : Span) → 1 ≤ length s.octets → Reads image s → s.at + length s.octets ≤ length (image s.file)
-reads_within image s some r =
-    omega (
-      arith,
-      ap length r.reads,
-      length-take (length s.octets) (drop s.at (image s.file)),
-      length-drop s.at (image s.file),
-    )

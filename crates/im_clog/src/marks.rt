@@ -32,7 +32,14 @@ pub enum Uncounted {
 }
 
 /// The batch whose gate stands at the place `gate` of the commit log's octets, where it counts: the gate is
-/// open, and all octets up to the next gate's are there. It takes no memory.
+/// open, and all octets up to the next gate's are there.
+///
+/// ```text
+/// log       = nothing, or gate 1 {batch gate 1}
+/// batch     = first ID 8 | count 8 | end of the transaction log 8
+/// ```
+///
+/// It takes no memory.
 pub fn batch_at(log: &[u8], gate: usize) -> Result<Mark, Uncounted>
     ensures counts { IsOk result ↔ Counts log.now gate }
     ensures mark { IfOk result (λ mark. mark ≡ mark_at log.now gate) }

@@ -1,5 +1,4 @@
 use crate::batches::batch_octets;
-use crate::laws::{a_staged_batch_is_read_back, one_reason_holds, the_test_of_a_gate_is_exact};
 use crate::marks::{Mark, Uncounted, batch_at};
 use std::test::Fail;
 
@@ -43,13 +42,5 @@ fn only_01_is_open(rt: HostRuntime) -> Result<(), Fail> {
     assert_eq!(rt; batch_at(&log, 0), Err(Uncounted::Closed { octet: 2 }));
     log[0] = 255;
     assert_eq!(rt; batch_at(&log, 0), Err(Uncounted::Closed { octet: 255 }));
-    Ok(())
-}
-
-#[test]
-fn laws_are_called(_rt: HostRuntime) -> Result<(), Fail> {
-    the_test_of_a_gate_is_exact();
-    a_staged_batch_is_read_back();
-    one_reason_holds();
     Ok(())
 }

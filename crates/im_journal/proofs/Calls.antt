@@ -2,19 +2,16 @@
 use Rattle.std.proofs.Common.{◌≡◌, ℕ, ◌+◌, ◌≤◌, ◌<◌, List, [], ◌∷◌, ◌++◌, length, get_or, take, drop, refl, sym, ◌∙◌, ap, subst, arith, inl, inr, append_assoc, length-take, length-drop}
 use Rattle.std.proofs.lemmas.List.{take_at, drop_more, take_more}
 use Rattle.std.proofs.lemmas.List.Elements.{All-weaker, All-nil, All-cons, All-head, All-tail, All-append, All-take}
-use Rattle.std.specs.Prelude.{All, Option, Some, None, IfSome, Result, Ok, Err, OnOk, IsErrOf}
-use Rattle.std.specs.Option.{option_map}
+use Rattle.std.specs.Prelude.{All, Option, IfSome}
 use Rattle.im_disk.specs.Disk.{Files, Told, Images, LiesWithin, TornFile, seen, after}
-use Rattle.im_disk.specs.Moments.{LeavesNow, Leaves}
-use Rattle.im_disk.specs.declared.disk.DiskError.{DiskError}
-use Rattle.im_disk.specs.declared.disk.DiskError.TheVariants.{Failed, Memory}
-use Rattle.im_disk.specs.declared.calls.Call.{Call}
 use Rattle.im_disk.specs.declared.calls.Call.TheVariants.{Wrote, Synced}
-use Rattle.im_disk.proofs.Leaving.{leaves_nothing, leaves_more}
+use Rattle.im_disk.proofs.Leaving.{if_told}
+use Rattle.im_disk.proofs.Tearing.{decide_same, written_torn}
 use Rattle.im_format.specs.Spans.{Reads, Misses, octet_span}
 use Rattle.im_format.specs.declared.spans.Span.{Span}
+use Rattle.im_alog.proofs.Torn.{keeps_all, same_all, same_reads, written_reads}
 use Rattle.im_journal.specs.Phases.{IsClosed, IsSafe, IsClear, AreClear, IsStaging, IsSealed, IsEither, IsGated, IsDone}
-use Rattle.im_journal.proofs.Torn.{decide_file, keeps_all, keeps_long, keeps_safe, same_all, same_long, same_reads, same_safe, written_torn, written_reads}
+use Rattle.im_journal.proofs.Torn.{keeps_long, keeps_safe, same_long, same_safe}
 
 pub all_front : {X : Type 0} (P : X → Type 0) (xs ys : List X) → All P (xs ++ ys) → All P xs
 all_front P xs ys h = subst (All P) (take_at xs ys (length xs) refl) (All-take P (length xs) (xs ++ ys) h)
@@ -39,7 +36,7 @@ module _ (ends : ℕ → ℕ) (spans : List Span) (gate : ℕ) (done : List Span
   grouped = append_assoc spans done (p ∷ [])
 
   longer : (q : Span) → q.at ≤ length (seen t q.file) → q.at ≤ length (seen (after (Wrote p.file p.at p.octets) t) q.file)
-  longer q le = decide_file q.file p.file
+  longer q le = decide_same q.file p.file
       (λ same. subst (λ (k : ℕ). q.at ≤ length (seen (after (Wrote p.file p.at p.octets) t) k)) (sym same) (omega (arith, subst (λ (k : ℕ). q.at ≤ length (seen t k)) same le, torn.torn.no_shorter)))
       (λ other. subst (λ (l : List ℕ). q.at ≤ length l) (sym (torn.others q.file other)) le)
 
@@ -93,7 +90,7 @@ module _ (ends : ℕ → ℕ) (spans : List Span) (gate : ℕ) (pieces : List Sp
       let long = keeps_long 1 gate 1 ends old image t1 safe.long in
       let there : gate + 1 ≤ length (image 1) = omega (arith, closed_long old gate safe.closed, t1.torn.no_shorter) in
       let found : Reads image (octet_span 1 gate (get_or (image 1) gate 0)) = record { reads = ap (λ (l : List ℕ). take 1 l) (drop_more (image 1) gate 0 (omega (arith, there))) } in
-      decide_file (get_or (image 1) gate 0) 1
+      decide_same (get_or (image 1) gate 0) 1
       (λ open_now. inr (record { reads = reads; long = long; opened = subst (λ (x : ℕ). Reads image (octet_span 1 gate x)) open_now found }))
       (λ shut. inl (record { reads = all_front (Reads image) spans pieces reads; long = long; closed = record { octet = get_or (image 1) gate 0; shut = shut; reads = found } }))
 
@@ -113,39 +110,6 @@ module _ (ends : ℕ → ℕ) (spans : List Span) (gate : ℕ) (pieces : List Sp
     };
   }
 
-pub if_mapped : (P Q : Told → Type 0) (f : Told → Told) → ((t : Told) → P t → Q (f t)) → (o : Option Told) → IfSome o P → IfSome (option_map f o) Q
-if_mapped P Q f step None h = tt
-if_mapped P Q f step (Some t) h = step t h
-
-pub if_some : (P Q : Told → Type 0) → ((t : Told) → P t → Q t) → (o : Option Told) → IfSome o P → IfSome o Q
-if_some P Q step None h = tt
-if_some P Q step (Some t) h = step t h
-
--- what a changing call leaves, by what it answers
-pub by_result : {T : Type 0} (Q : Option Told → Type 0) (good bad : Call) (o n : Option Told) (r : Result T DiskError)
-    → OnOk r (n ≡ option_map (after good) o) → (IsErrOf r Failed → n ≡ option_map (after bad) o) → (IsErrOf r Memory → n ≡ o)
-    → Q (option_map (after good) o) → Q (option_map (after bad) o) → Q o → Q n
-by_result Q good bad o n (Ok x) ok failed memory a b c = subst Q (sym ok) a
-by_result Q good bad o n (Err Failed) ok failed memory a b c = subst Q (sym (failed refl)) b
-by_result Q good bad o n (Err Memory) ok failed memory a b c = subst Q (sym (memory refl)) c
-
--- the same where each image has P before, after the call and after its failure
-pub leaves_by_result : {T : Type 0} (P : Files → Type 0) (good bad : Call) (o n : Option Told) (r : Result T DiskError)
-    → OnOk r (n ≡ option_map (after good) o) → (IsErrOf r Failed → n ≡ option_map (after bad) o) → (IsErrOf r Memory → n ≡ o)
-    → LeavesNow P o → IfSome o (λ t. (image : Files) → Images (after good t) image → P image) → IfSome o (λ t. (image : Files) → Images (after bad t) image → P image)
-    → Leaves P o n
-leaves_by_result P good bad o n r ok failed memory before then_good then_bad =
-    let good_now = if_mapped _ _ (after good) (λ t h. h) o then_good in
-    let bad_now = if_mapped _ _ (after bad) (λ t h. h) o then_bad in
-    by_result (Leaves P o) good bad o n r ok failed memory
-    (leaves_more P o o good (leaves_nothing P o) good_now, good_now)
-    (leaves_more P o o bad (leaves_nothing P o) bad_now, bad_now)
-    (leaves_nothing P o, before)
-
-pub on_ok : {T : Type 0} (Q : Option Told → Type 0) (n m : Option Told) (r : Result T DiskError) → OnOk r (n ≡ m) → Q m → OnOk r (Q n)
-on_ok Q n m (Ok x) ok h = subst Q (sym ok) h
-on_ok Q n m (Err e) ok h = tt
-
 pub next_left : (ps : List Span) (k : ℕ) (p : Span) → k < length ps → p ≡ get_or ps k p → drop k ps ≡ p ∷ drop (k + 1) ps
 next_left ps k p lt is = drop_more ps k p lt ∙ ap (λ (q : Span). q ∷ drop (k + 1) ps) (sym is)
 
@@ -155,6 +119,6 @@ next_taken ps k p lt is = ap (λ (q : Span). take k ps ++ q ∷ []) is ∙ sym (
 pub next_within : (o : Option Told) (ends : ℕ → ℕ) (spans : List Span) (gate : ℕ) (ps : List Span) (k : ℕ) (p : Span) → k < length ps → p ≡ get_or ps k p
     → IfSome o (IsStaging ends spans gate (take k ps) (drop k ps)) → LiesWithin o p.file p.at 0
 next_within o ends spans gate ps k p lt is h =
-    if_some (IsStaging ends spans gate (take k ps) (p ∷ drop (k + 1) ps)) (λ t. p.at + 0 ≤ length (seen t p.file))
+    if_told (IsStaging ends spans gate (take k ps) (p ∷ drop (k + 1) ps)) (λ t. p.at + 0 ≤ length (seen t p.file))
     (λ t s. omega (arith, All-head (λ q. q.at ≤ length (seen t q.file)) p (drop (k + 1) ps) s.within)) o
     (subst (λ (l : List Span). IfSome o (IsStaging ends spans gate (take k ps) l)) (next_left ps k p lt is) h)

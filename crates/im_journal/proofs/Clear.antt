@@ -5,6 +5,7 @@ use Rattle.std.specs.Prelude.{All, if◌then◌else◌}
 use Rattle.im_digest.specs.Digests.{Hash}
 use Rattle.im_model.specs.declared.entries.Entry.{Entry}
 use Rattle.im_model.specs.declared.transactions.Transaction.{Transaction}
+use Rattle.im_disk.proofs.Tearing.{decide_same}
 use Rattle.im_format.specs.Batches.{batch_fields, batch_octets, batch_spans, entries_spans, joined, spans_from, value_span, values_spans}
 use Rattle.im_format.specs.Places.{log_values, refs_of}
 use Rattle.im_format.specs.Records.{AreRecords, AreReferences, records_octets}
@@ -12,12 +13,12 @@ use Rattle.im_format.specs.Spans.{Misses, octet_span}
 use Rattle.im_format.specs.declared.records.Record.{Record}
 use Rattle.im_format.specs.declared.references.ValueRef.{ValueRef}
 use Rattle.im_format.specs.declared.spans.Span.{Span}
+use Rattle.im_alog.proofs.Torn.{all_both}
 use Rattle.im_journal.specs.Phases.{AreClear, IsClear}
 use Rattle.im_journal.specs.Pieces.{end_of, log_pieces, pieces_of, value_piece}
 use Rattle.im_journal.proofs.Calls.{all_front}
 use Rattle.im_journal.proofs.Parts.{all_back}
 use Rattle.im_journal.proofs.Prefixes.{octets_more, refs_more}
-use Rattle.im_journal.proofs.Torn.{all_both, decide_file}
 use Rattle.im_journal.proofs.Whole.{length-fields}
 
 -- the span lies below the end of its file
@@ -51,12 +52,12 @@ clear_behind spans ends gate p below le behind = record {
 
 -- a piece for a value log, before others
 all_with_piece : (P : Span → Type 0) (number place : ℕ) (octets : List ℕ) (rest : List Span) → P (record { file = number; at = place; octets = octets }) → All P rest → All P (value_piece number place octets ++ rest)
-all_with_piece P number place octets rest h all = decide_file (length octets) 0
+all_with_piece P number place octets rest h all = decide_same (length octets) 0
     (λ none. subst (λ t. All P ((if t then [] else record { file = number; at = place; octets = octets } ∷ []) ++ rest)) (sym (eq-eqb (length octets) 0 none)) all)
     (λ some. subst (λ t. All P ((if t then [] else record { file = number; at = place; octets = octets } ∷ []) ++ rest)) (sym (ne_eqb (length octets) 0 some)) (All-cons P (record { file = number; at = place; octets = octets }) rest h all))
 
 different_with_piece : (number place : ℕ) (octets : List ℕ) (rest : List Span) → All (λ q. q.file ≢ number) rest → AreDifferent rest → AreDifferent (value_piece number place octets ++ rest)
-different_with_piece number place octets rest others different = decide_file (length octets) 0
+different_with_piece number place octets rest others different = decide_same (length octets) 0
     (λ none. subst (λ t. AreDifferent ((if t then [] else record { file = number; at = place; octets = octets } ∷ []) ++ rest)) (sym (eq-eqb (length octets) 0 none)) different)
     (λ some. subst (λ t. AreDifferent ((if t then [] else record { file = number; at = place; octets = octets } ∷ []) ++ rest)) (sym (ne_eqb (length octets) 0 some)) (others, different))
 

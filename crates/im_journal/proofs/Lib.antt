@@ -6,6 +6,7 @@ pub mod Mids
 pub mod Parts
 pub mod Placing
 pub mod Prefixes
+pub mod Same
 pub mod SampleLemmas
 pub mod Shown
 pub mod Torn

@@ -11,6 +11,7 @@ use Rattle.im_model.specs.History.{alh_of, alhs_from, alhs_of, first_alh, next_h
 use Rattle.im_model.specs.Headers.{alh, alh_string}
 use Rattle.im_model.specs.declared.entries.Entry.{Entry}
 use Rattle.im_model.specs.declared.transactions.Transaction.{Transaction}
+use Rattle.im_disk.proofs.Tearing.{decide_same}
 use Rattle.im_format.specs.Batches.{joined}
 use Rattle.im_format.specs.Places.{log_end, refs_of}
 use Rattle.im_format.specs.Records.{AreRecords, AreReferences, entries_octets, entry_octets, head_octets, record_octets, records_octets, reference_octets}
@@ -20,7 +21,6 @@ use Rattle.im_journal.specs.Holding.{AreFirst, AreNext, ends_of}
 use Rattle.im_record.specs.Writing.{IsWhole}
 use Rattle.im_journal.specs.Pieces.{end_of}
 use Rattle.im_journal.proofs.Placing.{ends_in, records_in}
-use Rattle.im_journal.proofs.Torn.{decide_file}
 
 -- the entries of a transaction within the limits
 pub record IsSmall (tx : Transaction) : Type 0 where
@@ -114,7 +114,7 @@ get_short (x ∷ xs) zero all = All-head (λ (x : List ℕ). length x ≤ 32) x 
 get_short (x ∷ xs) (suc i) all = get_short xs i (All-tail (λ (x : List ℕ). length x ≤ 32) x xs all)
 
 alh_short : (hash : Hash) (history : List Transaction) (k : ℕ) → ((octets : List ℕ) → length (hash octets) ≡ 32) → length (alh_of hash history k) ≤ 32
-alh_short hash history k digests = decide_file k 0
+alh_short hash history k digests = decide_same k 0
     (λ none. subst (λ t. length (if t then first_alh hash else get_or (alhs_of hash history) (k - 1) []) ≤ 32) (sym (eq-eqb k 0 none)) (omega (arith, digests [])))
     (λ some. subst (λ t. length (if t then first_alh hash else get_or (alhs_of hash history) (k - 1) []) ≤ 32) (sym (ne_eqb k 0 some)) (get_short (alhs_of hash history) (k - 1) (all_short hash [] history digests (All-nil (λ (x : List ℕ). length x ≤ 32)))))
 

@@ -1,21 +1,22 @@
 -- How the calls that a step makes follow each other.
-use Rattle.std.proofs.Common.{◌≡◌, ℕ, ◌+◌, ◌<◌, List, [], ◌∷◌, ◌++◌, drop, refl, sym, ◌∙◌, ap, subst, append_assoc}
+use Rattle.std.proofs.Common.{◌≡◌, ℕ, ◌+◌, List, [], ◌∷◌, ◌++◌, drop, refl, sym, ◌∙◌, ap, subst, append_assoc}
 use Rattle.std.proofs.lemmas.List.{append-nil}
 use Rattle.std.specs.Prelude.{Option, Some, None, Result, Ok, Err, OnOk, IsErrAnd, IsErrOf}
 use Rattle.std.specs.Option.{option_map}
 use Rattle.im_disk.specs.Disk.{Told, after}
+use Rattle.im_disk.specs.Grown.{after_all}
 use Rattle.im_disk.specs.declared.calls.Call.{Call}
 use Rattle.im_disk.specs.declared.disk.DiskError.{DiskError}
 use Rattle.im_disk.specs.declared.disk.DiskError.TheVariants as Disk
+use Rattle.im_disk.proofs.Leaving.{on_ok_after}
 use Rattle.im_journal.specs.Kept.{Kept}
-use Rattle.im_journal.specs.Made.{MadeUpTo, Makes, after_all, calls_to_seal, failed_call, spans_to_stage, writes_of}
+use Rattle.im_journal.specs.Made.{MadeUpTo, Makes, calls_to_seal, failed_call, spans_to_stage, writes_of}
 use Rattle.im_format.specs.declared.records.Record.{Record}
 use Rattle.im_format.specs.declared.spans.Span.{Span}
 use Rattle.im_journal.specs.declared.batches.Step.{Step}
 use Rattle.im_journal.specs.declared.batches.Step.TheVariants.{Idle, Staging, Staged, Sealed, Gated}
 use Rattle.im_journal.specs.declared.errors.JournalError.{JournalError}
-use Rattle.im_journal.specs.declared.errors.JournalError.TheVariants.{DiskFault, Memory, Stopped}
-use Rattle.im_journal.proofs.Calls.{on_ok}
+use Rattle.im_journal.specs.declared.errors.JournalError.TheVariants.{DiskFault, Memory}
 
 -- some calls, and then others
 after_both : (a b : List Call) (t : Told) → after_all (a ++ b) t ≡ after_all b (after_all a t)
@@ -79,7 +80,7 @@ pub one_makes : {T : Type 0} (call : Call) (o n : Option Told) (r : Result T Dis
     → OnOk r (n ≡ option_map (after call) o) → (IsErrOf r Disk.Failed → n ≡ option_map (after (failed_call call)) o) → (IsErrOf r Disk.Memory → n ≡ o)
     → Makes Disk.Failed Disk.Memory (call ∷ []) (call ∷ []) o n r
 one_makes call o n r ok failed memory = record {
-  ok = on_ok (λ x. x ≡ option_map (after_all (call ∷ [])) o) n (option_map (after call) o) r ok (told_one call o);
+  ok = on_ok_after (λ x. x ≡ option_map (after_all (call ∷ [])) o) n (option_map (after call) o) r ok (told_one call o);
   failed = λ e. (call, [], o, none_made (call ∷ []) o, failed e);
   ran_out = λ e. subst (λ (x : Option Told). MadeUpTo (call ∷ []) (call ∷ []) o x) (sym (memory e)) (none_made (call ∷ []) o);
 }
@@ -101,12 +102,6 @@ fault_isnt_memory T is = cc
 
 memory_isnt_fault : (T : Type 0) → IsErrOf {T = T} (Err Memory) DiskFault → ⊥
 memory_isnt_fault T is = cc
-
-stopped_isnt_fault : (T : Type 0) (faults : ℕ) → IsErrOf {T = T} (Err (Stopped faults)) DiskFault → ⊥
-stopped_isnt_fault T faults is = cc
-
-stopped_isnt_memory : (T : Type 0) (faults : ℕ) → IsErrOf {T = T} (Err (Stopped faults)) Memory → ⊥
-stopped_isnt_memory T faults is = cc
 
 -- the journal's answer to the disk's
 abbrev pub answer_of : {T : Type 0} → Result T DiskError → Result T JournalError
@@ -159,9 +154,6 @@ pub none_makes : {T : Type 0} (x : T) (left : List Call) (o : Option Told) → M
 none_makes x left o = record { ok = told_none o; failed = λ e. absurd (ok_isnt_err x DiskFault e); ran_out = λ e. absurd (ok_isnt_err x Memory e) }
 
 -- a step that didn't begin
-pub stopped_makes : (T : Type 0) (faults : ℕ) (calls left : List Call) (o n : Option Told) → Makes {T = T} DiskFault Memory calls left o n (Err (Stopped faults))
-stopped_makes T faults calls left o n = record { ok = tt; failed = λ e. absurd (stopped_isnt_fault T faults e); ran_out = λ e. absurd (stopped_isnt_memory T faults e) }
-
 unbegun : (T : Type 0) (calls : List Call) (o : Option Told) → Makes {T = T} DiskFault Memory calls calls o o (Err Memory)
 unbegun T calls o = record { ok = tt; failed = λ e. absurd (memory_isnt_fault T e); ran_out = λ e. none_made calls o }
 

@@ -1,10 +1,10 @@
 -- What images stand for at rest and while a batch is in progress.
-use Rattle.std.proofs.Common.{◌≡◌, ℕ, ◌+◌, ◌^◌, ◌≤◌, ◌<◌, List, [], ◌∷◌, ◌++◌, length, take, drop, refl, sym, ◌∙◌, ap, subst, arith, inl, inr}
+use Rattle.std.proofs.Common.{◌≡◌, ℕ, ◌+◌, ◌^◌, ◌<◌, List, [], ◌∷◌, ◌++◌, length, take, drop, refl, sym, ◌∙◌, ap, subst, arith, inl, inr}
 use Rattle.std.specs.Prelude.{All, Option, IfSome, IsErrOf, OnErr, OnOk, Result, Ok, Err}
 use Rattle.im_digest.specs.Digests.{Hash}
-use Rattle.im_disk.specs.Disk.{Files, LiesWithin, Told, seen}
+use Rattle.im_disk.specs.Disk.{Files, Told}
 use Rattle.im_disk.specs.Moments.{Leaves, LeavesNow}
-use Rattle.im_disk.proofs.Leaving.{leaves_nothing, leaves_weaker}
+use Rattle.im_disk.proofs.Leaving.{if_told, leaves_nothing, leaves_weaker}
 use Rattle.im_model.specs.declared.transactions.Transaction.{Transaction}
 use Rattle.im_format.specs.Batches.{gate_of, spans_of}
 use Rattle.im_format.specs.Standing.{Stands}
@@ -18,7 +18,7 @@ use Rattle.im_journal.specs.declared.batches.Step.{Step}
 use Rattle.im_journal.specs.declared.batches.Step.TheVariants.{Idle, Staging, Staged, Sealed, Gated}
 use Rattle.im_journal.specs.declared.errors.JournalError.{JournalError}
 use Rattle.im_record.specs.Writing.{IsWhole}
-use Rattle.im_journal.proofs.Calls.{closed_long, if_some, safe_front}
+use Rattle.im_journal.proofs.Calls.{safe_front}
 use Rattle.im_journal.proofs.Clear.{all_pieces}
 use Rattle.im_journal.proofs.Limits.{all_whole, ends_room, next_small}
 use Rattle.im_journal.proofs.Turns.{begins, first_more, rests, stands}
@@ -37,12 +37,12 @@ safe_stands hash history batches durable ends first image safe =
 module _ {D : Type 0} (told : D → Option Told) (hash : Hash) (history : List Transaction) (batches : List (List Record)) (k : Kept D) (rest : IsAtRest told hash history batches k) where
   -- at rest each image stands for what is durable
   pub rest_stands : LeavesNow (λ image. Stands hash image (take k.durable history)) (told k.disk)
-  rest_stands = if_some (IsResting batches k.ends) (λ t. _) (λ t h image now. safe_stands hash history batches k.durable k.ends rest.first image (h.safe image now)) (told k.disk) rest.resting
+  rest_stands = if_told (IsResting batches k.ends) (λ t. _) (λ t h image now. safe_stands hash history batches k.durable k.ends rest.first image (h.safe image now)) (told k.disk) rest.resting
 
   -- a batch begins
   pub begun : (rs : List Record) → IfSome (told k.disk) (IsStaging (end_of k.ends) (spans_of batches) (gate_of (length batches)) [] (pieces_of k.ends (k.durable + 1) rs))
   begun rs = subst (λ (e : List ℕ). IfSome (told k.disk) (IsStaging (end_of e) (spans_of batches) (gate_of (length batches)) [] (pieces_of e (k.durable + 1) rs))) (sym rest.first.ends_are)
-      (if_some (IsResting batches (ends_of batches)) (IsStaging (end_of (ends_of batches)) (spans_of batches) (gate_of (length batches)) [] (pieces_of (ends_of batches) (k.durable + 1) rs))
+      (if_told (IsResting batches (ends_of batches)) (IsStaging (end_of (ends_of batches)) (spans_of batches) (gate_of (length batches)) [] (pieces_of (ends_of batches) (k.durable + 1) rs))
       (begins hash history batches k.durable (first_at hash history batches k.durable k.ends rest.first) rs) (told k.disk)
       (subst (λ (e : List ℕ). IfSome (told k.disk) (IsResting batches e)) rest.first.ends_are rest.resting))
 
@@ -91,37 +91,28 @@ module _ {D : Type 0} (told : D → Option Told) (hash : Hash) (history : List T
 
   stands_at : (s : Step) → IsAt s (told k.disk) (end_of k.ends) (spans_of batches) (gate_of (length batches)) k.batch.pieces k.batch.written → LeavesNow (StandsBy s hash history k.durable (length rs)) (told k.disk)
   stands_at Idle at = absurd at
-  stands_at Staging at = if_some (IsStaging (end_of k.ends) (spans_of batches) (gate_of (length batches)) (take k.batch.written k.batch.pieces) (drop k.batch.written k.batch.pieces)) (λ t. _) (λ t h image now. mid_safe image (h.safe image now)) (told k.disk) at
-  stands_at Staged at = if_some (IsStaging (end_of k.ends) (spans_of batches) (gate_of (length batches)) k.batch.pieces []) (λ t. _) (λ t h image now. mid_safe image (h.safe image now)) (told k.disk) at
-  stands_at Sealed at = if_some (IsSealed (end_of k.ends) (spans_of batches) (gate_of (length batches)) k.batch.pieces) (λ t. _) (λ t h image now. mid_safe image (safe_front (end_of k.ends) (spans_of batches) k.batch.pieces (gate_of (length batches)) image (h.safe image now))) (told k.disk) at
-  stands_at Gated at = if_some (IsGated (end_of k.ends) (spans_of batches) (gate_of (length batches)) k.batch.pieces) (λ t. _) (λ t h image now. mid_either image (h.either image now)) (told k.disk) at
+  stands_at Staging at = if_told (IsStaging (end_of k.ends) (spans_of batches) (gate_of (length batches)) (take k.batch.written k.batch.pieces) (drop k.batch.written k.batch.pieces)) (λ t. _) (λ t h image now. mid_safe image (h.safe image now)) (told k.disk) at
+  stands_at Staged at = if_told (IsStaging (end_of k.ends) (spans_of batches) (gate_of (length batches)) k.batch.pieces []) (λ t. _) (λ t h image now. mid_safe image (h.safe image now)) (told k.disk) at
+  stands_at Sealed at = if_told (IsSealed (end_of k.ends) (spans_of batches) (gate_of (length batches)) k.batch.pieces) (λ t. _) (λ t h image now. mid_safe image (safe_front (end_of k.ends) (spans_of batches) k.batch.pieces (gate_of (length batches)) image (h.safe image now))) (told k.disk) at
+  stands_at Gated at = if_told (IsGated (end_of k.ends) (spans_of batches) (gate_of (length batches)) k.batch.pieces) (λ t. _) (λ t h image now. mid_either image (h.either image now)) (told k.disk) at
 
   -- what each image stands for now
   pub mid_stands : LeavesNow (StandsBy k.batch.step hash history k.durable (length rs)) (told k.disk)
   mid_stands = stands_at k.batch.step mid.at
 
-  -- the gate's place, and that a disk takes it
+  -- the gate's place, and that each file has room
   pub gate_is : end_of k.ends 1 ≡ gate_of (length batches)
   gate_is = ap (λ (e : List ℕ). end_of e 1) mid.first.ends_are
 
   pub mid_room : (n : ℕ) → end_of k.ends n < 2 ^ 61
   mid_room = ends_room hash history batches k.durable k.ends mid.first
 
-  pub gate_within : k.batch.step ≡ Sealed → LiesWithin (told k.disk) 1 (end_of k.ends 1) 0
-  gate_within sealed = subst (λ (n : ℕ). LiesWithin (told k.disk) 1 n 0) (sym gate_is)
-      (if_some (IsSealed (end_of k.ends) (spans_of batches) (gate_of (length batches)) k.batch.pieces) (λ t. gate_of (length batches) + 0 ≤ length (seen t 1))
-      (λ t h. omega (arith, closed_long (seen t) (gate_of (length batches)) h.here.closed)) (told k.disk) (at_step Sealed sealed))
-
-  -- the number of the transactions stays within the limit
-  pub mid_few : k.durable + k.batch.count ≤ 1048576
-  mid_few = omega (arith, mid.count, mid.next.placed, mid.first.history_is.few)
-
   -- the batch is durable
   pub done_rests : (o : Option Told) → IfSome o (IsDone (end_of k.ends) (spans_of batches) (gate_of (length batches)) k.batch.pieces) → IfSome o (IsResting (batches ++ rs ∷ []) k.batch.ends)
   done_rests o done =
       let after : k.batch.ends ≡ ends_of (batches ++ rs ∷ []) = mid.ends ∙ ap (λ (e : List ℕ). ends_after e (k.durable + 1) rs) mid.first.ends_are ∙ ends_more hash history batches k.durable rs mid_first mid.next in
       subst (λ (e : List ℕ). IfSome o (IsResting (batches ++ rs ∷ []) e)) (sym after)
-      (if_some (IsDone (end_of (ends_of batches)) (spans_of batches) (gate_of (length batches)) (pieces_of (ends_of batches) (k.durable + 1) rs)) (IsResting (batches ++ rs ∷ []) (ends_of (batches ++ rs ∷ [])))
+      (if_told (IsDone (end_of (ends_of batches)) (spans_of batches) (gate_of (length batches)) (pieces_of (ends_of batches) (k.durable + 1) rs)) (IsResting (batches ++ rs ∷ []) (ends_of (batches ++ rs ∷ [])))
       (λ t d. rests hash history batches k.durable mid_first rs t mid.next d) o
       (subst (λ (e : List ℕ). IfSome o (IsDone (end_of e) (spans_of batches) (gate_of (length batches)) (pieces_of (ends_of batches) (k.durable + 1) rs))) mid.first.ends_are
       (subst (λ (ps : List Span). IfSome o (IsDone (end_of k.ends) (spans_of batches) (gate_of (length batches)) ps)) pieces_are done)))

@@ -1,10 +1,11 @@
 -- Parts of what reads.
-use Rattle.std.proofs.Common.{◌≡◌, ℕ, ◌+◌, ◌≤◌, List, [], ◌++◌, length, take, drop, refl, sym, ◌∙◌, ap, subst, arith, append_assoc, length-append, length-take, length-drop}
-use Rattle.std.proofs.lemmas.List.{append-nil, drop_at, take_at, drop-drop, take-take, drop-take, nil_from_length}
+use Rattle.std.proofs.Common.{◌≡◌, ℕ, ◌+◌, ◌≤◌, List, [], ◌++◌, length, drop, refl, sym, ap, subst, arith, length-take, length-drop}
+use Rattle.std.proofs.lemmas.List.{append-nil, drop_at, nil_from_length}
 use Rattle.std.proofs.lemmas.List.Elements.{All-drop}
 use Rattle.std.specs.Prelude.{All}
 use Rattle.im_disk.specs.Disk.{Files}
 use Rattle.im_format.specs.Spans.{Reads}
+use Rattle.im_alog.proofs.Torn.{part_reads}
 
 pub all_back : {X : Type 0} (P : X → Type 0) (xs ys : List X) → All P (xs ++ ys) → All P ys
 all_back P xs ys h = subst (All P) (drop_at xs ys (length xs) refl) (All-drop P (length xs) (xs ++ ys) h)
@@ -12,23 +13,6 @@ all_back P xs ys h = subst (All P) (drop_at xs ys (length xs) refl) (All-drop P 
 -- the image has these octets at a place of a file
 abbrev pub reads_at : Files → ℕ → ℕ → List ℕ → Type 0
 reads_at image number place octets = Reads image (record { file = number; at = place; octets = octets })
-
-part_reads : (image : Files) (number place : ℕ) (before octets behind : List ℕ) → reads_at image number place (before ++ octets ++ behind) → reads_at image number (place + length before) octets
-part_reads image number place before octets behind r =
-    let n = length octets in
-    let l = drop place (image number) in
-    let whole : take (length (before ++ octets ++ behind)) l ≡ before ++ octets ++ behind = r.reads in
-    let within : length before + n ≤ length (before ++ octets ++ behind) = omega (arith, length-append (before ++ octets) behind, length-append before octets) in
-    record {
-      reads =
-          ap (λ (k : List ℕ). take n k) (sym (drop-drop (length before) place (image number)))
-          ∙ sym (drop-take (length before) n l)
-          ∙ ap (λ (k : List ℕ). drop (length before) k) (sym (take-take (length before + n) (length (before ++ octets ++ behind)) l within) ∙ ap (λ (k : List ℕ). take (length before + n) k) whole)
-          ∙ drop-take (length before) n (before ++ octets ++ behind)
-          ∙ ap (λ (k : List ℕ). take n (drop (length before) k)) (append_assoc before octets behind)
-          ∙ ap (λ (k : List ℕ). take n k) (drop_at before (octets ++ behind) (length before) refl)
-          ∙ take_at octets behind n refl;
-    }
 
 pub front_reads : (image : Files) (number place : ℕ) (octets behind : List ℕ) → reads_at image number place (octets ++ behind) → reads_at image number place octets
 front_reads image number place octets behind r = subst (λ (k : ℕ). reads_at image number k octets) (omega arith) (part_reads image number place [] octets behind r)

@@ -7,6 +7,7 @@ use Rattle.im_digest.specs.Digests.{Hash}
 use Rattle.im_disk.specs.Disk.{Files}
 use Rattle.im_model.specs.declared.entries.Entry.{Entry}
 use Rattle.im_model.specs.declared.transactions.Transaction.{Transaction}
+use Rattle.im_disk.proofs.Tearing.{decide_same}
 use Rattle.im_format.specs.Batches.{entries_spans, value_span, values_spans}
 use Rattle.im_format.specs.Places.{AreAppended, ArePut, log_end, log_values, refs_of, values_in}
 use Rattle.im_format.specs.Records.{AreRecords, AreReferences}
@@ -14,7 +15,6 @@ use Rattle.im_format.specs.Spans.{Reads}
 use Rattle.im_format.specs.declared.records.Record.{Record}
 use Rattle.im_format.specs.declared.references.ValueRef.{ValueRef}
 use Rattle.im_journal.proofs.Parts.{reads_at, front_reads, back_reads}
-use Rattle.im_journal.proofs.Torn.{decide_file}
 
 own_end : (v : ℕ) (ref : ValueRef) (refs : List ValueRef) → ref.log ≡ v → log_end v (ref ∷ refs) ≡ max (ref.at + ref.len) (log_end v refs)
 own_end v ref refs same = ap (λ t. if t then max (ref.at + ref.len) (log_end v refs) else log_end v refs) (eq-eqb ref.log v same)
@@ -25,7 +25,7 @@ other_end v ref refs other = ap (λ t. if t then max (ref.at + ref.len) (log_end
 -- the end behind more references
 log_end_both : (v : ℕ) (a b : List ValueRef) → log_end v (a ++ b) ≡ max (log_end v a) (log_end v b)
 log_end_both v [] b = omega arith
-log_end_both v (ref ∷ a) b = decide_file ref.log v
+log_end_both v (ref ∷ a) b = decide_same ref.log v
     (λ same. omega (arith, own_end v ref (a ++ b) same, own_end v ref a same, log_end_both v a b))
     (λ other. omega (arith, other_end v ref (a ++ b) other, other_end v ref a other, log_end_both v a b))
 
@@ -53,7 +53,7 @@ entries_end hash w id k i v before (entry ∷ entries) [] put are = absurd are
 entries_end hash w id k i v before (entry ∷ entries) (ref ∷ refs) put are =
     let rest = entries_end hash w id k (i + 1) v (before ++ ref ∷ []) entries refs put.2 are.1 in
     let grouped : log_end v ((before ++ ref ∷ []) ++ refs) ≡ log_end v (before ++ ref ∷ refs) = ap (log_end v) (append_assoc before (ref ∷ []) refs) in
-    decide_file ref.log v
+    decide_same ref.log v
     (λ same.
     let here : log_end v (before ++ ref ∷ []) ≡ log_end v before + ref.len = subst (λ (x : ℕ). log_end x (before ++ ref ∷ []) ≡ log_end x before + ref.len) same (own_pushed before ref put.1) in
     omega (arith, rest, grouped, here, are.0.len, ap length (own_value v entry entries ref refs same), length-append entry.value (values_in v entries refs)))
@@ -75,7 +75,7 @@ rest_reads : (image : Files) (before : List ValueRef) (entry : Entry) (entries :
     → reads_at image (2 + v) (log_end v before) (values_in v (entry ∷ entries) (ref ∷ refs) ++ tail) → reads_at image (2 + v) (log_end v (before ++ ref ∷ [])) (values_in v entries refs ++ tail)
 rest_reads image before entry entries ref refs v tail is len reads =
     let rest = values_in v entries refs in
-    decide_file ref.log v
+    decide_same ref.log v
     (λ same.
     let all = subst (λ (l : List ℕ). reads_at image (2 + v) (log_end v before) l) (ap (λ (l : List ℕ). l ++ tail) (own_value v entry entries ref refs same) ∙ append_assoc entry.value rest tail) reads in
     let here : log_end v before + length entry.value ≡ log_end v (before ++ ref ∷ []) = omega (arith, len, subst (λ (x : ℕ). log_end x (before ++ ref ∷ []) ≡ log_end x before + ref.len) same (own_pushed before ref is)) in
@@ -138,7 +138,7 @@ ends_in v most [] all = omega arith
 ends_in v most (ref ∷ refs) all =
     let rest = ends_in v most refs (All-tail (IsIn most) ref refs all) in
     let head = All-head (IsIn most) ref refs all in
-    decide_file ref.log v
+    decide_same ref.log v
     (λ same. omega (arith, own_end v ref refs same, rest, head.room))
     (λ other. omega (arith, other_end v ref refs other, rest))
 
@@ -149,6 +149,6 @@ refs_below most bound (ref ∷ refs) all le =
     let head = All-head (IsIn most) ref refs all in
     All-cons (λ ref. ref.at + ref.len ≤ bound ref.log) ref refs
     (omega (arith, own_end ref.log ref refs refl, le ref.log (omega (arith, head.log))))
-    (refs_below most bound refs (All-tail (IsIn most) ref refs all) (λ v few. decide_file ref.log v
+    (refs_below most bound refs (All-tail (IsIn most) ref refs all) (λ v few. decide_same ref.log v
     (λ same. omega (arith, own_end v ref refs same, le v few))
     (λ other. omega (arith, other_end v ref refs other, le v few))))

@@ -1,5 +1,5 @@
 -- A value of durable batches is what its reference shows.
-use Rattle.std.proofs.Common.{◌≡◌, ℕ, suc, zero, ◌+◌, ◌≤◌, List, [], ◌∷◌, ◌++◌, length, take, drop, refl, sym, ◌∙◌, ap, subst, arith, inl, inr, append_assoc}
+use Rattle.std.proofs.Common.{◌≡◌, ℕ, suc, zero, ◌+◌, List, [], ◌∷◌, ◌++◌, length, take, drop, refl, sym, ◌∙◌, ap, subst, arith, inl, inr, append_assoc}
 use Rattle.std.proofs.lemmas.Bool.{le-leb}
 use Rattle.std.proofs.lemmas.List.Elements.{All-nil, All-head, All-tail, All-append}
 use Rattle.std.specs.Prelude.{All, Option, Some, None, IfErr, IfOk, IfSome, IsErrOf, IsSome, Result, Ok, Err, slice_get, if◌then◌else◌}
@@ -7,6 +7,7 @@ use Rattle.im_digest.specs.Digests.{Hash}
 use Rattle.im_disk.specs.Disk.{Files, Told, seen}
 use Rattle.im_model.specs.declared.entries.Entry.{Entry}
 use Rattle.im_model.specs.declared.transactions.Transaction.{Transaction}
+use Rattle.im_disk.proofs.Leaving.{if_told}
 use Rattle.im_format.specs.Batches.{batch_fields, batch_spans, entries_spans, gate_of, joined, spans_from, spans_of, value_span, values_spans}
 use Rattle.im_format.specs.Reading.{value_at}
 use Rattle.im_format.specs.Records.{AreRecords, AreReferences, IsReference, records_octets}
@@ -14,8 +15,8 @@ use Rattle.im_format.specs.Spans.{Reads, octet_span, octets_at}
 use Rattle.im_format.specs.declared.records.Record.{Record}
 use Rattle.im_format.specs.declared.references.ValueRef.{ValueRef}
 use Rattle.im_format.specs.declared.spans.Span.{Span}
-use Rattle.im_journal.specs.Holding.{AreFirst, IsResting}
-use Rattle.im_journal.specs.Kept.{IsAt, IsAtRest, IsInBatch, Kept}
+use Rattle.im_journal.specs.Holding.{IsResting}
+use Rattle.im_journal.specs.Kept.{IsAt, Kept}
 use Rattle.im_journal.specs.Phases.{IsGated, IsSealed, IsStaging}
 use Rattle.im_journal.specs.Values.{HasValue, HoldsBatches}
 use Rattle.im_journal.specs.Pieces.{end_of}
@@ -24,7 +25,7 @@ use Rattle.im_journal.specs.declared.batches.Step.TheVariants.{Idle, Staging, St
 use Rattle.im_vlog.specs.Showing.{IsCorrupt, shown}
 use Rattle.im_vlog.specs.declared.showing.ReadError.{ReadError}
 use Rattle.im_vlog.specs.declared.showing.ReadError.TheVariants.{Corrupt}
-use Rattle.im_journal.proofs.Calls.{all_front, if_some}
+use Rattle.im_journal.proofs.Calls.{all_front}
 use Rattle.im_journal.proofs.Parts.{all_back}
 
 values_both : (a b : List Record) → values_spans (a ++ b) ≡ values_spans a ++ values_spans b
@@ -107,21 +108,21 @@ value_shows hash history image batches value ref are reads has =
 spans_at : (s : Step) (o : Option Told) (ends : ℕ → ℕ) (spans : List Span) (gate : ℕ) (pieces : List Span) (written : ℕ) → IsAt s o ends spans gate pieces written → IfSome o (λ t. All (Reads (seen t)) spans)
 spans_at Idle o ends spans gate pieces written at = absurd at
 spans_at Staging o ends spans gate pieces written at =
-    if_some (IsStaging ends spans gate (take written pieces) (drop written pieces)) (λ t. All (Reads (seen t)) spans) (λ t h. all_front (Reads (seen t)) spans (take written pieces) h.here.reads) o at
+    if_told (IsStaging ends spans gate (take written pieces) (drop written pieces)) (λ t. All (Reads (seen t)) spans) (λ t h. all_front (Reads (seen t)) spans (take written pieces) h.here.reads) o at
 spans_at Staged o ends spans gate pieces written at =
-    if_some (IsStaging ends spans gate pieces []) (λ t. All (Reads (seen t)) spans) (λ t h. all_front (Reads (seen t)) spans pieces h.here.reads) o at
+    if_told (IsStaging ends spans gate pieces []) (λ t. All (Reads (seen t)) spans) (λ t h. all_front (Reads (seen t)) spans pieces h.here.reads) o at
 spans_at Sealed o ends spans gate pieces written at =
-    if_some (IsSealed ends spans gate pieces) (λ t. All (Reads (seen t)) spans) (λ t h. all_front (Reads (seen t)) spans pieces h.here.reads) o at
+    if_told (IsSealed ends spans gate pieces) (λ t. All (Reads (seen t)) spans) (λ t h. all_front (Reads (seen t)) spans pieces h.here.reads) o at
 spans_at Gated o ends spans gate pieces written at =
-    if_some (IsGated ends spans gate pieces) (λ t. All (Reads (seen t)) spans) (λ t h. all_front (Reads (seen t)) spans pieces h.here.reads) o at
+    if_told (IsGated ends spans gate pieces) (λ t. All (Reads (seen t)) spans) (λ t h. all_front (Reads (seen t)) spans pieces h.here.reads) o at
 
 -- a value of durable batches is what its reference shows, where the disk tells
 pub holds_shows : {D : Type 0} (told : D → Option Told) (hash : Hash) (history : List Transaction) (batches : List (List Record)) (k : Kept D) (value : List ℕ) (ref : ValueRef)
     → HoldsBatches told hash history batches k → HasValue (joined batches) value ref → IfSome (told k.disk) (λ t. Shows hash (seen t) value ref)
 holds_shows told hash history batches k value ref (inl rest) has =
-    if_some (IsResting batches k.ends) (λ t. Shows hash (seen t) value ref) (λ t h. value_shows hash history (seen t) batches value ref rest.first.records_are h.here.reads has) (told k.disk) rest.resting
+    if_told (IsResting batches k.ends) (λ t. Shows hash (seen t) value ref) (λ t h. value_shows hash history (seen t) batches value ref rest.first.records_are h.here.reads has) (told k.disk) rest.resting
 holds_shows told hash history batches k value ref (inr mid) has =
-    if_some (λ t. All (Reads (seen t)) (spans_of batches)) (λ t. Shows hash (seen t) value ref) (λ t reads. value_shows hash history (seen t) batches value ref mid.1.first.records_are reads has) (told k.disk)
+    if_told (λ t. All (Reads (seen t)) (spans_of batches)) (λ t. Shows hash (seen t) value ref) (λ t reads. value_shows hash history (seen t) batches value ref mid.1.first.records_are reads has) (told k.disk)
     (spans_at k.batch.step (told k.disk) (end_of k.ends) (spans_of batches) (gate_of (length batches)) k.batch.pieces k.batch.written mid.1.at)
 
 -- octets that were read are the value

@@ -7,6 +7,7 @@ use Rattle.im_octet.specs.Fields.{field8}
 use Rattle.im_digest.specs.Digests.{Hash}
 use Rattle.im_disk.specs.Disk.{Files}
 use Rattle.im_model.specs.declared.transactions.Transaction.{Transaction}
+use Rattle.im_disk.proofs.Tearing.{decide_same}
 use Rattle.im_format.specs.Batches.{batch_fields, batch_octets, batch_spans, gate_of, joined, spans_from, spans_of, values_spans}
 use Rattle.im_format.specs.Places.{log_end, log_values, refs_of}
 use Rattle.im_format.specs.Records.{records_octets}
@@ -21,7 +22,6 @@ use Rattle.im_journal.proofs.Limits.{first_number}
 use Rattle.im_journal.proofs.Parts.{all_back, back_reads, front_reads, none_reads, reads_at, reads_long}
 use Rattle.im_journal.proofs.Placing.{records_end, values_read}
 use Rattle.im_journal.proofs.Prefixes.{joined_more, octets_more, refs_more}
-use Rattle.im_journal.proofs.Torn.{decide_file}
 
 same_batch : (g g2 i i2 e e2 : ℕ) (batch : List Record) → g ≡ g2 → i ≡ i2 → e ≡ e2 → batch_spans g i e batch ≡ batch_spans g2 i2 e2 batch
 same_batch g g2 i i2 e e2 batch p q r =
@@ -53,7 +53,7 @@ unfolding batch_octets
 staged_octets id count end = refl
 
 piece_reads : (image : Files) (number place : ℕ) (octets : List ℕ) → All (Reads image) (value_piece number place octets) → reads_at image number place octets
-piece_reads image number place octets h = decide_file (length octets) 0
+piece_reads image number place octets h = decide_same (length octets) 0
     (λ none. none_reads image number place octets none)
     (λ some. All-head (Reads image) (record { file = number; at = place; octets = octets }) [] (subst (λ t. All (Reads image) (if t then [] else record { file = number; at = place; octets = octets } ∷ [])) (ne_eqb (length octets) 0 some) h))
 

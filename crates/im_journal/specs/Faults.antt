@@ -1,14 +1,15 @@
 -- What a call of the journal does to the count of failures.
-use Rattle.std.specs.Prelude.{◌≡◌, ◌+◌, ◌-◌, ◌^◌, ℕ, min, Result, IsErrOf}
+use Rattle.std.specs.Prelude.{◌≡◌, ◌≤◌, ◌+◌, ◌-◌, ◌^◌, ℕ, min, Result, IsErrOf}
 use Rattle.im_edge.specs.Counts.{Rose}
 use Rattle.im_journal.specs.declared.errors.JournalError.{JournalError}
 use Rattle.im_journal.specs.declared.errors.JournalError.TheVariants.{DiskFault}
 use Rattle.im_vlog.specs.declared.showing.ReadError.{ReadError}
 use Rattle.im_vlog.specs.declared.showing.ReadError.TheVariants as Read
 
--- `DiskFault` comes only where the disk's count rose, and is one failure more, until their number stands at its
+-- The disk's count doesn't fall. `DiskFault` comes only where it rose, and is one failure more, until their number stands at its
 -- end; every other answer leaves both counts as they were
 pub record IsCounted {T : Type 0} (before now failures_before failures_now : ℕ) (result : Result T JournalError) : Type 0 where
+  pub later : before ≤ now
   pub rose : IsErrOf result DiskFault → Rose before now
   pub more : IsErrOf result DiskFault → failures_now ≡ min (failures_before + 1) (2 ^ 64 - 1)
   pub faults : (IsErrOf result DiskFault → ⊥) → now ≡ before
@@ -16,6 +17,7 @@ pub record IsCounted {T : Type 0} (before now failures_before failures_now : ℕ
 
 -- the same of a read's answers
 pub record IsReadCounted {T : Type 0} (before now failures_before failures_now : ℕ) (result : Result T ReadError) : Type 0 where
+  pub later : before ≤ now
   pub rose : IsErrOf result Read.DiskFault → Rose before now
   pub more : IsErrOf result Read.DiskFault → failures_now ≡ min (failures_before + 1) (2 ^ 64 - 1)
   pub faults : (IsErrOf result Read.DiskFault → ⊥) → now ≡ before

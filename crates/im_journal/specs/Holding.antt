@@ -19,7 +19,8 @@ ends_of batches =
     ∷ log_end 0 (refs_of (joined batches)) ∷ log_end 1 (refs_of (joined batches))
     ∷ log_end 2 (refs_of (joined batches)) ∷ log_end 3 (refs_of (joined batches)) ∷ []
 
--- these batches are the first `durable` transactions of the placed history, and the files end there
+-- these batches, of one record at least each, are the first `durable` transactions of the placed history, and the files
+-- end there; the hash gives 32 octets, and the placed history is one
 pub record AreFirst (hash : Hash) (history : List Transaction) (batches : List (List Record)) (durable : ℕ) (ends : List ℕ) : Type 0 where
   pub digests : (octets : List ℕ) → length (hash octets) ≡ 32
   pub history_is : IsHistory history

@@ -2,6 +2,7 @@
 use Rattle.std.specs.Prelude.{◌≡◌, ◌+◌, ℕ, List, [], ◌∷◌, ◌++◌, length, drop, Option, Result, OnOk, IsErrOf}
 use Rattle.std.specs.Option.{option_map}
 use Rattle.im_disk.specs.Disk.{Told, after}
+use Rattle.im_disk.specs.Grown.{after_all}
 use Rattle.im_disk.specs.declared.calls.Call.{Call}
 use Rattle.im_disk.specs.declared.calls.Call.TheVariants.{Wrote, Tore, Synced, Missed}
 use Rattle.im_format.specs.declared.records.Record.{Record}
@@ -10,11 +11,6 @@ use Rattle.im_journal.specs.Kept.{Kept}
 use Rattle.im_journal.specs.Pieces.{pieces_of}
 use Rattle.im_journal.specs.declared.batches.Step.{Step}
 use Rattle.im_journal.specs.declared.batches.Step.TheVariants.{Idle, Staging, Staged, Sealed, Gated}
-
--- what a disk tells these calls later, the first one first
-abbrev pub after_all : List Call → Told → Told
-after_all [] t = t
-after_all (call ∷ calls) t = after_all calls (after call t)
 
 -- one write for each span, in order
 abbrev pub writes_of : List Span → List Call

@@ -24,6 +24,19 @@ use std::alloc::{AllocError, Global};
 use std::marker::Model;
 
 /// The journal of a store: the records of a history on a disk, in batches.
+///
+/// # Thread safety
+///
+/// None: one owner holds it, and with it the disk.
+///
+/// # Invariants
+///
+/// - Between calls it is at rest (`IsAtRest`) or a batch is in progress (`IsInBatch`), from `resume` on (`rests`), until
+///   a call of the disk fails (`staged`, `sealed`, `settled`, `again`). What each image then stands for is said by the
+///   law `images_stand`, and within a call by `any_moment`.
+/// - Only `settle` moves what is durable and where the files end (`kept`, `moved`).
+/// - Where a call of the disk has failed, no step of a batch does anything from then on (`stopped`).
+/// - Each piece of its batch is one that a disk takes, and no more of them are written than there are.
 #[derive(Drop)]
 pub struct Journal<D: Disk> {
     disk: D,
@@ -82,11 +95,12 @@ impl<D: Disk> Journal<D> {
     /// Writes the pieces of a batch: the values, the records, and the batch's octets behind its gate. With
     /// no batch in progress it begins one with these records; else it goes on with what is left of the
     /// batch in progress, and doesn't look at them. All memory of its own is taken before the first write.
-    /// A write for each value log that gets octets, and two more.
+    /// A write for each value log that gets octets, and two more. To begin a batch copies each value and
+    /// each key once, and goes over the references twice for each value log. Nothing is hashed.
     ///
     /// # Errors
     ///
-    /// After `Memory` the same call goes on where this one stopped.
+    /// After `Memory` the same call goes on where this one stopped. After `DiskFault` the step is `Staging`.
     pub fn stage(&mut self, alloc: Global, records: &[Record]) -> Result<(), JournalError>
         requires next { self.old.failures ≡ 0 → (hash : Hash) × (history : List Transaction) × (batches : List (List Record)) × (rs : List Record)
             × CanStage D.told hash history batches rs records.now self.old }
@@ -100,11 +114,13 @@ impl<D: Disk> Journal<D> {
             → CanStage D.told hash history batches rs records.now self.old
             → Leaves (StandsBy self.old.batch.step hash history self.old.durable (length rs)) (D.told self.old.disk) (D.told self.new.disk) }
         ensures kept { (self.new.ends ≡ self.old.ends) × (self.new.durable ≡ self.old.durable) }
+        ensures left { IsErrOf result JournalError.DiskFault → self.new.batch.step ≡ Staging }
         ensures calls { Makes JournalError.DiskFault JournalError.Memory (calls_to_stage self.old records.now) (calls_to_stage self.new records.now) (D.told self.old.disk) (D.told self.new.disk) result }
         ensures counted { IsCounted (D.faults self.old.disk) (D.faults self.new.disk) self.old.failures self.new.failures result }
         ensures stopped { 0 < self.old.failures → (result ≡ Err (JournalError.Stopped self.old.failures)) × (self.new ≡ self.old) }
         ensures nothing { self.old.failures ≡ 0 → HasStaged self.old.batch.step → (result ≡ Ok tt) × (self.new ≡ self.old) }
         ensures going { (faults : ℕ) → IsErrOf result (JournalError.Stopped faults) → 0 < self.old.failures }
+        ensures step { (HasStaged self.old.batch.step → ⊥) → OnOk result (self.new.batch.step ≡ Staged) }
     {
         self.go()?;
         match self.batch.step {
@@ -122,7 +138,7 @@ impl<D: Disk> Journal<D> {
     ///
     /// # Errors
     ///
-    /// After `Memory` the same call tries again.
+    /// After `Memory` the same call tries again. Behind an error the batch is as it was.
     pub fn seal(&mut self) -> Result<(), JournalError>
         requires staged { self.old.failures ≡ 0 → HasStaged self.old.batch.step }
         ensures sealed { (hash : Hash) (history : List Transaction) (batches : List (List Record)) (rs : List Record)
@@ -135,11 +151,13 @@ impl<D: Disk> Journal<D> {
             → IsInBatch D.told hash history batches rs self.old
             → Leaves (StandsBy self.old.batch.step hash history self.old.durable (length rs)) (D.told self.old.disk) (D.told self.new.disk) }
         ensures kept { (self.new.ends ≡ self.old.ends) × (self.new.durable ≡ self.old.durable) }
+        ensures batch { OnErr result (self.new.batch ≡ self.old.batch) }
         ensures calls { Makes JournalError.DiskFault JournalError.Memory (calls_to_seal self.old.batch.step) (calls_to_seal self.new.batch.step) (D.told self.old.disk) (D.told self.new.disk) result }
         ensures counted { IsCounted (D.faults self.old.disk) (D.faults self.new.disk) self.old.failures self.new.failures result }
         ensures stopped { 0 < self.old.failures → (result ≡ Err (JournalError.Stopped self.old.failures)) × (self.new ≡ self.old) }
         ensures nothing { self.old.failures ≡ 0 → HasSealed self.old.batch.step → (result ≡ Ok tt) × (self.new ≡ self.old) }
         ensures going { (faults : ℕ) → IsErrOf result (JournalError.Stopped faults) → 0 < self.old.failures }
+        ensures step { self.old.batch.step ≡ Staged → OnOk result (self.new.batch.step ≡ Sealed) }
     {
         self.go()?;
         match self.batch.step {
@@ -154,7 +172,7 @@ impl<D: Disk> Journal<D> {
     ///
     /// # Errors
     ///
-    /// After `Memory` the same call goes on where this one stopped.
+    /// After `Memory` the same call goes on where this one stopped. After `DiskFault` the batch is still in progress.
     pub fn settle(&mut self) -> Result<(), JournalError>
         requires sealed { self.old.failures ≡ 0 → HasSealed self.old.batch.step }
         requires mid { self.old.failures ≡ 0 → (hash : Hash) × (history : List Transaction) × (batches : List (List Record)) × (rs : List Record)
@@ -173,6 +191,7 @@ impl<D: Disk> Journal<D> {
             → IsInBatch D.told hash history batches rs self.old
             → Leaves (StandsBy Gated hash history self.old.durable (length rs)) (D.told self.old.disk) (D.told self.new.disk) }
         ensures kept { OnErr result ((self.new.ends ≡ self.old.ends) × (self.new.durable ≡ self.old.durable)) }
+        ensures left { IsErrOf result JournalError.DiskFault → HasSealed self.new.batch.step }
         ensures calls { Makes JournalError.DiskFault JournalError.Memory (calls_to_settle self.old.batch.step (end_of self.old.ends 1)) (calls_to_settle self.new.batch.step (end_of self.new.ends 1)) (D.told self.old.disk) (D.told self.new.disk) result }
         ensures counted { IsCounted (D.faults self.old.disk) (D.faults self.new.disk) self.old.failures self.new.failures result }
         ensures stopped { 0 < self.old.failures → (result ≡ Err (JournalError.Stopped self.old.failures)) × (self.new ≡ self.old) }

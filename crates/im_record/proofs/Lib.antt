@@ -3,6 +3,7 @@ pub mod BackLemmas
 pub mod FailLemmas
 pub mod LengthLemmas
 pub mod NumberLemmas
+pub mod PartLemmas
 pub mod PassLemmas
 pub mod SlotLemmas
 pub mod SoundLemmas

@@ -1,16 +1,11 @@
 -- The checks of an entry as those of its parts.
 use Rattle.std.proofs.Common.{◌≡◌, ℕ, ◌+◌, List, ◌++◌, refl, ap, sym, ◌∙◌, arith, Result, Ok}
 use Rattle.im_mtree.specs.Checks.{Check, first_fail}
-use Rattle.im_format.specs.Damages.{slot_key_checks, slot_md_checks}
+use Rattle.im_format.specs.Damages.{slot_key_checks}
 use Rattle.im_format.specs.Reading.{number2, slot_at}
 use Rattle.im_format.specs.declared.damages.Damage.{Damage}
 use Rattle.im_record.specs.Slots.{md_part, key_part, ref_part, slot_checks_by}
 use Rattle.im_record.proofs.FailLemmas.{fail_append}
-
--- the checks of the metadata
-pub md-part : (log : List ℕ) (at : ℕ) → slot_md_checks log (slot_at log at) ≡ md_part log at
-unfolding slot_at
-md-part log at = refl
 
 -- the checks of the key
 pub key-part : (log : List ℕ) (keys : List (List ℕ)) (at : ℕ)

@@ -19,7 +19,7 @@ use Rattle.im_format.specs.declared.references.ValueRef.{ValueRef}
 pub record HasAt (log : List ℕ) (at : ℕ) (octets : List ℕ) : Type 0 where
   pub has : octets_at log at (length octets) ≡ octets
 
--- a reference whose digest is one and whose numbers fit their fields
+-- a reference whose digest has 32 octets, and whose length and place fit their fields
 pub record FitsRef (ref : ValueRef) : Type 0 where
   pub hval : length ref.hval ≡ 32
   pub len : ref.len < 2 ^ 32
@@ -30,7 +30,8 @@ pub record FitsEntry (entry : Entry) : Type 0 where
   pub md : length entry.md < 2 ^ 16
   pub key : length entry.key < 2 ^ 16
 
--- a record of transaction id of which every number fits its field, with one reference for each entry
+-- a record of transaction id of which every number but a reference's log fits its field, with one reference for each
+-- entry, and with an Alh of 32 octets
 pub record FitsRecord (id : ℕ) (r : Record) : Type 0 where
   pub number : id < 2 ^ 64
   pub ts : FitsSigned w64 r.tx.ts

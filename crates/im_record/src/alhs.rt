@@ -7,7 +7,13 @@ use im_digest::D32;
 use im_format::damages::{Damage, Difference};
 
 /// Reads the Alh that ends a record, at a place of the transaction log, and gives the place where the record
-/// ends. It takes no memory.
+/// ends:
+///
+/// ```text
+/// record    = ID 8 | Ts 8 | BlTxID 8 | entry count 4 | {entry} | Alh 32
+/// ```
+///
+/// It takes no memory.
 ///
 /// # Errors
 ///

@@ -8,6 +8,7 @@ pub enum ReadError {
     /// A field doesn't hold what it should, or the log ends within it.
     #[error("the transaction log is damaged")]
     Damaged(Damage),
+    /// Memory ran out.
     #[error("out of memory")]
     Memory,
 }

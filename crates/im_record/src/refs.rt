@@ -10,8 +10,9 @@ use im_format::references::ValueRef;
 // A value of transaction id ends at most at this many octets for each transaction up to it.
 const PLACES_EACH: u64 = 4_194_304;
 
-// Reads `hVal 32 | value length 4 | log 1 | place 8` of a value of transaction id, where the value logs have
-// these lengths.
+// Reads the reference of a value of transaction id, where the value logs have these lengths:
+//
+//     reference = hVal 32 | value length 4 | log 1 | place 8
 pub(crate) fn read_ref(log: &[u8], at: u64, id: u64, logs: &[u64; 4]) -> Result<ValueRef, Damage>
     requires place { at ≤ length log.now }
     requires some { 1 ≤ id }

@@ -19,6 +19,7 @@ pub struct Slot<'a> {
     pub md: &'a [u8],
     /// The key, of 1 to 1024 octets.
     pub key: &'a [u8],
+    /// The reference of the value.
     pub value: ValueRef,
     /// The place in the transaction log where the entry ends.
     pub end: u64,

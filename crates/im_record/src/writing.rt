@@ -1,4 +1,4 @@
-ghost use Rattle.std.specs.Prelude.{◌≡◌, ◌<◌, ◌+◌, ◌^◌, ◌++◌, length, All, IfOk, OnOk};
+ghost use Rattle.std.specs.Prelude.{◌≡◌, ◌<◌, ◌+◌, ◌^◌, ◌++◌, ℕ, List, length, All, IfOk, OnOk, OnErr};
 ghost use Rattle.im_format.specs.Records.{reference_octets, entry_octets, entries_octets, head_octets, record_octets, records_octets};
 ghost use Rattle.im_record.specs.Writing.{IsWhole};
 
@@ -9,7 +9,16 @@ use im_model::transactions::Transaction;
 use im_octet::fields::{eight, four, signed_eight, two};
 use std::alloc::{AllocError, Global};
 
-/// The octets of records that follow each other, from this ID on. The room for all of them is taken first.
+/// The octets of records that follow each other, from this ID on:
+///
+/// ```text
+/// log       = {record}
+/// record    = ID 8 | Ts 8 | BlTxID 8 | entry count 4 | {entry} | Alh 32
+/// entry     = mdLen 2 | md | keyLen 2 | key | reference
+/// reference = hVal 32 | value length 4 | log 1 | place 8
+/// ```
+///
+/// The room for all of them is taken first, so that each octet is written once.
 pub fn records_octets(alloc: Global, id: u64, records: &[Record]) -> Result<Vec<u8>, AllocError>
     requires whole { All IsWhole records.now }
     requires few { id + length records.now < 2 ^ 64 }
@@ -46,11 +55,12 @@ fn room_for(records: &[Record]) -> usize {
 /// reference = hVal 32 | value length 4 | log 1 | place 8
 /// ```
 ///
-/// Where memory is short, a part of the record may have been added.
+/// Where memory is short, a part may have been added, and what stood before it stays.
 #[tactic(auto, unfolding(im_format::specs::Records::record_octets))]
 pub fn push_record(out: &mut Vec<u8>, id: u64, kept: &Record) -> Result<(), AllocError>
     requires { IsWhole kept.now }
-    ensures { OnOk result (out.new.items ≡ out.old.items ++ record_octets id kept.now) }
+    ensures whole { OnOk result (out.new.items ≡ out.old.items ++ record_octets id kept.now) }
+    ensures part { OnErr result ((part : List ℕ) × (out.new.items ≡ out.old.items ++ part)) }
 {
     push_head(out, id, &kept.tx)?;
     push_entries(out, kept.tx.entries.as_slice(), kept.refs.as_slice())?;
@@ -61,7 +71,8 @@ pub fn push_record(out: &mut Vec<u8>, id: u64, kept: &Record) -> Result<(), Allo
 #[tactic(auto, unfolding(im_format::specs::Records::head_octets))]
 fn push_head(out: &mut Vec<u8>, id: u64, tx: &Transaction) -> Result<(), AllocError>
     requires { length tx.now.entries < 2 ^ 32 }
-    ensures { OnOk result (out.new.items ≡ out.old.items ++ head_octets id tx.now) }
+    ensures whole { OnOk result (out.new.items ≡ out.old.items ++ head_octets id tx.now) }
+    ensures part { OnErr result ((part : List ℕ) × (out.new.items ≡ out.old.items ++ part)) }
 {
     out.extend_from_slice(&eight(id))?;
     out.extend_from_slice(&signed_eight(tx.ts))?;
@@ -72,7 +83,8 @@ fn push_head(out: &mut Vec<u8>, id: u64, tx: &Transaction) -> Result<(), AllocEr
 // Adds the entries in order, each with its reference.
 fn push_entries(out: &mut Vec<u8>, entries: &[Entry], refs: &[ValueRef]) -> Result<(), AllocError>
     requires { length refs.now ≡ length entries.now }
-    ensures { OnOk result (out.new.items ≡ out.old.items ++ entries_octets entries.now refs.now) }
+    ensures whole { OnOk result (out.new.items ≡ out.old.items ++ entries_octets entries.now refs.now) }
+    ensures part { OnErr result ((part : List ℕ) × (out.new.items ≡ out.old.items ++ part)) }
 {
     for (i, entry) in entries.iter().enumerate() {
         push_entry(out, entry, &refs[i])?;
@@ -83,7 +95,8 @@ fn push_entries(out: &mut Vec<u8>, entries: &[Entry], refs: &[ValueRef]) -> Resu
 // Adds `mdLen 2 | md | keyLen 2 | key | the reference of the value`.
 #[tactic(auto, unfolding(im_format::specs::Records::entry_octets))]
 fn push_entry(out: &mut Vec<u8>, entry: &Entry, reference: &ValueRef) -> Result<(), AllocError>
-    ensures { OnOk result (out.new.items ≡ out.old.items ++ entry_octets entry.now reference.now) }
+    ensures whole { OnOk result (out.new.items ≡ out.old.items ++ entry_octets entry.now reference.now) }
+    ensures part { OnErr result ((part : List ℕ) × (out.new.items ≡ out.old.items ++ part)) }
 {
     let md = entry.md.as_slice();
     let key = entry.key.as_slice();
@@ -97,7 +110,8 @@ fn push_entry(out: &mut Vec<u8>, entry: &Entry, reference: &ValueRef) -> Result<
 // Adds `hVal 32 | value length 4 | log 1 | place 8`.
 #[tactic(auto, unfolding(im_format::specs::Records::reference_octets))]
 fn push_reference(out: &mut Vec<u8>, reference: &ValueRef) -> Result<(), AllocError>
-    ensures { OnOk result (out.new.items ≡ out.old.items ++ reference_octets reference.now) }
+    ensures whole { OnOk result (out.new.items ≡ out.old.items ++ reference_octets reference.now) }
+    ensures part { OnErr result ((part : List ℕ) × (out.new.items ≡ out.old.items ++ part)) }
 {
     out.extend_from_slice(&reference.hval)?;
     out.extend_from_slice(&four(reference.len))?;

@@ -70,10 +70,7 @@ slot-is log at entry ref m k long len place h =
 pub value-read : (image : Files) (value : List ℕ) (ref : ValueRef) → ref.len ≡ length value → Reads image (value_span value ref) → value_at image ref ≡ value
 value-read image value ref e h = ap (λ n. octets_at (image (2 + ref.log)) ref.at n) e ∙ h.reads
 
--- the fields of an entry lie within the log
-abbrev reaches-end : List ℕ → ℕ → ℕ → Type 0
-reaches-end log at n = at + n ≤ length log
-
+-- the checks of an entry's metadata pass
 md-passes : (log : List ℕ) (at : ℕ) (entry : Entry) (ref : ValueRef) → IsEntry entry → HasEntry log at entry ref → AllPass (slot_md_checks log (slot_like at entry ref))
 md-passes log at entry ref is h =
     let two : at + length (field2 (length entry.md)) ≤ length log = h.md_len.within in

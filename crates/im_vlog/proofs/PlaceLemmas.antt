@@ -1,7 +1,7 @@
 -- A value more behind those that are placed.
 use Rattle.std.proofs.Common.{◌≡◌, ◌≤◌, ◌<◌, ◌+◌, ◌*◌, ◌^◌, ◌%◌, ℕ, List, [], ◌∷◌, ◌++◌, length, get_or, set, sym, ◌∙◌, ap, subst, arith, append_assoc}
 use Rattle.std.proofs.lemmas.List.{append-nil, get_or-set_same, get_or-set_other}
-use Rattle.im_alog.proofs.Torn.{decide_file}
+use Rattle.im_disk.proofs.Tearing.{decide_same}
 use Rattle.im_digest.specs.Digests.{Hash}
 use Rattle.im_format.specs.Places.{AreAppended, log_end}
 use Rattle.im_format.specs.Records.{AreReferences, IsReference}
@@ -55,7 +55,7 @@ module _ (hash : Hash) (value : List ℕ) (number : ℕ) (next : List ℕ) (ref 
       let ref_end : ref.at + ref.len ≡ end = omega (arith, at_is, len_is) in
       let was : get_or next number 0 ≡ log_end number refs = ends.each number lt in
       record {
-        each = λ k small. decide_file k number
+        each = λ k small. decide_same k number
             (λ same. subst (λ (j : ℕ). get_or (set next number end) j 0 ≡ log_end j (refs ++ ref ∷ [])) (sym same)
             (get_or-set_same next number end 0 (omega (arith, lt, long)) ∙ sym ref_end
             ∙ sym (log_end_same number refs ref log_is (omega (arith, was, ref_end)))))
@@ -75,7 +75,7 @@ module _ (hash : Hash) (value : List ℕ) (number : ℕ) (next : List ℕ) (ref 
 pub room_more : (next : List ℕ) (number n room more : ℕ) → number < length next → n ≤ more
     → ((k : ℕ) → k < 4 → get_or next k 0 ≤ room) → number < 4 → (k : ℕ) → k < 4 → get_or (set next number (get_or next number 0 + n)) k 0 ≤ room + more
 room_more next number n room more within le each lt k small =
-    decide_file k number
+    decide_same k number
     (λ same. subst (λ (j : ℕ). get_or (set next number (get_or next number 0 + n)) j 0 ≤ room + more) (sym same)
     (omega (arith, get_or-set_same next number (get_or next number 0 + n) 0 within, each number lt, le)))
     (λ other. omega (arith, get_or-set_other next number k (get_or next number 0 + n) 0 other, each k small, le))

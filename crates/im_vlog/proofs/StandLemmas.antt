@@ -3,7 +3,8 @@ use Rattle.std.proofs.Common.{◌≡◌, ◌≢◌, ◌≤◌, ◌+◌, ◌==◌
 use Rattle.std.proofs.lemmas.List.{append-nil}
 use Rattle.std.proofs.lemmas.List.Elements.{All-nil, All-cons, All-append}
 use Rattle.std.specs.Prelude.{All, if◌then◌else◌}
-use Rattle.im_alog.proofs.Torn.{decide_file, part_reads}
+use Rattle.im_disk.proofs.Tearing.{decide_same}
+use Rattle.im_alog.proofs.Torn.{part_reads}
 use Rattle.im_digest.specs.Digests.{Hash}
 use Rattle.im_disk.specs.Disk.{Files}
 use Rattle.im_format.specs.Batches.{entries_spans, value_span, values_spans}
@@ -56,7 +57,7 @@ module _ (image : Files) (before : List ValueRef) (value : List ℕ) (ref : Valu
 
   rest_reads : Has image before (λ number. part value ref number ++ rest number) → Has image (before ++ ref ∷ []) rest
   rest_reads has = record {
-    each = λ number le. decide_file ref.log number
+    each = λ number le. decide_same ref.log number
         (λ is.
         let mine : Reads image (record { file = 2 + number; at = log_end number before; octets = value ++ rest number ++ [] }) =
         subst (λ (l : List ℕ). Reads image (record { file = 2 + number; at = log_end number before; octets = l }))
@@ -83,7 +84,7 @@ module _ (image : Files) (before : List ValueRef) (value : List ℕ) (ref : Valu
 
   rest_reaches : Reaches image before (λ number. part value ref number ++ rest number) → Reaches image (before ++ ref ∷ []) rest
   rest_reaches reach = record {
-    each = λ number le. decide_file ref.log number
+    each = λ number le. decide_same ref.log number
         (λ is.
         let far : log_end number before + length (value ++ rest number) ≤ length (image (2 + number)) =
         subst (λ (l : List ℕ). log_end number before + length (l ++ rest number) ≤ length (image (2 + number)))

@@ -8,7 +8,8 @@ use im_model::entries::Entry;
 use std::alloc::{AllocError, Global};
 
 /// The octets that the transactions of a batch put into a value log: their values that go to it, one behind
-/// the other, in one buffer. Its only error is want of memory.
+/// the other, in one buffer. Its room is what the references say, taken first; so they are gone over twice. Its
+/// only error is want of memory.
 pub fn log_values(alloc: Global, log: u8, records: &[Record]) -> Result<Vec<u8>, AllocError>
     ensures { IfOk result (λ octets. octets.items ≡ log_values log records.now) }
 {

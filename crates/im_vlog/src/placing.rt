@@ -9,7 +9,7 @@ use im_format::references::{Refs, ValueRef};
 use im_model::entries::Entry;
 use std::alloc::{AllocError, Global};
 
-/// The reference of a value that lies at the place `at` of a value log. It takes no memory.
+/// The reference of a value that lies at the place `at` of a value log. One hash, and no memory.
 pub fn reference<H: Hash32>(hash: &H, value: &[u8], log: u8, at: u64) -> ValueRef
     requires { length value.now < 2 ^ 32 }
     ensures { result ≡ reference_of (H.digest hash.now) value.now log at }
@@ -24,7 +24,8 @@ pub fn reference<H: Hash32>(hash: &H, value: &[u8], log: u8, at: u64) -> ValueRe
 
 /// Places the values of transaction `id` behind the ends of `logs` value logs: value i goes to log
 /// `(id + i) mod logs`, at that log's end, and moves that end on by its length. Gives their references, in
-/// order. Its only error is want of memory; then the ends are as they were.
+/// order. One hash a value, and room for the references; values aren't copied. Its only error is want of memory;
+/// then the ends are as they were.
 pub fn append_values<H: Hash32>(
     alloc: Global,
     hash: &H,

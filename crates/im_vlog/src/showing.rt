@@ -1,4 +1,4 @@
-ghost use Rattle.std.specs.Prelude.{◌≡◌, ◌≤◌, ◌<◌, IfOk, IfErr, IfSome, length};
+ghost use Rattle.std.specs.Prelude.{◌≡◌, ◌≤◌, ◌<◌, IfOk, IfErr, IfSome, IsErrOf, IsOk, length};
 ghost use Rattle.im_disk.specs.Causes.{HasCause};
 ghost use Rattle.im_disk.specs.Disk.{seen};
 ghost use Rattle.im_vlog.specs.Showing.{shown, IsCorrupt, HasReadCause};
@@ -39,7 +39,9 @@ impl From<DiskError> for ReadError {
 }
 
 /// The value that a reference shows: the octets at its place of its log, fewer where the log ends before, and
-/// none where there is no such log. They are checked against the reference's digest.
+/// none where there is no such log. They are checked against the reference's digest. One `len` and one `read`,
+/// which fills one buffer of their number, and one hash; where there is no such log, the hash alone: then neither
+/// the disk nor memory can fail.
 pub fn read_value<D: Disk, H: Hash32>(
     alloc: Global,
     hash: &H,
@@ -51,6 +53,8 @@ pub fn read_value<D: Disk, H: Hash32>(
     ensures most { IfOk result (λ octets. length octets.items ≤ value.now.len) }
     ensures corrupt { IfErr result (λ error. IsCorrupt (H.digest hash.now) (D.told disk.old) value.now error) }
     ensures told { D.told disk.new ≡ D.told disk.old }
+    ensures none { 3 < value.now.log → disk.new ≡ disk.old }
+    ensures hashed { 3 < value.now.log → (IsErrOf result ReadError.DiskFault → ⊥) × (IsErrOf result ReadError.Memory → ⊥) }
     ensures cause { HasReadCause (D.faults disk.old) (D.faults disk.new) result }
 {
     let octets = octets_of(alloc, disk, value)?;
@@ -69,6 +73,8 @@ fn octets_of<D: Disk>(alloc: Global, disk: &mut D, value: &ValueRef) -> Result<V
     ensures octets { IfOk result (λ octets. IfSome (D.told disk.old) (λ t. octets.items ≡ shown (seen t) value.now)) }
     ensures most { IfOk result (λ octets. length octets.items ≤ value.now.len) }
     ensures told { D.told disk.new ≡ D.told disk.old }
+    ensures none { 3 < value.now.log → disk.new ≡ disk.old }
+    ensures empty { 3 < value.now.log → IsOk result }
     ensures cause { HasCause (D.faults disk.old) (D.faults disk.new) result }
 {
     if value.log > 3 {

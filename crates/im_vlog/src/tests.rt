@@ -1,6 +1,5 @@
 ghost use Rattle.std.specs.Prelude.{◌≡◌, ◌≤◌, length, IfOk};
 
-use crate::laws::{a_standing_value_is_shown, ends_of_records_have_room, written_values_stand};
 use crate::octets::log_values;
 use crate::placing::{append_values, reference};
 use crate::showing::{ReadError, read_value};
@@ -234,13 +233,5 @@ fn a_fault_of_the_disk_is_told(rt: HostRuntime) -> Result<(), Fail> {
     let error = read_value(alloc, &Sum, &mut disk, &placed(99, 3, 3, 2)).err();
     assert!(rt; error == Some(ReadError::DiskFault));
     assert_eq!(rt; disk.failures, 1);
-    Ok(())
-}
-
-#[test]
-fn laws_are_called(_rt: HostRuntime) -> Result<(), Fail> {
-    ends_of_records_have_room();
-    written_values_stand();
-    a_standing_value_is_shown();
     Ok(())
 }

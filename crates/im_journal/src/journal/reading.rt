@@ -1,5 +1,5 @@
 // What is read of a journal.
-ghost use Rattle.std.specs.Prelude.{◌≡◌, ◌≤◌, ◌+◌, ◌-◌, ◌^◌, ℕ, List, length, min, IfErr, IfOk, IfSome, IsErrOf, IsSome};
+ghost use Rattle.std.specs.Prelude.{◌≡◌, ◌≤◌, ◌<◌, ◌+◌, ◌-◌, ◌^◌, ℕ, List, length, min, IfErr, IfOk, IfSome, IsErrOf, IsSome};
 ghost use Rattle.im_digest.specs.Digests.{Hash};
 ghost use Rattle.im_disk.specs.Disk.{seen};
 ghost use Rattle.im_model.specs.declared.transactions.Transaction.{Transaction};
@@ -22,7 +22,9 @@ impl<D: Disk> Journal<D> {
     /// The value that a reference shows: the octets at its place of its log, fewer where the log ends before,
     /// and none where there is no such log. They are checked against the reference's digest, so a value of a
     /// durable transaction is read as it was placed. It reads also while a batch is in progress, and after a
-    /// call of the disk has failed.
+    /// call of the disk has failed. One `len` and one `read`, which fills one buffer of their number, and one
+    /// hash; where there is no such log, the hash alone: then neither the disk nor memory can fail, and the journal
+    /// stays as it was.
     ///
     /// # Errors
     ///
@@ -48,6 +50,8 @@ impl<D: Disk> Journal<D> {
         ensures in_batch { (digest : Hash) (history : List Transaction) (batches : List (List Record)) (rs : List Record)
             → IsInBatch D.told digest history batches rs self.old → IsInBatch D.told digest history batches rs self.new }
         ensures told { D.told self.new.disk ≡ D.told self.old.disk }
+        ensures none { 3 < value.now.log → self.new ≡ self.old }
+        ensures hashed { 3 < value.now.log → (IsErrOf result ReadError.DiskFault → ⊥) × (IsErrOf result ReadError.Memory → ⊥) }
         ensures kept { (self.new.ends ≡ self.old.ends) × (self.new.durable ≡ self.old.durable) × (self.new.batch ≡ self.old.batch) }
         ensures counted { IsReadCounted (D.faults self.old.disk) (D.faults self.new.disk) self.old.failures self.new.failures result }
     {

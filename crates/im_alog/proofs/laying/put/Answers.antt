@@ -3,11 +3,12 @@ use Rattle.std.specs.Prelude.{IfSome, Option, Result}
 use Rattle.im_disk.specs.Disk.{Told, seen}
 use Rattle.im_disk.specs.declared.calls.Call.TheVariants.{Wrote, Tore}
 use Rattle.im_disk.specs.declared.disk.DiskError.{DiskError}
+use Rattle.im_disk.proofs.Leaving.{if_told, on_ok_after}
 use Rattle.im_format.specs.Spans.{Reads}
 use Rattle.im_format.specs.declared.spans.Span.{Span}
 use Rattle.im_alog.specs.Holding.{Holds, IsLong}
 use Rattle.im_alog.proofs.Torn.{keeps_all}
-use Rattle.im_alog.proofs.Outcomes.{HasAnswer, if_some, keeps_long, leaves_of_write, on_ok, reads_of_write, seen_of_write}
+use Rattle.im_alog.proofs.Outcomes.{HasAnswer, keeps_long, leaves_of_write, reads_of_write, seen_of_write}
 use Rattle.im_alog.proofs.laying.put.Goals as goal
 
 -- what the write answered, with the span's own octets
@@ -22,7 +23,7 @@ returns-clause-reads g c =
     let a = answer s c.as_slice.result.now (g.D.Disk.told c.args.disk.now) (g.D.Disk.told c.write_at.new.self) c.write_at.result c.as_slice.ensures
     (record { ok = c.write_at.ensures.ok; failed = c.write_at.ensures.failed; memory = c.write_at.ensures.memory })
     in
-    on_ok (λ m. IfSome m (λ t. Reads (seen t) s)) _ _ c.write_at.result a.ok (reads_of_write s.file s.at s.octets (g.D.Disk.told c.args.disk.now) c.requires.within)
+    on_ok_after (λ m. IfSome m (λ t. Reads (seen t) s)) _ _ c.write_at.result a.ok (reads_of_write s.file s.at s.octets (g.D.Disk.told c.args.disk.now) c.requires.within)
 
 pub returns-clause-stays : goal.returns-clause-stays
 returns-clause-stays g c spans misses here =
@@ -48,7 +49,7 @@ returns-clause-longer g c ends long =
     let a = answer s c.as_slice.result.now (g.D.Disk.told c.args.disk.now) (g.D.Disk.told c.write_at.new.self) c.write_at.result c.as_slice.ensures
     (record { ok = c.write_at.ensures.ok; failed = c.write_at.ensures.failed; memory = c.write_at.ensures.memory })
     in
-    if_some (λ t. (k : ℕ) → ends k ≤ length (seen t k)) (IsLong ends) (λ t h. record { long = h }) _
+    if_told (λ t. (k : ℕ) → ends k ≤ length (seen t k)) (IsLong ends) (λ t h. record { long = h }) _
     (seen_of_write (λ image. (k : ℕ) → ends k ≤ length (image k)) s.file s.at s.octets _ _ c.write_at.result a c.requires.within
     (λ old new torn. keeps_long ends s.file s.at (length s.octets) old new torn)
-    (if_some (IsLong ends) (λ t. (k : ℕ) → ends k ≤ length (seen t k)) (λ t h. h.long) _ long))
+    (if_told (IsLong ends) (λ t. (k : ℕ) → ends k ≤ length (seen t k)) (λ t h. h.long) _ long))

@@ -3,9 +3,10 @@ use Rattle.std.specs.Prelude.{IfSome, Option, Some, None}
 use Rattle.im_disk.specs.Disk.{Files, Told, after, seen}
 use Rattle.im_disk.specs.Moments.{LeavesNow}
 use Rattle.im_disk.specs.declared.calls.Call.TheVariants.{Synced}
+use Rattle.im_disk.proofs.Leaving.{if_told, on_ok_after}
 use Rattle.im_alog.specs.Holding.{Holds, IsDurable, IsLong, IsOldOrSeen}
 use Rattle.im_alog.proofs.Torn.{same_all}
-use Rattle.im_alog.proofs.Outcomes.{if_any, if_mapped, if_some, leaves_of_sync, on_ok, seen_of_sync}
+use Rattle.im_alog.proofs.Outcomes.{if_any, if_mapped, leaves_of_sync, seen_of_sync}
 use Rattle.im_alog.proofs.laying.sync.Goals as goal
 
 old_now : (o : Option Told) → LeavesNow (IsOldOrSeen o) o
@@ -18,12 +19,12 @@ seen_now (Some t) = λ image same. inr same
 
 pub returns-clause-durable : goal.returns-clause-durable
 returns-clause-durable g c =
-    on_ok (λ m. IfSome m IsDurable) _ _ c.sync.result c.sync.ensures.ok
+    on_ok_after (λ m. IfSome m IsDurable) _ _ c.sync.result c.sync.ensures.ok
     (if_any IsDurable (after Synced) (λ t image now. now) (g.D.Disk.told c.args.disk.now))
 
 pub returns-clause-holds : goal.returns-clause-holds
 returns-clause-holds g c spans here =
-    on_ok (LeavesNow (Holds spans)) _ _ c.sync.result c.sync.ensures.ok
+    on_ok_after (LeavesNow (Holds spans)) _ _ c.sync.result c.sync.ensures.ok
     (if_mapped _ _ (after Synced) (λ t h image same. same_all (seen t) image same spans h) (g.D.Disk.told c.args.disk.now) here)
 
 pub returns-clause-stays : goal.returns-clause-stays
@@ -39,7 +40,7 @@ returns-clause-leaves g c =
 
 pub returns-clause-longer : goal.returns-clause-longer
 returns-clause-longer g c ends long =
-    if_some (λ t. (k : ℕ) → ends k ≤ length (seen t k)) (IsLong ends) (λ t h. record { long = h }) _
+    if_told (λ t. (k : ℕ) → ends k ≤ length (seen t k)) (IsLong ends) (λ t h. record { long = h }) _
     (seen_of_sync (λ image. (k : ℕ) → ends k ≤ length (image k)) _ _ c.sync.result
     (record { ok = c.sync.ensures.ok; failed = c.sync.ensures.failed; memory = c.sync.ensures.memory })
-    (if_some (IsLong ends) (λ t. (k : ℕ) → ends k ≤ length (seen t k)) (λ t h. h.long) _ long))
+    (if_told (IsLong ends) (λ t. (k : ℕ) → ends k ≤ length (seen t k)) (λ t h. h.long) _ long))

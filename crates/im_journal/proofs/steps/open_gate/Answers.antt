@@ -1,21 +1,25 @@
 use Rattle.std.proofs.Common.{[], ◌∷◌, inl}
 use Rattle.std.specs.Prelude.{IfSome}
+use Rattle.im_disk.specs.Disk.{after}
 use Rattle.im_disk.specs.declared.calls.Call.TheVariants.{Wrote, Tore}
+use Rattle.im_disk.proofs.Leaving.{if_told, leaves_by_answer, on_ok_after}
+use Rattle.im_alog.proofs.Outcomes.{if_mapped}
 use Rattle.im_journal.specs.Phases.{IsEither, IsGated}
-use Rattle.im_journal.proofs.Calls.{leaves_by_result, on_ok, if_mapped, if_some, gated, torn_gate, safe_front}
+use Rattle.im_journal.proofs.Calls.{gated, torn_gate, safe_front}
 use Rattle.im_journal.proofs.Making.{one_makes}
 use Rattle.im_journal.proofs.steps.open_gate.Goals as goal
 
 pub returns-clause-ok : goal.returns-clause-ok
 returns-clause-ok g c ends spans pieces s =
-    on_ok (λ o. IfSome o (IsGated ends spans c.args.gate pieces)) _ _ c.write_at.result c.write_at.ensures.ok (if_mapped _ _ _ (gated ends spans c.args.gate pieces) (g.D.Disk.told c.args.disk.now) s)
+    on_ok_after (λ o. IfSome o (IsGated ends spans c.args.gate pieces)) _ _ c.write_at.result c.write_at.ensures.ok (if_mapped _ _ _ (gated ends spans c.args.gate pieces) (g.D.Disk.told c.args.disk.now) s)
 
 pub returns-clause-any_moment : goal.returns-clause-any_moment
 returns-clause-any_moment g c ends spans pieces s =
     let told = g.D.Disk.told c.args.disk.now in
-    let torn = if_some _ (λ t. _) (λ t h image from. torn_gate ends spans c.args.gate pieces t h from.0 image from.1 from.2) told s in
-    leaves_by_result (IsEither ends spans c.args.gate pieces) (Wrote 1 c.args.gate (1 ∷ [])) (Tore 1 c.args.gate 1) _ _ c.write_at.result c.write_at.ensures.ok c.write_at.ensures.failed c.write_at.ensures.memory
-    (if_some _ _ (λ t h image now. inl (safe_front ends spans pieces c.args.gate image (h.safe image now))) told s) torn torn
+    leaves_by_answer (IsEither ends spans c.args.gate pieces) (Wrote 1 c.args.gate (1 ∷ [])) (Tore 1 c.args.gate 1) _ _ c.write_at.result c.write_at.ensures.ok c.write_at.ensures.failed c.write_at.ensures.memory
+    (if_told _ _ (λ t h image now. inl (safe_front ends spans pieces c.args.gate image (h.safe image now))) told s)
+    (if_mapped _ _ (after (Wrote 1 c.args.gate (1 ∷ []))) (λ t h image from. torn_gate ends spans c.args.gate pieces t h from.0 image from.1 from.2) told s)
+    (if_mapped _ _ (after (Tore 1 c.args.gate 1)) (λ t h image from. torn_gate ends spans c.args.gate pieces t h from.0 image from.1 from.2) told s)
 
 pub returns-clause-calls : goal.returns-clause-calls
 returns-clause-calls g c = one_makes (Wrote 1 c.args.gate (1 ∷ [])) _ _ c.write_at.result c.write_at.ensures.ok c.write_at.ensures.failed c.write_at.ensures.memory

@@ -4,8 +4,10 @@ use Rattle.std.specs.Option.{option_map}
 use Rattle.im_disk.specs.Disk.{after}
 use Rattle.im_disk.specs.declared.disk.DiskError.TheVariants.{Failed}
 use Rattle.im_disk.specs.declared.calls.Call.TheVariants.{Wrote, Tore}
+use Rattle.im_disk.proofs.Leaving.{if_told, leaves_by_answer, on_ok_after}
+use Rattle.im_alog.proofs.Outcomes.{if_mapped}
 use Rattle.im_journal.specs.Phases.{IsSafe, IsStaging}
-use Rattle.im_journal.proofs.Calls.{leaves_by_result, on_ok, if_mapped, if_some, wrote, torn_safe}
+use Rattle.im_journal.proofs.Calls.{wrote, torn_safe}
 use Rattle.im_journal.proofs.Making.{one_makes}
 use Rattle.im_journal.proofs.steps.put_piece.Goals as goal
 
@@ -15,18 +17,19 @@ returns-clause-ok g c ends spans gate pieces left s =
     let o = g.D.Disk.told c.args.disk.now in
     let n = g.D.Disk.told c.write_at.new.self in
     let ok = subst (λ (x : List ℕ). OnOk c.write_at.result (n ≡ option_map (after (Wrote p.file p.at x)) o)) c.as_slice.ensures c.write_at.ensures.ok in
-    on_ok (λ o. IfSome o (IsStaging ends spans gate (pieces ++ p ∷ []) left)) _ _ c.write_at.result ok (if_mapped _ _ _ (wrote ends spans gate pieces p left) o s)
+    on_ok_after (λ o. IfSome o (IsStaging ends spans gate (pieces ++ p ∷ []) left)) _ _ c.write_at.result ok (if_mapped _ _ _ (wrote ends spans gate pieces p left) o s)
 
 pub returns-clause-any_moment : goal.returns-clause-any_moment
 returns-clause-any_moment g c ends spans gate pieces left s =
     let p = c.args.piece.now in
     let o = g.D.Disk.told c.args.disk.now in
     let n = g.D.Disk.told c.write_at.new.self in
-    let torn = if_some _ (λ t. _) (λ t h image from. torn_safe ends spans gate pieces p left t h from.0 image from.1 from.2) o s in
     let ok = subst (λ (x : List ℕ). OnOk c.write_at.result (n ≡ option_map (after (Wrote p.file p.at x)) o)) c.as_slice.ensures c.write_at.ensures.ok in
     let failed = subst (λ (x : List ℕ). IsErrOf c.write_at.result Failed → n ≡ option_map (after (Tore p.file p.at (length x))) o) c.as_slice.ensures c.write_at.ensures.failed in
-    leaves_by_result (IsSafe ends spans gate) (Wrote p.file p.at p.octets) (Tore p.file p.at (length p.octets)) _ _ c.write_at.result ok failed c.write_at.ensures.memory
-    (if_some _ _ (λ t h. h.safe) o s) torn torn
+    leaves_by_answer (IsSafe ends spans gate) (Wrote p.file p.at p.octets) (Tore p.file p.at (length p.octets)) _ _ c.write_at.result ok failed c.write_at.ensures.memory
+    (if_told _ _ (λ t h. h.safe) o s)
+    (if_mapped _ _ (after (Wrote p.file p.at p.octets)) (λ t h image from. torn_safe ends spans gate pieces p left t h from.0 image from.1 from.2) o s)
+    (if_mapped _ _ (after (Tore p.file p.at (length p.octets))) (λ t h image from. torn_safe ends spans gate pieces p left t h from.0 image from.1 from.2) o s)
 
 pub returns-clause-calls : goal.returns-clause-calls
 returns-clause-calls g c =

@@ -35,12 +35,14 @@ returns-in_default g c =
       again = λ hash history batches rs mid e. absurd (ok_isnt tt Memory e);
       any_moment = λ hash history batches rs mid. stays g.D.Disk.told hash history batches rs c.args.self.now mid;
       kept = (refl, refl);
+      batch = tt;
       calls = subst (λ (l : List Call). Makes DiskFault Memory l (calls_to_seal c.args.self.now.batch.step) (g.D.Disk.told c.args.self.now.disk) (g.D.Disk.told c.args.self.now.disk) (Ok tt))
           (sym (seal_none c.args.self.now.batch.step (λ e. c.in_default.not-Staged (ap (λ k. k.batch.step) c.self.view_is ∙ e)))) (none_makes tt (calls_to_seal c.args.self.now.batch.step) (g.D.Disk.told c.args.self.now.disk));
-      counted = record { rose = λ e. absurd (ok_isnt tt DiskFault e); more = λ e. absurd (ok_isnt tt DiskFault e); faults = λ n. refl; failures = λ n. refl };
+      counted = record { later = omega arith; rose = λ e. absurd (ok_isnt tt DiskFault e); more = λ e. absurd (ok_isnt tt DiskFault e); faults = λ n. refl; failures = λ n. refl };
       stopped = λ lt. absurd (omega (arith, zero, lt));
       nothing = λ none has. (refl, refl);
       going = λ faults e. absurd (ok_isnt tt (Stopped faults) e);
+      step = λ staged. absurd (c.in_default.not-Staged (ap (λ k. k.batch.step) c.self.view_is ∙ staged));
     }
 
 pub returns-in-Staged-clause-nothing : goal.returns-in-Staged-clause-nothing
@@ -57,3 +59,6 @@ returns-in-Staged-clause-calls g c =
     (left_as (Synced ∷ []) (Synced ∷ []) (calls_to_seal new.batch.step) o n c.seal_batch.result
     (λ e. ap calls_to_seal (sym (ap (λ b. b.step) (err_then c.seal_batch.result Memory (new.batch ≡ now.batch) c.seal_batch.ensures.err e) ∙ staged)))
     c.seal_batch.ensures.calls)
+
+pub returns-in-Staged-clause-batch : goal.returns-in-Staged-clause-batch
+returns-in-Staged-clause-batch g c = c.seal_batch.ensures.err

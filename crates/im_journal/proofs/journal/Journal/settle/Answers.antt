@@ -85,6 +85,8 @@ returns-in_default g c =
       );
       any_moment = λ hash history batches rs mid. call.ensures.any_moment hash history batches rs mid;
       kept = on_err call.result ((new.ends ≡ now.ends) × (new.durable ≡ now.durable) × (new.batch ≡ now.batch)) ((new.ends ≡ now.ends) × (new.durable ≡ now.durable)) call.ensures.err (λ h. (h.0, h.1));
+      left = λ fault.
+          subst HasSealed (sym (ap (λ b. b.step) (err_then call.result DiskFault ((new.ends ≡ now.ends) × (new.durable ≡ now.durable) × (new.batch ≡ now.batch)) call.ensures.err fault).2 ∙ gated)) tt;
       calls =
           let gate = end_of now.ends 1 in
           let left = calls_to_settle new.batch.step (end_of new.ends 1) in
@@ -132,3 +134,15 @@ returns-in-Err-clause-calls g c =
     let step : k.batch.step ≡ Sealed = ap (λ b. b.step) same ∙ sealed in
     ap (λ (s : Step). calls_to_settle s (end_of now.ends 1)) (sym step) ∙ ap (λ (ends : List ℕ). calls_to_settle k.batch.step (end_of ends 1)) (sym c.open_batch.ensures.kept.0))
     (makes_before _ gate gate (Synced ∷ []) (told now.disk) (told k.disk) c.in-Err.error c.in-Err.ensures.calls))
+
+pub returns-in-Ok-clause-left : goal.returns-in-Ok-clause-left
+returns-in-Ok-clause-left g c fault =
+    let k = c.open_batch.new.self in
+    let new = c.settle_batch.new.self in
+    let err = err_then c.settle_batch.result DiskFault ((new.ends ≡ k.ends) × (new.durable ≡ k.durable) × (new.batch ≡ k.batch)) c.settle_batch.ensures.err fault in
+    subst HasSealed (sym (ap (λ b. b.step) err.2 ∙ c.in-Ok.ensures.step)) tt
+
+pub returns-in-Err-clause-left : goal.returns-in-Err-clause-left
+returns-in-Err-clause-left g c e =
+    let same = err_then c.open_batch.result DiskFault (c.open_batch.new.self.batch ≡ c.args.self.now.batch) c.open_batch.ensures.err (c.in-Err.is ∙ e) in
+    subst HasSealed (sym (ap (λ b. b.step) same ∙ sym (ap (λ j. j.batch.step) c.self.view_is) ∙ c.in-Sealed.is)) tt

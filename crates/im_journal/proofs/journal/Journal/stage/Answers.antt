@@ -55,12 +55,14 @@ returns-in_default g c =
       again = λ hash history batches rs can e. absurd (ok_isnt tt Memory e);
       any_moment = λ hash history batches rs can. can_stay g.D.Disk.told hash history batches rs c.args.records.now now can;
       kept = (refl, refl);
+      left = λ e. absurd (ok_isnt tt DiskFault e);
       calls = subst (λ (l : List Span). Makes DiskFault Memory (writes_of l) (calls_to_stage now c.args.records.now) (g.D.Disk.told now.disk) (g.D.Disk.told now.disk) (Ok tt))
           (sym (stage_none now.batch.step now c.args.records.now not_idle not_staging)) (none_makes tt (calls_to_stage now c.args.records.now) (g.D.Disk.told now.disk));
-      counted = record { rose = λ e. absurd (ok_isnt tt DiskFault e); more = λ e. absurd (ok_isnt tt DiskFault e); faults = λ n. refl; failures = λ n. refl };
+      counted = record { later = omega arith; rose = λ e. absurd (ok_isnt tt DiskFault e); more = λ e. absurd (ok_isnt tt DiskFault e); faults = λ n. refl; failures = λ n. refl };
       stopped = λ lt. absurd (omega (arith, zero, lt));
       nothing = λ none has. (refl, refl);
       going = λ faults e. absurd (ok_isnt tt (Stopped faults) e);
+      step = λ no. absurd (no (staged_left now.batch.step not_idle not_staging));
     }
 
 pub returns-in_err-begin-in-Idle-clause-nothing : goal.returns-in_err-begin-in-Idle-clause-nothing
@@ -116,3 +118,9 @@ returns-in_err-begin-in-Idle-clause-calls g c =
     let same : c.begin.new.self ≡ now = c.in_err-begin-in-Idle.ensures.err in
     subst (λ k. Makes DiskFault Memory (calls_to_stage now handed) (calls_to_stage k handed) (told now.disk) (told k.disk) result) (sym same)
     (unbegun_makes (calls_to_stage now handed) (told now.disk) result c.from_residual-in_err-begin-in-Idle.ensures.1)
+
+pub returns-in_ok-begin-in-Idle-clause-left : goal.returns-in_ok-begin-in-Idle-clause-left
+returns-in_ok-begin-in-Idle-clause-left g c e = err_then c.put_batch.result DiskFault (c.put_batch.new.self.batch.step ≡ Staging) c.put_batch.ensures.stays e
+
+pub returns-in-Staging-clause-left : goal.returns-in-Staging-clause-left
+returns-in-Staging-clause-left g c e = err_then c.put_batch-in-Staging.result DiskFault (c.put_batch-in-Staging.new.self.batch.step ≡ Staging) c.put_batch-in-Staging.ensures.stays e
