@@ -7,10 +7,11 @@ use Rattle.im_disk.specs.Disk.{Files}
 use Rattle.im_format.specs.Damages.{Reached, batch_checks, behind, records_checks}
 use Rattle.im_format.specs.declared.damages.Damage.{Damage}
 use Rattle.im_mtree.specs.Checks.{Check, first_fail}
+use Rattle.im_proof.proofs.CheckLemmas.{fail_append}
 use Rattle.im_opening.specs.Answers.{Tells}
 use Rattle.im_opening.specs.Parts.{end_checks, mark_checks}
 use Rattle.im_opening.specs.declared.errors.OpenError.{OpenError}
-use Rattle.im_opening.proofs.Finding.{find-behind, tells-behind, tells-first}
+use Rattle.im_opening.proofs.Finding.{tells-behind, tells-first}
 
 -- the checks of a batch with this mark
 abbrev pub marked_checks : Hash → Files → Mark → ℕ → Reached → List (Check Damage)
@@ -49,6 +50,6 @@ module _ (hash : Hash) (image : Files) (mark : Mark) (gate : ℕ) (r : Reached) 
       let end = end_checks mark gate (behind hash image mark.count r).place in
       let E : ℕ → List (Check Damage) = λ p. end_checks mark gate p in
       ap first_fail (sym (marked hash image mark gate r is))
-      ∙ find-behind (mark_checks mark gate (length r.alhs)) (records_checks hash image mark.count r ++ end) fine
-      ∙ find-behind (records_checks hash image mark.count r) end all
+      ∙ fail_append (mark_checks mark gate (length r.alhs)) (records_checks hash image mark.count r ++ end) fine
+      ∙ fail_append (records_checks hash image mark.count r) end all
       ∙ ap first_fail (ap E (sym same))

@@ -10,12 +10,13 @@ use Rattle.im_format.specs.declared.damages.Damage.{Damage}
 use Rattle.im_format.specs.declared.records.Record.{Record}
 use Rattle.im_mtree.specs.Checks.{Check, first_fail}
 use Rattle.im_standing.proofs.HeldBatches.{counts-false, counts-true}
+use Rattle.im_proof.proofs.CheckLemmas.{fail_append}
 use Rattle.im_opening.specs.Answers.{Tells}
 use Rattle.im_opening.specs.Opening.{AreBatches}
 use Rattle.im_opening.specs.Parts.{batches_from, batches_in, place_from, place_in, records_in}
 use Rattle.im_opening.specs.declared.errors.OpenError.{OpenError}
 use Rattle.im_opening.specs.declared.errors.OpenError.TheVariants.{DiskFault, Damaged, Memory}
-use Rattle.im_opening.proofs.Finding.{find-behind, tells-first}
+use Rattle.im_opening.proofs.Finding.{tells-first}
 
 -- where so many records end
 pub place-behind : (hash : Hash) (image : Files) (count : ℕ) (r : Reached) → (behind hash image count r).place ≡ records_end image r.place count
@@ -89,7 +90,7 @@ module _ (hash : Hash) (image : Files) (gate batches : ℕ) (records : List Reco
             ∙ ap (λ b. place_by b image most gate r.place) (sym open_is)
             ∙ ps;
         finds =
-            sym (find-behind (batch_checks hash image gate r) (batches_checks hash image most (gate + 25) (behind hash image n r)) ok)
+            sym (fail_append (batch_checks hash image gate r) (batches_checks hash image most (gate + 25) (behind hash image n r)) ok)
             ∙ ap (λ b. first_fail (checks_by b hash image most gate r)) (sym open_is)
             ∙ finds;
       }

@@ -12,11 +12,11 @@ use Rattle.im_format.specs.declared.damages.Damage.{Damage}
 use Rattle.im_format.specs.declared.references.ValueRef.{ValueRef}
 use Rattle.im_model.specs.declared.entries.Entry.{Entry}
 use Rattle.im_mtree.specs.Checks.{first_fail}
+use Rattle.im_proof.proofs.CheckLemmas.{fail_append, fail_first}
 use Rattle.im_opening.specs.Answers.{Tells}
 use Rattle.im_opening.specs.Parts.{AreEntriesAt, IsEntryAt, entry_checks}
 use Rattle.im_opening.specs.declared.errors.OpenError.{OpenError}
 use Rattle.im_opening.specs.declared.errors.OpenError.TheVariants.{DiskFault, Damaged, Memory}
-use Rattle.im_opening.proofs.Finding.{find-behind, find-first}
 use Rattle.im_standing.proofs.KeyLemmas.{AreApart, IsFresh, index-fresh}
 
 -- what is read of them, and what is left, make this
@@ -67,7 +67,7 @@ module _ (hash : Hash) (image : Files) (id at count : ℕ) (entries : List Entry
         end_is = en;
         finds =
             ap (λ (ks : List (List ℕ)). first_fail (slots_checks hash image id ks slot.end r)) (map-append (λ (e : Entry). e.key) entries (entry ∷ []))
-            ∙ sym (find-behind (entry_checks hash image id (map (λ e. e.key) entries) end) _ ok)
+            ∙ sym (fail_append (entry_checks hash image id (map (λ e. e.key) entries) end) _ ok)
             ∙ ap first_fail (sym (one-more r))
             ∙ finds;
       }
@@ -88,7 +88,7 @@ module _ (hash : Hash) (image : Files) (id at count : ℕ) (entries : List Entry
       → first_fail (slots_checks hash image id [] at count) ≡ Err d
   damage-by zero d sum lt finds bad = absurd (omega arith)
   damage-by (suc r) d sum lt finds bad =
-      sym finds ∙ ap first_fail (one-more r) ∙ find-first (entry_checks hash image id (map (λ e. e.key) entries) end) _ d bad
+      sym finds ∙ ap first_fail (one-more r) ∙ fail_first (entry_checks hash image id (map (λ e. e.key) entries) end) _ d bad
 
   pub entries-tell : (error : OpenError) → EntriesLeft hash image id at count entries refs end → length entries < count
       → Tells (entry_checks hash image id (map (λ e. e.key) entries) end) error → Tells (slots_checks hash image id [] at count) error

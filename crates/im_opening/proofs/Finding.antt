@@ -4,18 +4,10 @@ use Rattle.std.specs.Prelude.{IfSome, IsErrAnd}
 use Rattle.im_disk.specs.Disk.{Told}
 use Rattle.im_mtree.specs.Checks.{Check, first_fail}
 use Rattle.im_format.specs.declared.damages.Damage.{Damage}
+use Rattle.im_proof.proofs.CheckLemmas.{then_check, fail_append, fail_both, fail_first}
 use Rattle.im_opening.specs.Answers.{HasOpenCause, Judges, Tells}
 use Rattle.im_opening.specs.declared.errors.OpenError.{OpenError}
 use Rattle.im_opening.specs.declared.errors.OpenError.TheVariants.{DiskFault, Damaged, Memory}
-use Rattle.im_record.proofs.FailLemmas.{then_check, fail_both}
-
--- where the first hold, what is found by the others
-pub find-behind : {F : Type 0} → (a b : List (Check F)) → first_fail a ≡ Ok tt → first_fail (a ++ b) ≡ first_fail b
-find-behind a b e = fail_both a b ∙ ap (λ r. then_check r (first_fail b)) e
-
--- where one of the first fails, that one
-pub find-first : {F : Type 0} → (a b : List (Check F)) (f : F) → first_fail a ≡ Err f → first_fail (a ++ b) ≡ Err f
-find-first a b f e = fail_both a b ∙ ap (λ r. then_check r (first_fail b)) e
 
 -- others behind, of which the same is found
 pub find-same : {F : Type 0} → (a b c : List (Check F)) → first_fail b ≡ first_fail c → first_fail (a ++ b) ≡ first_fail (a ++ c)
@@ -47,11 +39,11 @@ ok-leaves before now x h = h.others (λ e. absurd (cc))
 -- what an error tells of the first checks, it tells of all
 pub tells-first : (a b : List (Check Damage)) (e : OpenError) → Tells a e → Tells (a ++ b) e
 tells-first a b DiskFault h = tt
-tells-first a b (Damaged d) h = find-first a b d h
+tells-first a b (Damaged d) h = fail_first a b d h
 tells-first a b Memory h = tt
 
 -- and so with what it tells of the others, where the first hold
 pub tells-behind : (a b : List (Check Damage)) (e : OpenError) → first_fail a ≡ Ok tt → Tells b e → Tells (a ++ b) e
 tells-behind a b DiskFault fine h = tt
-tells-behind a b (Damaged d) fine h = find-behind a b fine ∙ h
+tells-behind a b (Damaged d) fine h = fail_append a b fine ∙ h
 tells-behind a b Memory fine h = tt

@@ -3,7 +3,8 @@ use Rattle.std.proofs.Common.{◌≡◌, ℕ, ◌≤◌, List, [], ◌∷◌, le
 use Rattle.std.specs.Option.{option_map}
 use Rattle.std.specs.Prelude.{IfSome, OnOk}
 use Rattle.im_alog.proofs.Outcomes.{keeps_long}
-use Rattle.im_alog.proofs.Torn.{keeps_all, same_all, same_reads, written_reads, written_torn}
+use Rattle.im_disk.proofs.Tearing.{written_torn}
+use Rattle.im_alog.proofs.Torn.{keeps_all, same_all, same_reads, written_reads}
 use Rattle.im_alog.specs.Holding.{IsDurable}
 use Rattle.im_clog.specs.Marks.{Lacks}
 use Rattle.im_clog.specs.declared.marks.Uncounted.TheVariants.{Closed}

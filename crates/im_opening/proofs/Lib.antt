@@ -9,7 +9,6 @@ pub mod BatchesLeft
 pub mod EndLemmas
 pub mod HistoryReads
 pub mod GateLemmas
-pub mod LeaveLemmas
 pub mod OpenLemmas
 pub mod TreeLemmas
 pub mod PlaceLemmas

@@ -1,18 +1,18 @@
 -- What opening leaves at every moment.
-use Rattle.std.proofs.Common.{◌≡◌, List, refl, sym, ◌∙◌, ap, subst, inl, inr, Option, Some, Result, Ok, Err}
+use Rattle.std.proofs.Common.{◌≡◌, ℕ, List, [], ◌∷◌, refl, sym, ◌∙◌, ap, subst, inl, inr, Option, Some, Result, Ok, Err}
 use Rattle.std.specs.Prelude.{OnErr, IsErrOf}
 use Rattle.std.specs.Option.{option_map}
 use Rattle.im_digest.specs.Digests.{Hash}
 use Rattle.im_disk.specs.Disk.{Files, Told, Images, after, seen}
 use Rattle.im_disk.specs.Moments.{Leaves}
-use Rattle.im_disk.specs.declared.calls.Call.TheVariants.{Synced, Missed}
+use Rattle.im_disk.specs.declared.calls.Call.TheVariants.{Wrote, Tore, Synced, Missed}
 use Rattle.im_disk.specs.declared.disk.DiskError.{DiskError}
 use Rattle.im_disk.specs.declared.disk.DiskError.TheVariants.{Failed, Memory}
 use Rattle.im_disk.proofs.Leaving.{leaves_nothing}
 use Rattle.im_format.specs.Reading.{history_in}
 use Rattle.im_format.specs.Standing.{Stands}
 use Rattle.im_model.specs.declared.transactions.Transaction.{Transaction}
-use Rattle.im_opening.specs.Cut.{WasLeft, WasOpened}
+use Rattle.im_opening.specs.Cut.{IsHalfShut, WasLeft, WasOpened}
 use Rattle.im_opening.proofs.GateLemmas.{stands-same}
 
 -- what was told before a sync is told behind it
@@ -31,6 +31,21 @@ pub failed-left : (hash : Hash) (t : Told) (o n : Option Told) (e : DiskError) �
     → WasLeft hash t n
 failed-left hash t o n Failed at h = inr (inl (h.0 refl ∙ ap (λ (x : Option Told). option_map (after Missed) x) at))
 failed-left hash t o n Memory at h = inl (h.1 refl ∙ at)
+
+-- where the write that closes the gate failed
+pub failed-write : (gate : ℕ) (t : Told) (o n : Option Told) (e : DiskError) → o ≡ Some t
+    → (let r : Result (Unit {0}) DiskError = Err e in (IsErrOf r Failed → n ≡ option_map (after (Tore 1 gate 1)) o) × (IsErrOf r Memory → n ≡ o))
+    → IsHalfShut gate t n
+failed-write gate t o n Failed at h = inr (inl (h.0 refl ∙ ap (λ (x : Option Told). option_map (after (Tore 1 gate 1)) x) at))
+failed-write gate t o n Memory at h = inl (h.1 refl ∙ at)
+
+-- where the sync behind it failed
+pub failed-sync : (gate : ℕ) (t : Told) (o n : Option Told) (r : Result (Unit {0}) DiskError) → o ≡ Some (after (Wrote 1 gate (0 ∷ [])) t)
+    → (IsErrOf r Failed → n ≡ option_map (after Missed) o) → (IsErrOf r Memory → n ≡ o) → OnErr r (IsHalfShut gate t n)
+failed-sync gate t o n (Ok x) at failed memory = tt
+failed-sync gate t o n (Err Failed) at failed memory =
+    inr (inr (inr (failed refl ∙ ap (λ (x : Option Told). option_map (after Missed) x) at)))
+failed-sync gate t o n (Err Memory) at failed memory = inr (inr (inl (memory refl ∙ at)))
 
 -- what holds whatever the answer, holds where it is an error
 pub on-err : {T E : Type 0} (P : Type 0) (r : Result T E) → P → OnErr r P

@@ -3,7 +3,7 @@ use Rattle.std.proofs.Common.{◌≡◌, ◌≤◌, ◌+◌, suc, zero, ℕ, Lis
 use Rattle.std.proofs.lemmas.Bool.{leb-true}
 use Rattle.std.proofs.lemmas.List.Elements.{All-cons, All-head, All-nil, All-tail}
 use Rattle.std.proofs.lemmas.List.{append-nil}
-use Rattle.im_alog.proofs.Torn.{decide_file}
+use Rattle.im_disk.proofs.Tearing.{decide_same}
 use Rattle.im_digest.specs.Digests.{Hash}
 use Rattle.im_disk.specs.Disk.{Files}
 use Rattle.im_format.specs.Damages.{slot_key_checks, slot_md_checks}
@@ -106,7 +106,7 @@ ends-lie image log (r ∷ refs) all =
     let more = ends-lie image log refs (All-tail (LiesIn image) r refs all) in
     let here : r.at + r.len ≤ length (image (2 + r.log)) = (All-head (LiesIn image) r refs all).within in
     let P : ℕ → Type 0 = λ n. n ≤ length (image (2 + log)) in
-    decide_file r.log log
+    decide_same r.log log
     (λ same.
     let there : r.at + r.len ≤ length (image (2 + log)) = subst (λ (k : ℕ). r.at + r.len ≤ length (image (2 + k))) same here in
     let is : log_end log (r ∷ refs) ≡ max (r.at + r.len) (log_end log refs) =

@@ -10,10 +10,11 @@ use Rattle.im_model.specs.History.{next_header}
 use Rattle.im_model.specs.declared.headers.Header.{Header}
 use Rattle.im_model.specs.declared.transactions.Transaction.{Transaction}
 use Rattle.im_mtree.specs.Checks.{Check, first_fail}
+use Rattle.im_proof.proofs.CheckLemmas.{fail_append}
 use Rattle.im_opening.specs.Answers.{Tells}
 use Rattle.im_opening.specs.Parts.{transaction_checks}
 use Rattle.im_opening.specs.declared.errors.OpenError.{OpenError}
-use Rattle.im_opening.proofs.Finding.{find-behind, tells-first}
+use Rattle.im_opening.proofs.Finding.{tells-first}
 
 -- the Alh that was computed and its place
 pub record IsDigest (hash : Hash) (image : Files) (r : Reached) (log : List ℕ) (end : ℕ) (digest : List ℕ) : Type 0 where
@@ -60,5 +61,5 @@ pub record-finds : (hash : Hash) (image : Files) (r : Reached) (log : List ℕ) 
     → first_fail (record_checks hash image r) ≡ first_fail (alh_checks log end digest)
 record-finds hash image r log end digest is fine =
     ap first_fail (sym (parts hash image r))
-    ∙ find-behind (transaction_checks hash image (next_id r) r.bl r.place) (alh_checks (image 0) (alh_place image r.place) (next_alh hash image r)) fine
+    ∙ fail_append (transaction_checks hash image (next_id r) r.bl r.place) (alh_checks (image 0) (alh_place image r.place) (next_alh hash image r)) fine
     ∙ ap first_fail (sym (digest-checks hash image r log end digest is))

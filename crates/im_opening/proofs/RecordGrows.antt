@@ -7,11 +7,13 @@ use Rattle.im_format.specs.Records.{AreRecords, AreReferences}
 use Rattle.im_format.specs.declared.records.Record.{Record}
 use Rattle.im_frontier.specs.Kept.{Kept, IsFrontier}
 use Rattle.im_model.specs.Headers.{alh}
-use Rattle.im_model.specs.History.{Follow, IsHistory, IsTransaction, alh_of, alhs_from, alhs_of, bl_root_of, first_alh, next_header, no_digest}
+use Rattle.im_model.specs.History.{Follow, IsHistory, IsTransaction, alh_of, alhs_of, bl_root_of, first_alh, next_header, no_digest}
 use Rattle.im_model.specs.Trees.{root}
 use Rattle.im_model.specs.declared.transactions.Transaction.{Transaction}
 use Rattle.im_model.specs.declared.headers.Header.{Header}
-use Rattle.im_opening.specs.Reach.{AreReferred, IsConsistent, headers_from, headers_of, last_bl, txs_of}
+use Rattle.im_proof.specs.Built.{headers_of}
+use Rattle.im_proof.proofs.HeaderLemmas.{alhs-next, headers-next as headers-behind}
+use Rattle.im_opening.specs.Reach.{AreReferred, IsConsistent, last_bl, txs_of}
 
 follow-next : (n bl : ℕ) (txs : List Transaction) (tx : Transaction) → Follow n bl txs → IsTransaction (n + length txs) tx → last_bl bl txs ≤ tx.bl → Follow n bl (txs ++ tx ∷ [])
 follow-next n bl [] tx h is rises =
@@ -24,11 +26,6 @@ follow-next n bl (x ∷ txs) tx h is rises =
 last-next : (bl : ℕ) (txs : List Transaction) (tx : Transaction) → last_bl bl (txs ++ tx ∷ []) ≡ tx.bl
 last-next bl [] tx = refl
 last-next bl (x ∷ txs) tx = last-next x.bl txs tx
-
-alhs-next : (hash : Hash) (alhs : List (List ℕ)) (txs : List Transaction) (tx : Transaction)
-    → alhs_from hash alhs (txs ++ tx ∷ []) ≡ alhs_from hash alhs txs ++ alh hash (next_header hash (alhs_from hash alhs txs) tx) ∷ []
-alhs-next hash alhs [] tx = refl
-alhs-next hash alhs (x ∷ txs) tx = alhs-next hash (alhs ++ alh hash (next_header hash alhs x) ∷ []) txs tx
 
 referred-next : (hash : Hash) (id : ℕ) (records : List Record) (r : Record) → AreReferred hash id records
     → AreReferences hash (id + length records) r.tx.entries r.refs → AreReferred hash id (records ++ r ∷ [])
@@ -67,17 +64,11 @@ consistent-next hash records alhs bl bl_root tree r next grown h few is rises re
       alhs_are =
           ap (λ (x : List ℕ). alhs ++ x ∷ []) digest
           ∙ ap (λ (l : List (List ℕ)). l ++ alh hash (next_header hash l r.tx) ∷ []) h.alhs_are
-          ∙ sym (alhs-next hash [] txs r.tx)
+          ∙ sym (alhs-next hash txs r.tx)
           ∙ ap (alhs_of hash) (sym more);
       kept = map-append (λ (x : Record). x.alh) records (r ∷ []) ∙ ap (λ (l : List (List ℕ)). l ++ r.alh ∷ []) h.kept;
       refer = referred-next hash 1 records r h.refer there;
     }
-
-headers-more : (hash : Hash) (alhs : List (List ℕ)) (txs : List Transaction) (tx : Transaction)
-    → headers_from hash alhs (txs ++ tx ∷ []) ≡ headers_from hash alhs txs ++ next_header hash (alhs_from hash alhs txs) tx ∷ []
-headers-more hash alhs [] tx = refl
-headers-more hash alhs (x ∷ txs) tx =
-    ap (λ (l : List Header). next_header hash alhs x ∷ l) (headers-more hash (alhs ++ alh hash (next_header hash alhs x) ∷ []) txs tx)
 
 -- one more header of the history
 pub headers-next : (hash : Hash) (records : List Record) (alhs : List (List ℕ)) (headers : List Header) (r : Record) (header : Header)
@@ -87,7 +78,7 @@ headers-next hash records alhs headers r header digests are is =
     let txs = txs_of records in
     ap (λ (l : List Header). l ++ header ∷ []) are
     ∙ ap (λ (h : Header). headers_of hash txs ++ h ∷ []) (is ∙ ap (λ (ds : List (List ℕ)). next_header hash ds r.tx) digests)
-    ∙ sym (headers-more hash [] txs r.tx)
+    ∙ sym (headers-behind hash txs r.tx)
     ∙ ap (headers_of hash) (sym (map-append (λ (x : Record). x.tx) records (r ∷ [])))
 
 -- no records

@@ -8,11 +8,12 @@ use Rattle.im_format.specs.Reading.{record_end}
 use Rattle.im_format.specs.declared.records.Record.{Record}
 use Rattle.im_mtree.specs.Checks.{first_fail}
 use Rattle.im_record.specs.Back.{record_in}
+use Rattle.im_proof.proofs.CheckLemmas.{fail_append}
 use Rattle.im_opening.specs.Answers.{Tells}
 use Rattle.im_opening.specs.Parts.{records_in}
 use Rattle.im_opening.specs.declared.errors.OpenError.{OpenError}
 use Rattle.im_opening.specs.declared.errors.OpenError.TheVariants.{DiskFault, Damaged, Memory}
-use Rattle.im_opening.proofs.Finding.{find-behind, tells-first}
+use Rattle.im_opening.proofs.Finding.{tells-first}
 
 -- what is read of them, and what is left, make this
 pub record RecordsLeft (hash : Hash) (image : Files) (count : ℕ) (records : List Record) (r : Reached) (i : ℕ) (more : List Record) (now : Reached) : Type 0 where
@@ -44,7 +45,7 @@ module _ (hash : Hash) (image : Files) (count : ℕ) (records : List Record) (r 
     sum = omega arith;
     records_are = append_assoc more (record_in image now.place ∷ []) (records_in image (record_end image now.place) k) ∙ rs;
     behind_is = is;
-    finds = sym (find-behind (record_checks hash image now) (records_checks hash image k (behind_one hash image now)) ok) ∙ finds;
+    finds = sym (fail_append (record_checks hash image now) (records_checks hash image k (behind_one hash image now)) ok) ∙ finds;
   }
 
   pub records-next : (next : List Record) (then : Reached) → RecordsLeft hash image count records r i more now → i < count

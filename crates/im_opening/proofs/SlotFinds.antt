@@ -10,6 +10,7 @@ use Rattle.im_record.specs.Slots as Read
 use Rattle.im_record.specs.Slots.{HaveLengths, ref_part, slot_checks_by}
 use Rattle.im_record.specs.declared.errors.ReadError.{ReadError}
 use Rattle.im_record.specs.declared.errors.ReadError.TheVariants.{Damaged, Memory}
+use Rattle.im_proof.proofs.CheckLemmas.{fail_append, fail_first}
 use Rattle.im_opening.specs.Answers.{Tells, of_record}
 use Rattle.im_opening.specs.Parts.{Shows, digest_check, entry_checks}
 use Rattle.im_opening.specs.declared.errors.OpenError.{OpenError}
@@ -17,7 +18,7 @@ use Rattle.im_opening.specs.declared.errors.OpenError.TheVariants as Open
 use Rattle.im_format.specs.declared.references.ValueRef.{ValueRef}
 use Rattle.im_digest.specs.Digests.{Hash}
 use Rattle.im_standing.proofs.PassLemmas.{all-pass, pass-left, pass-right}
-use Rattle.im_opening.proofs.Finding.{find-behind, find-first, find-same, find-stop}
+use Rattle.im_opening.proofs.Finding.{find-same, find-stop}
 
 -- the checks of a reference before that of its log
 abbrev front : List ℕ → Slot → List (Check Damage)
@@ -89,7 +90,7 @@ pub slot-fails : (hash : Hash) (image : Files) (log lens : List ℕ) (id : ℕ) 
 slot-fails hash image log lens id keys at (Damaged d) shows bad =
     let slot = slot_at (image 0) at in
     let P : List ℕ → Type 0 = λ l. first_fail (slot_checks_by l lens id keys (slot_at l at)) ≡ Err d in
-    find-first (slot_checks image id keys slot) (value_check hash image slot ∷ []) d
+    fail_first (slot_checks image id keys slot) (value_check hash image slot ∷ []) d
     (sym (slot-finds image lens id keys at shows.lens_are) ∙ subst P shows.log_is bad)
 slot-fails hash image log lens id keys at Memory shows bad = tt
 
@@ -101,7 +102,7 @@ value-finds hash image log lens id keys at ref shows fine is =
     let slot = slot_at (image 0) at in
     let P : List ℕ → Type 0 = λ l. first_fail (slot_checks_by l lens id keys (slot_at l at)) ≡ Ok tt in
     let Q : List ℕ → Type 0 = λ l. ref ≡ (slot_at l at).ref in
-    find-behind (slot_checks image id keys slot) (value_check hash image slot ∷ [])
+    fail_append (slot_checks image id keys slot) (value_check hash image slot ∷ [])
     (sym (slot-finds image lens id keys at shows.lens_are) ∙ subst P shows.log_is fine)
     ∙ ap (λ (r : ValueRef). first_fail (digest_check hash image r ∷ [])) (sym (subst Q shows.log_is is))
 

@@ -1,19 +1,21 @@
 -- A commit log that ends before the gate behind a batch that doesn't count.
 use Rattle.std.specs.Prelude.{◌≡◌, ◌≢◌, ◌⊎◌, ◌≤◌, ◌+◌, ℕ, List, [], ◌∷◌, length, slice_index_or, All, Option, Some}
+use Rattle.im_clog.specs.Marks.{Lacks}
 use Rattle.im_clog.specs.declared.marks.Uncounted.{Uncounted}
 use Rattle.im_clog.specs.declared.marks.Uncounted.TheVariants.{Missing, Closed, Short}
 use Rattle.im_digest.specs.Digests.{Hash}
 use Rattle.im_disk.specs.Disk.{Files, Images, Told, after, seen}
 use Rattle.im_disk.specs.Moments.{Leaves}
-use Rattle.im_disk.specs.declared.calls.Call.TheVariants.{Wrote, Synced, Missed}
+use Rattle.im_disk.specs.declared.calls.Call.TheVariants.{Wrote, Tore, Synced, Missed}
 use Rattle.im_format.specs.Batches.{gate_of, spans_of}
 use Rattle.im_format.specs.Spans.{Reads, octet_span}
 use Rattle.im_format.specs.Standing.{Stands}
 use Rattle.im_format.specs.declared.records.Record.{Record}
 use Rattle.im_model.specs.declared.transactions.Transaction.{Transaction}
+use Rattle.im_opening.specs.Parts.{batches_in}
 use Rattle.im_opening.specs.declared.reading.Opened.{Opened}
 
--- the image stands for this history, the gate behind its batches is here, and the commit log has no octet at
+-- the image stands for this history, this is the place of the gate behind its batches, and the commit log ends before
 -- the gate behind that one
 pub record IsCut (hash : Hash) (history : List Transaction) (gate : ℕ) (image : Files) : Type 0 where
   pub stands : Stands hash image history
@@ -42,6 +44,18 @@ repaired Missing gate t = shut_at gate t
 repaired (Closed octet) gate t = t
 repaired (Short len) gate t = shut_at gate t
 
+-- what closing the gate has done where it fails: nothing; a write that failed, of some part of its one octet; the
+-- whole write; or the write, and then a sync that failed
+abbrev pub IsHalfShut : ℕ → Told → Option Told → Type 0
+IsHalfShut gate t now =
+    (now ≡ Some t) ⊎ ((now ≡ Some (after (Tore 1 gate 1) t)) ⊎ ((now ≡ Some (after (Wrote 1 gate (0 ∷ [])) t))
+    ⊎ (now ≡ Some (after Missed (after (Wrote 1 gate (0 ∷ [])) t)))))
+
+-- what opening a disk has done, where this is the gate behind the batches that count: a sync, and the repair that the
+-- reason asks for, why no batch counts at the gate in what reads gave
+abbrev pub IsOpenedBy : ℕ → Told → Option Told → Type 0
+IsOpenedBy gate t now = (behind : Uncounted) × Lacks (seen t 1) gate behind × (now ≡ Some (repaired behind gate (after Synced t)))
+
 -- what opening a disk does: a sync, and the repair of the gate behind the batches that count
 abbrev pub opened_by : Opened → Told → Told
 opened_by opened t = repaired opened.behind (gate_of opened.batches) (after Synced t)
@@ -59,8 +73,10 @@ pub record IsKept (batches : List (List Record)) (ends : List ℕ) (t : Told) : 
   pub here : IsHeld batches ends (seen t)
 
 -- what opening a disk has done that wasn't opened, whatever its files: nothing; a sync that failed; one sync; or, where
--- what reads gave stands for a history, at every moment behind a sync each image stands for it
+-- what reads gave stands for a history, a sync and then a part of closing the gate behind the batches that count, and
+-- at every moment behind the sync each image stands for the history
 abbrev pub WasLeft : Hash → Told → Option Told → Type 0
 WasLeft hash t now =
     (now ≡ Some t) ⊎ ((now ≡ Some (after Missed t)) ⊎ ((now ≡ Some (after Synced t))
-    ⊎ ((history : List Transaction) × Stands hash (seen t) history × Leaves (λ image. Stands hash image history) (Some (after Synced t)) now)))
+    ⊎ ((history : List Transaction) × Stands hash (seen t) history × Leaves (λ image. Stands hash image history) (Some (after Synced t)) now
+    × IsHalfShut (gate_of (length (batches_in (seen t)))) (after Synced t) now)))

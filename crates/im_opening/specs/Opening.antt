@@ -19,7 +19,7 @@ pub record AreBatches (image : Files) (records : List Record) (batches place : �
   pub batches_are : batches ≡ length (batches_in image)
   pub place_is : place ≡ place_in image
 
--- these records were read in so many batches, each of one record at least
+-- these records can be cut into so many batches, each of one record at least
 pub record AreGrouped (records : List Record) (count : ℕ) : Type 0 where
   pub batches : List (List Record)
   pub joined_is : joined batches ≡ records

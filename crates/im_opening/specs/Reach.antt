@@ -6,10 +6,9 @@ use Rattle.im_format.specs.Damages.{Reached, behind, behind_one}
 use Rattle.im_format.specs.Records.{AreReferences, records_octets}
 use Rattle.im_format.specs.declared.records.Record.{Record}
 use Rattle.im_frontier.specs.Kept.{Kept, IsFrontier}
-use Rattle.im_model.specs.Headers.{alh}
-use Rattle.im_model.specs.History.{Follow, alhs_of, bl_root_of, next_header}
-use Rattle.im_model.specs.declared.headers.Header.{Header}
+use Rattle.im_model.specs.History.{Follow, alhs_of, bl_root_of}
 use Rattle.im_model.specs.declared.transactions.Transaction.{Transaction}
+use Rattle.im_proof.specs.Built.{headers_of}
 use Rattle.im_record.specs.Back.{record_in}
 use Rattle.im_opening.specs.Parts.{records_in}
 use Rattle.im_opening.specs.declared.records.Progress.{Progress}
@@ -45,18 +44,9 @@ pub record IsConsistent (hash : Hash) (records : List Record) (alhs : List (List
   pub kept : map (λ r. r.alh) records ≡ alhs
   pub refer : AreReferred hash 1 records
 
+-- what was read so far is the records of a history, with the Alh and the tree behind them
 abbrev pub Fits : Hash → Progress → Type 0
 Fits hash p = IsConsistent hash p.records.items p.alhs.items p.bl p.bl_root p.tree
-
--- the headers of transactions that follow others with these Alh
-abbrev pub headers_from : Hash → List (List ℕ) → List Transaction → List Header
-headers_from hash alhs [] = []
-headers_from hash alhs (tx ∷ txs) =
-    next_header hash alhs tx ∷ headers_from hash (alhs ++ alh hash (next_header hash alhs tx) ∷ []) txs
-
--- the header of each transaction of a history, in order
-abbrev pub headers_of : Hash → List Transaction → List Header
-headers_of hash history = headers_from hash [] history
 
 -- the records that were read end where their octets do, and each has its header
 pub record IsWhole (hash : Hash) (p : Progress) : Type 0 where

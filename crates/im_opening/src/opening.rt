@@ -1,6 +1,7 @@
-ghost use Rattle.std.specs.Prelude.{◌≡◌, List, Some, IfOk, IfErr, IfSome, OnOk, OnErr, IsErrOf};
+ghost use Rattle.std.specs.Prelude.{◌≡◌, List, Some, IfOk, IfErr, IfSome, OnOk, OnErr, IsErrOf, MatchResult};
 ghost use Rattle.std.specs.Option.{option_map};
 ghost use Rattle.im_disk.specs.Disk.{Told, after, seen};
+ghost use Rattle.im_disk.specs.Grown.{Grows};
 ghost use Rattle.im_disk.specs.Moments.{Leaves};
 ghost use Rattle.im_edge.specs.Counts.{Rose};
 ghost use Rattle.im_disk.specs.declared.calls.Call.TheVariants.{Synced};
@@ -15,7 +16,8 @@ ghost use Rattle.im_opening.specs.Answers.{HasOpenCause, Judges, Tells};
 ghost use Rattle.im_opening.specs.Cut.{IsKept, IsShut, WasLeft, WasOpened, opened_by};
 ghost use Rattle.im_opening.specs.Opening.{AreGrouped, HasEnds, IsRead, IsThere, ends_behind};
 ghost use Rattle.im_opening.specs.Parts.{batches_in};
-ghost use Rattle.im_opening.specs.Reach.{headers_of, txs_of};
+ghost use Rattle.im_opening.specs.Reach.{txs_of};
+ghost use Rattle.im_proof.specs.Built.{headers_of};
 
 use crate::errors::OpenError;
 use crate::reading::{Opened, read_files};
@@ -25,7 +27,8 @@ use im_disk::disk::Disk;
 use std::alloc::Global;
 
 /// Opens the files of a store: makes them durable, reads and checks them, and closes the gate behind the batches
-/// that count where that is needed.
+/// that count where that is needed. One `sync`; the reads and hashes of `read_files`; and where the gate isn't
+/// closed, one `write_at` and one `sync` more.
 ///
 /// # Errors
 ///
@@ -53,6 +56,7 @@ pub fn open_files<D: Disk, H: Hash32>(
     ensures kept { (t : Told) → D.told disk.old ≡ Some t
         → IfOk result (λ opened. IfSome (D.told disk.new) (IsKept (batches_in (seen t)) opened.ends)) }
     ensures calls { IfOk result (λ opened. D.told disk.new ≡ option_map (opened_by opened) (D.told disk.old)) }
+    ensures grows { Grows (D.told disk.old) (D.told disk.new) }
     ensures damaged { (t : Told) (d : Damage) → D.told disk.old ≡ Some t → IsErrOf result (OpenError.Damaged d)
         → D.told disk.new ≡ Some (after Synced t) }
     ensures left { (t : Told) → D.told disk.old ≡ Some t → OnErr result (WasLeft (H.digest hash.now) t (D.told disk.new)) }
@@ -67,11 +71,13 @@ pub fn open_files<D: Disk, H: Hash32>(
 /// A disk that isn't opened, with the reason.
 #[derive(Drop)]
 pub struct OpenFailed<D: Drop> {
+    /// The disk, as it was left.
     pub disk: D,
+    /// Why it isn't opened.
     pub error: OpenError,
 }
 
-/// Opens a disk, as `open_files` does. A disk that isn't opened is handed back.
+/// Opens a disk, as `open_files` does and by the same calls. A disk that isn't opened is handed back.
 pub fn open_disk<D: Disk, H: Hash32>(
     alloc: Global,
     hash: &H,
@@ -96,6 +102,8 @@ pub fn open_disk<D: Disk, H: Hash32>(
     ensures kept { (t : Told) → D.told disk ≡ Some t
         → IfOk result (λ r. IfSome (D.told r.0) (IsKept (batches_in (seen t)) r.1.ends)) }
     ensures calls { IfOk result (λ r. D.told r.0 ≡ option_map (opened_by r.1) (D.told disk)) }
+    // Whether or not it is opened.
+    ensures grows { MatchResult result (λ r. Grows (D.told disk) (D.told r.0)) (λ failed. Grows (D.told disk) (D.told failed.disk)) }
     ensures damaged { (t : Told) (d : Damage) → D.told disk ≡ Some t
         → IfErr result (λ failed. failed.error ≡ OpenError.Damaged d → D.told failed.disk ≡ Some (after Synced t)) }
     ensures left { (t : Told) → D.told disk ≡ Some t

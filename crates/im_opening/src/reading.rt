@@ -9,7 +9,8 @@ ghost use Rattle.im_format.specs.Records.{AreRecords};
 ghost use Rattle.im_model.specs.History.{IsHistory};
 ghost use Rattle.im_record.specs.Slots.{HaveLengths};
 ghost use Rattle.im_opening.specs.Parts.{Shows};
-ghost use Rattle.im_opening.specs.Reach.{Fits, IsWhole, headers_of, txs_of};
+ghost use Rattle.im_opening.specs.Reach.{Fits, IsWhole, txs_of};
+ghost use Rattle.im_proof.specs.Built.{headers_of};
 
 use crate::batches::read_batch;
 use crate::ends::end_of;
@@ -31,6 +32,7 @@ const BATCH: usize = 25;
 /// The files as they were read: the records of the batches that count, in order, and where these end.
 #[derive(Drop)]
 pub struct Opened {
+    /// The records of the batches that count, in order.
     pub records: Vec<Record>,
     /// The header of each record's transaction.
     pub headers: Vec<Header>,
@@ -169,8 +171,12 @@ fn read_logs<D: Disk, H: Hash32>(
     })
 }
 
-/// Reads the files and checks them: the transaction log and the commit log by one read each, each value by one.
-/// Nothing is written.
+/// Reads the files and checks them. Nothing is written.
+///
+/// Six `len`; one `read` for each of the two logs, into a buffer of its length, and one for each value. Of each
+/// transaction it hashes every value and every entry once, the tree over the entries once, and the header twice, for
+/// the inner digest and for the Alh. Each Alh that is linked costs less than two hashes, and each transaction whose
+/// tree grew at most 63 more, for its root. The first transaction costs one more, of no octets.
 ///
 /// # Errors
 ///

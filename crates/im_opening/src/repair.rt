@@ -1,9 +1,10 @@
-ghost use Rattle.std.specs.Prelude.{◌≡◌, ◌≤◌, ◌<◌, ◌^◌, length, List, Some, OnOk, IfSome};
+ghost use Rattle.std.specs.Prelude.{◌≡◌, ◌≤◌, ◌<◌, ◌^◌, length, List, Some, OnOk, IfSome, OnErr};
 ghost use Rattle.std.specs.Option.{option_map};
 ghost use Rattle.im_digest.specs.Digests.{Hash};
 ghost use Rattle.im_disk.specs.Causes.{HasCause};
 ghost use Rattle.im_alog.specs.Holding.{IsDurable};
 ghost use Rattle.im_disk.specs.Disk.{LiesWithin, Told, seen};
+ghost use Rattle.im_disk.specs.Grown.{Grows};
 ghost use Rattle.im_format.specs.Batches.{gate_of};
 ghost use Rattle.im_format.specs.Reading.{history_in};
 ghost use Rattle.im_opening.specs.Opening.{HasEnds, IsRead, IsThere};
@@ -11,7 +12,7 @@ ghost use Rattle.im_opening.specs.Parts.{batches_in};
 ghost use Rattle.im_disk.specs.Moments.{Leaves, LeavesNow};
 ghost use Rattle.im_format.specs.Standing.{Stands};
 ghost use Rattle.im_model.specs.declared.transactions.Transaction.{Transaction};
-ghost use Rattle.im_opening.specs.Cut.{IsCut, IsKept, IsShut, repaired, shut_at};
+ghost use Rattle.im_opening.specs.Cut.{IsCut, IsHalfShut, IsKept, IsShut, repaired, shut_at};
 
 use crate::reading::Opened;
 use im_clog::marks::Uncounted;
@@ -27,6 +28,8 @@ pub(crate) fn shut_gate<D: Disk>(disk: &mut D, gate: u64) -> Result<(), DiskErro
         → Leaves (λ image. Stands hash image history) (D.told disk.old) (D.told disk.new) }
     ensures shut { OnOk result (IfSome (D.told disk.new) (λ t. IsShut (seen t) gate)) }
     ensures written { OnOk result (D.told disk.new ≡ option_map (shut_at gate) (D.told disk.old)) }
+    ensures half { (t : Told) → D.told disk.old ≡ Some t → OnErr result (IsHalfShut gate t (D.told disk.new)) }
+    ensures grows { Grows (D.told disk.old) (D.told disk.new) }
     ensures cause { HasCause (D.faults disk.old) (D.faults disk.new) result }
 {
     disk.write_at(1, gate, &[0])?;
@@ -34,7 +37,7 @@ pub(crate) fn shut_gate<D: Disk>(disk: &mut D, gate: u64) -> Result<(), DiskErro
 }
 
 /// Closes the gate behind the batches that count, where no octet stands at it, or it is open and octets up to the
-/// next gate are missing. Else nothing is done.
+/// next gate are missing: one `write_at` and one `sync`. Else nothing is done. Behind a call that fails no other is made.
 pub fn repair<D: Disk>(disk: &mut D, opened: &Opened) -> Result<(), DiskError>
     requires within { IfSome (D.told disk.old) (λ t. gate_of opened.now.batches ≤ length (seen t 1)) }
     requires ends { HasEnds opened.now }
@@ -46,6 +49,8 @@ pub fn repair<D: Disk>(disk: &mut D, opened: &Opened) -> Result<(), DiskError>
         → IsThere (seen t) opened.now
         → OnOk result (IfSome (D.told disk.new) (IsKept (batches_in (seen t)) opened.now.ends)) }
     ensures calls { OnOk result (D.told disk.new ≡ option_map (repaired opened.now.behind (gate_of opened.now.batches)) (D.told disk.old)) }
+    ensures half { (t : Told) → D.told disk.old ≡ Some t → OnErr result (IsHalfShut (gate_of opened.now.batches) t (D.told disk.new)) }
+    ensures grows { Grows (D.told disk.old) (D.told disk.new) }
     ensures cause { HasCause (D.faults disk.old) (D.faults disk.new) result }
 {
     match opened.behind {

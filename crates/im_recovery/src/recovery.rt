@@ -1,5 +1,6 @@
-ghost use Rattle.std.specs.Prelude.{◌≡◌, ◌⊎◌, List, Some, None, IfOk, IfErr, slice_index_or};
+ghost use Rattle.std.specs.Prelude.{◌≡◌, List, Some, None, IfOk, IfErr, MatchResult, slice_index_or};
 ghost use Rattle.im_disk.specs.Disk.{Told, after, seen};
+ghost use Rattle.im_disk.specs.Grown.{Grows};
 ghost use Rattle.im_disk.specs.Moments.{Leaves};
 ghost use Rattle.im_disk.specs.declared.calls.Call.TheVariants.{Synced};
 ghost use Rattle.im_edge.specs.Counts.{Rose};
@@ -9,7 +10,7 @@ ghost use Rattle.im_format.specs.declared.damages.Damage.{Damage};
 ghost use Rattle.im_journal.specs.declared.batches.Step.TheVariants.{Idle};
 ghost use Rattle.im_model.specs.declared.transactions.Transaction.{Transaction};
 ghost use Rattle.im_opening.specs.Answers.{Tells};
-ghost use Rattle.im_opening.specs.Cut.{WasLeft, WasOpened, shut_at};
+ghost use Rattle.im_opening.specs.Cut.{IsOpenedBy, WasLeft, WasOpened};
 ghost use Rattle.im_opening.specs.Reach.{txs_of};
 ghost use Rattle.im_proof.specs.Built.{headers_of};
 ghost use Rattle.im_recovery.specs.Found.{IsFound};
@@ -28,6 +29,7 @@ use std::alloc::Global;
 /// A disk that was opened: its journal, at rest, and what it holds.
 #[derive(Drop)]
 pub struct Recovered<D: Disk> {
+    /// The journal, at rest.
     pub journal: Journal<D>,
     /// The records of the durable transactions, in order.
     pub records: Vec<Record>,
@@ -37,7 +39,8 @@ pub struct Recovered<D: Disk> {
 
 /// Opens a disk: makes its files durable, reads and checks them, closes the gate behind the batches that count
 /// where that is needed, and gives a journal at rest, which no call of the disk has failed. A disk that isn't
-/// opened is handed back with the reason.
+/// opened is handed back with the reason. Its calls of the disk and its hashes are those of
+/// `im_opening::opening::open_files`.
 ///
 /// # Errors
 ///
@@ -56,10 +59,11 @@ pub fn open<D: Disk, H: Hash32>(
         → IfOk result (λ r. txs_of r.records.items ≡ history) }
     ensures moments { (t : Told) → D.told disk ≡ Some t
         → IfOk result (λ r. Leaves (λ image. Stands (H.digest hash.now) image (txs_of r.records.items)) (Some (after Synced t)) (D.told r.journal.disk)) }
-    // Beside a sync, only a closed gate behind the batches that count may have been written, and made durable.
+    // Beside a sync, only a closed gate behind the batches that count is written, and made durable, and only where the
+    // gate isn't closed.
     ensures calls { (t : Told) → D.told disk ≡ Some t
-        → IfOk result (λ r. (D.told r.journal.disk ≡ Some (after Synced t))
-        ⊎ (D.told r.journal.disk ≡ Some (shut_at (slice_index_or r.journal.ends 1 0) (after Synced t)))) }
+        → IfOk result (λ r. IsOpenedBy (slice_index_or r.journal.ends 1 0) t (D.told r.journal.disk)) }
+    ensures grows { MatchResult result (λ r. Grows (D.told disk) (D.told r.journal.disk)) (λ failed. Grows (D.told disk) (D.told failed.disk)) }
     ensures fresh { IfOk result (λ r. (r.journal.failures ≡ 0) × (r.journal.batch.step ≡ Idle)) }
     ensures faults { IfOk result (λ r. D.faults r.journal.disk ≡ D.faults disk) }
     ensures first { (t : Told) → D.told disk ≡ Some t

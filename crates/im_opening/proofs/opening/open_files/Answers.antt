@@ -1,9 +1,11 @@
-use Rattle.std.proofs.Common.{refl, ◌∙◌, ap, inl, inr, Option}
+use Rattle.std.proofs.Common.{ℕ, refl, ◌∙◌, ap, subst, inl, inr, Option}
 use Rattle.im_disk.specs.Disk.{Told, after, seen}
-use Rattle.im_disk.specs.declared.calls.Call.TheVariants.{Synced}
+use Rattle.im_disk.specs.declared.calls.Call.TheVariants.{Synced, Missed}
+use Rattle.im_disk.specs.Grown.{Grows}
+use Rattle.im_disk.proofs.Growing.{grows_both, grows_by_answer, grows_same}
 use Rattle.im_format.specs.Batches.{gate_of}
 use Rattle.im_format.specs.Reading.{history_in}
-use Rattle.im_opening.specs.Cut.{WasLeft}
+use Rattle.im_opening.specs.Cut.{IsHalfShut, WasLeft}
 use Rattle.im_opening.specs.Opening.{IsRead}
 use Rattle.im_standing.proofs.HeldRecords.{Has32}
 use Rattle.im_standing.proofs.StandReads.{stands-once}
@@ -93,12 +95,14 @@ returns-in_err-repair-clause-left g c t is =
     let synced = synced-told (g.D.Disk.told c.args.disk.now) (g.D.Disk.told c.sync.new.self) t c.in_ok-sync.ensures.ok is in
     let told = c.in_ok-opened.ensures.told ∙ synced in
     let read : IsRead hash (seen t) c.in_ok-opened.opened = c.in_ok-opened.ensures.read (after Synced t) synced in
+    let H : ℕ → Type 0 = λ k. IsHalfShut (gate_of k) (after Synced t) (g.D.Disk.told c.repair.new.disk) in
     on-err (WasLeft hash t (g.D.Disk.told c.repair.new.disk)) c.from_residual-in_err-repair.result
     (inr (inr (inr (
       history_in (seen t),
       read.stands,
       repaired-leaves hash (history_in (seen t)) t (g.D.Disk.told c.read_files.new.disk) (g.D.Disk.told c.repair.new.disk) told refl
           (c.in_err-repair.ensures.leaves hash (after Synced t) told (λ image now. now) read),
+      subst H read.batches.batches_are (c.in_err-repair.ensures.half (after Synced t) told),
     ))))
 
 pub returns-clause-calls : goal.returns-clause-calls
@@ -109,3 +113,34 @@ returns-clause-calls g c =
     c.in_ok-repair.ensures.calls
     ∙ ap (λ (m : Option Told). option_map f m) (c.in_ok-opened.ensures.told ∙ c.in_ok-sync.ensures.ok)
     ∙ map-told f (after Synced) o
+
+pub returns-in_err-sync-clause-grows : goal.returns-in_err-sync-clause-grows
+returns-in_err-sync-clause-grows g c =
+    grows_by_answer Synced Missed (g.D.Disk.told c.args.disk.now) (g.D.Disk.told c.sync.new.self) c.sync.result
+    c.sync.ensures.ok c.sync.ensures.failed c.sync.ensures.memory
+
+pub returns-in_err-opened-clause-grows : goal.returns-in_err-opened-clause-grows
+returns-in_err-opened-clause-grows g c =
+    let a = g.D.Disk.told c.args.disk.now in
+    let b = g.D.Disk.told c.sync.new.self in
+    let d = g.D.Disk.told c.read_files.new.disk in
+    let first : Grows a b = grows_by_answer Synced Missed a b c.sync.result c.sync.ensures.ok c.sync.ensures.failed c.sync.ensures.memory in
+    grows_both a b d first (grows_same b d c.in_err-opened.ensures.told)
+
+pub returns-in_err-repair-clause-grows : goal.returns-in_err-repair-clause-grows
+returns-in_err-repair-clause-grows g c =
+    let a = g.D.Disk.told c.args.disk.now in
+    let b = g.D.Disk.told c.sync.new.self in
+    let d = g.D.Disk.told c.read_files.new.disk in
+    let e = g.D.Disk.told c.repair.new.disk in
+    let first : Grows a b = grows_by_answer Synced Missed a b c.sync.result c.sync.ensures.ok c.sync.ensures.failed c.sync.ensures.memory in
+    grows_both a d e (grows_both a b d first (grows_same b d c.in_ok-opened.ensures.told)) c.in_err-repair.ensures.grows
+
+pub returns-clause-grows : goal.returns-clause-grows
+returns-clause-grows g c =
+    let a = g.D.Disk.told c.args.disk.now in
+    let b = g.D.Disk.told c.sync.new.self in
+    let d = g.D.Disk.told c.read_files.new.disk in
+    let e = g.D.Disk.told c.repair.new.disk in
+    let first : Grows a b = grows_by_answer Synced Missed a b c.sync.result c.sync.ensures.ok c.sync.ensures.failed c.sync.ensures.memory in
+    grows_both a d e (grows_both a b d first (grows_same b d c.in_ok-opened.ensures.told)) c.in_ok-repair.ensures.grows

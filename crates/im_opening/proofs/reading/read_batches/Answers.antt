@@ -8,7 +8,8 @@ use Rattle.im_format.specs.Records.{records_octets}
 use Rattle.im_format.specs.declared.records.Record.{Record}
 use Rattle.std.proofs.lemmas.List.{length-map}
 use Rattle.im_model.specs.History.{no_digest}
-use Rattle.im_opening.specs.Reach.{IsConsistent, headers_of, reached_of, txs_of}
+use Rattle.im_proof.specs.Built.{headers_of}
+use Rattle.im_opening.specs.Reach.{IsConsistent, reached_of, txs_of}
 use Rattle.im_opening.proofs.BatchesLeft.{BatchesLeft, batches-first, batches-last, batches-next, batches-tell}
 use Rattle.im_opening.proofs.Finding.{at-told, judge-err, ok-leaves}
 use Rattle.im_opening.proofs.PlaceLemmas.{grouped}

@@ -9,7 +9,8 @@ use Rattle.im_model.specs.History.{IsTransaction, bl_root_of}
 use Rattle.im_mtree.specs.Checks.{first_fail}
 use Rattle.im_opening.specs.Answers.{Tells}
 use Rattle.im_opening.specs.Parts.{Shows, transaction_checks}
-use Rattle.im_opening.specs.Reach.{IsConsistent, headers_of, reached_of, txs_of}
+use Rattle.im_proof.specs.Built.{headers_of}
+use Rattle.im_opening.specs.Reach.{IsConsistent, reached_of, txs_of}
 use Rattle.im_opening.specs.declared.errors.OpenError.TheVariants.{Damaged}
 use Rattle.im_opening.proofs.Finding.{at-told, judge-err}
 use Rattle.im_opening.proofs.RecordFinds.{digest-made, record-finds, record-tells}

@@ -1,7 +1,8 @@
 use Rattle.std.proofs.Common.{arith, ◌≡◌, ◌+◌, ◌≤◌, ℕ, List, length, sym, subst, get_or, ⊎_elim, Option, Some}
-use Rattle.std.specs.Prelude.{IfSome, OnOk}
+use Rattle.std.specs.Prelude.{IfSome, OnErr, OnOk}
 use Rattle.im_disk.specs.Disk.{Files, Told, Images, seen}
 use Rattle.im_disk.specs.Moments.{Leaves, LeavesNow}
+use Rattle.im_disk.proofs.Growing.{grows_none}
 use Rattle.im_disk.proofs.Leaving.{leaves_nothing}
 use Rattle.im_alog.specs.Holding.{IsDurable}
 use Rattle.im_digest.specs.Digests.{Hash}
@@ -11,7 +12,7 @@ use Rattle.im_format.specs.Standing.{Stands}
 use Rattle.im_clog.specs.Marks.{Lacks}
 use Rattle.im_clog.specs.declared.marks.Uncounted.{Uncounted}
 use Rattle.im_clog.specs.declared.marks.Uncounted.TheVariants.{Missing, Closed, Short}
-use Rattle.im_opening.specs.Cut.{IsCut, IsKept, IsShut, repaired, shut_at}
+use Rattle.im_opening.specs.Cut.{IsCut, IsHalfShut, IsKept, IsShut, repaired, shut_at}
 use Rattle.im_opening.specs.Opening.{IsRead}
 use Rattle.im_opening.specs.declared.reading.Opened.{Opened}
 use Rattle.im_opening.proofs.GateLemmas.{batches-same, cut-kept, lacks-none, same-torn, shut-read, stands-same}
@@ -123,3 +124,11 @@ returns-in-Missing-clause-calls g c =
     let here : P gate = subst P c.requires.ends.gate c.shut_gate.ensures.written in
     let A : Uncounted → Type 0 = λ r. OnOk c.shut_gate.result (n ≡ option_map (repaired r gate) o) in
     ⊎_elim (λ e. subst A (sym e) here) (λ p. subst A (sym p.1) here) c.in-Missing.is
+
+pub returns-in-Closed-clause-grows : goal.returns-in-Closed-clause-grows
+returns-in-Closed-clause-grows g c = grows_none (g.D.Disk.told c.args.disk.now)
+
+pub returns-in-Missing-clause-half : goal.returns-in-Missing-clause-half
+returns-in-Missing-clause-half g c t is =
+    let P : ℕ → Type 0 = λ k. OnErr c.shut_gate.result (IsHalfShut k t (g.D.Disk.told c.shut_gate.new.disk)) in
+    subst P c.requires.ends.gate (c.shut_gate.ensures.half t is)

@@ -1,16 +1,20 @@
-use Rattle.std.proofs.Common.{◌≡◌, ℕ, List, length, sym, ◌∙◌, ap, subst, arith, Option, Some}
+use Rattle.std.proofs.Common.{◌≡◌, ℕ, List, length, sym, ◌∙◌, ap, subst, arith, get_or, Option, Some}
+use Rattle.std.specs.Option.{option_map}
 use Rattle.im_disk.specs.Disk.{Told, after, seen}
+use Rattle.im_disk.specs.Grown.{Grows}
 use Rattle.im_disk.specs.Moments.{Leaves}
 use Rattle.im_disk.specs.declared.calls.Call.TheVariants.{Synced}
+use Rattle.im_format.specs.Batches.{gate_of}
 use Rattle.im_format.specs.Reading.{history_in}
 use Rattle.im_format.specs.Standing.{Stands}
 use Rattle.im_journal.specs.Holding.{AreFirst}
 use Rattle.im_model.specs.declared.transactions.Transaction.{Transaction}
+use Rattle.im_opening.specs.Cut.{IsOpenedBy, opened_by}
 use Rattle.im_opening.specs.Opening.{IsRead}
 use Rattle.im_opening.specs.Reach.{txs_of}
 use Rattle.im_standing.proofs.HeldRecords.{Has32}
 use Rattle.im_standing.proofs.StandReads.{stands-once}
-use Rattle.im_recovery.proofs.FoundLemmas.{IsOpened, Rests, if-err, never-damaged, rests-with}
+use Rattle.im_recovery.proofs.FoundLemmas.{IsOpened, Rests, if-err, match-err, never-damaged, rests-with}
 use Rattle.im_recovery.proofs.recovery.open.Goals as goal
 
 pub resume-journal-requires : goal.resume-journal-requires
@@ -90,3 +94,26 @@ returns-in_err-disk-clause-sound g c t history d is stands =
     let long : Has32 hash = record { long = g.met.H.Hash32.size c.args.hash.now } in
     if-err _ c.from_residual.result c.in_err-disk.field-0.0 c.from_residual.ensures.1
     (never-damaged hash (seen t) history c.in_err-disk.field-0.0.error d long stands (c.in_err-disk.ensures.first t is))
+
+pub returns-clause-grows : goal.returns-clause-grows
+returns-clause-grows g c =
+    let G : Option Told → Type 0 = λ o. Grows (g.D.Disk.told c.args.disk) o in
+    subst G (ap g.D.Disk.told (sym c.resume-journal.ensures.given.0)) c.in_ok-disk.ensures.grows
+
+pub returns-in_err-disk-clause-grows : goal.returns-in_err-disk-clause-grows
+returns-in_err-disk-clause-grows g c = match-err _ _ c.from_residual.result c.in_err-disk.field-0.0 c.from_residual.ensures.1 c.in_err-disk.ensures.grows
+
+pub returns-clause-calls : goal.returns-clause-calls
+returns-clause-calls g c t is =
+    let hash = g.H.Hash32.digest c.args.hash.now in
+    let opened = c.in_ok-disk.opened in
+    let read : IsRead hash (seen t) opened = c.in_ok-disk.ensures.read t is in
+    let now : g.D.Disk.told c.in_ok-disk.disk ≡ Some (opened_by opened t) =
+    c.in_ok-disk.ensures.calls ∙ ap (λ (m : Option Told). option_map (opened_by opened) m) is in
+    let told : g.D.Disk.told c.resume-journal.result.disk ≡ Some (opened_by opened t) =
+    ap g.D.Disk.told c.resume-journal.ensures.given.0 ∙ now in
+    let by : IsOpenedBy (gate_of opened.batches) t (g.D.Disk.told c.resume-journal.result.disk) = (opened.behind, read.behind_is, told) in
+    let gate : gate_of opened.batches ≡ get_or c.resume-journal.result.ends 1 0 =
+    sym (ap (λ (l : List ℕ). get_or l 1 0) c.resume-journal.ensures.given.1 ∙ c.in_ok-disk.ensures.ends.gate) in
+    let P : ℕ → Type 0 = λ k. IsOpenedBy k t (g.D.Disk.told c.resume-journal.result.disk) in
+    subst P gate by
