@@ -4,6 +4,7 @@ pub mod DurableLemmas
 pub mod GrowLemmas
 pub mod GrownLemmas
 pub mod LedgerLemmas
+pub mod MadeLemmas
 pub mod OpenLemmas
 pub mod PlaceLemmas
 pub mod ReadLemmas

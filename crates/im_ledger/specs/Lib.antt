@@ -1,5 +1,5 @@
 pub mod Causes
-pub mod Grown
+pub mod Commits
 pub mod Histories
 pub mod Ledgers
 pub mod Openings

@@ -1,5 +1,6 @@
 ghost use Rattle.std.specs.Prelude.{◌≡◌, ◌+◌, ◌∷◌, ◌++◌, [], List, length, OnOk};
 ghost use Rattle.im_digest.specs.Digests.{Hash};
+ghost use Rattle.im_disk.specs.Grown.{Grows};
 ghost use Rattle.im_disk.specs.Moments.{Leaves};
 ghost use Rattle.im_model.specs.declared.transactions.Transaction.{Transaction};
 ghost use Rattle.im_format.specs.declared.records.Record.{Record};
@@ -7,7 +8,7 @@ ghost use Rattle.im_journal.specs.Holding.{AreNext};
 ghost use Rattle.im_journal.specs.Kept.{IsAtRest, StandsBy};
 ghost use Rattle.im_journal.specs.declared.batches.Step.TheVariants.{Gated};
 ghost use Rattle.im_ledger.specs.Causes.{HasCommitCause};
-ghost use Rattle.im_ledger.specs.Grown.{Grows};
+ghost use Rattle.im_ledger.specs.Commits.{MakesDurable};
 
 use crate::errors::CommitError;
 use im_disk::disk::Disk;
@@ -34,6 +35,7 @@ pub(crate) fn make_durable<D: Disk>(
     ensures any_moment { (hash : Hash) (history : List Transaction) (batches : List (List Record))
         → IsAtRest D.told hash history batches journal.old → AreNext hash history batches journal.old.durable records.now
         → Leaves (StandsBy Gated hash history journal.old.durable (length records.now)) (D.told journal.old.disk) (D.told journal.new.disk) }
+    ensures calls { MakesDurable D.told records.now journal.old journal.new result }
     ensures grows { Grows (D.told journal.old.disk) (D.told journal.new.disk) }
     ensures going { OnOk result (journal.new.failures ≡ 0) }
     ensures cause { HasCommitCause (D.faults journal.old.disk) (D.faults journal.new.disk) result }

@@ -17,8 +17,15 @@ use std::marker::Model;
 /// A ledger that is kept on a disk: each transaction is durable before the ledger takes it. A clause sees the
 /// journal, the ledger's lists, and the number of value logs.
 ///
-/// Thread safety: one session holds it. Invariant between calls: `IsKept`, the disk holds exactly the ledger's
-/// transactions, and no batch is in progress.
+/// # Thread safety
+///
+/// None of its own: one session holds it. Calls that take `&self` change nothing.
+///
+/// # Invariants
+///
+/// `IsKept`, for one hash: the disk holds exactly the ledger's transactions, no batch is in progress, the journal
+/// counts no failure, and values are put over 1 to 4 value logs. `open_ledger` begins with it, and so does `over` a
+/// journal at rest that holds the ledger's transactions; `commit` and `link` keep it where they succeed.
 #[derive(Drop)]
 pub struct KeptLedger<D: Disk> {
     journal: Journal<D>,
@@ -35,15 +42,16 @@ impl<D: Disk> Model for KeptLedger<D> {
 }
 
 impl<D: Disk> KeptLedger<D> {
-    ghost use Rattle.std.specs.Prelude.{◌≡◌, ◌<◌, ◌≤◌, ◌+◌, [], ◌∷◌, ◌++◌, List, length, min, IfOk, OnOk};
+    ghost use Rattle.std.specs.Prelude.{◌≡◌, ◌<◌, ◌≤◌, ◌+◌, [], ◌∷◌, ◌++◌, List, length, min, IfOk, OnErr, OnOk};
     ghost use Rattle.im_digest.specs.Digests.{Hash};
+    ghost use Rattle.im_disk.specs.Grown.{Grows};
     ghost use Rattle.im_disk.specs.Moments.{Leaves, LeavesNow};
     ghost use Rattle.im_format.specs.Standing.{Stands};
     ghost use Rattle.im_format.specs.declared.records.Record.{Record};
     ghost use Rattle.im_journal.specs.Kept.{IsAtRest};
     ghost use Rattle.im_model.specs.History.{next_header, IsTransaction};
     ghost use Rattle.im_ledger.specs.Causes.{HasCommitCause};
-    ghost use Rattle.im_ledger.specs.Grown.{Grows};
+    ghost use Rattle.im_ledger.specs.Commits.{CommitMakes};
     ghost use Rattle.im_ledger.specs.Histories.{HasCommitted, IsKept, IsNextRecord, StandsWithin};
     ghost use Rattle.im_ledger.specs.Ledgers.{IsLedger};
 
@@ -75,8 +83,8 @@ impl<D: Disk> KeptLedger<D> {
     ///
     /// # Errors
     ///
-    /// After an error the ledger isn't used again; the disk then holds the history with the transaction or
-    /// without it.
+    /// After an error the ledger's lists are as they were, and it isn't used again; the disk then holds the
+    /// history with the transaction or without it.
     pub fn commit<H: Hash32>(
         &mut self,
         alloc: Global,
@@ -91,9 +99,11 @@ impl<D: Disk> KeptLedger<D> {
         ensures tree { OnOk result (self.new.held.tree ≡ self.old.held.tree) }
         ensures kept { OnOk result (IsKept D.told (H.digest hash.now) self.new) }
         ensures logs { self.new.logs ≡ self.old.logs }
+        ensures left { OnErr result (self.new.held ≡ self.old.held) }
         ensures put { (batches : List (List Record)) → IsAtRest D.told (H.digest hash.now) self.old.held.transactions batches self.old.journal
             → OnOk result (HasCommitted D.told (H.digest hash.now) self.new.held.transactions batches self.old.logs tx self.new.journal) }
         ensures any_moment { Leaves (StandsWithin (H.digest hash.now) self.old.held.transactions tx) (D.told self.old.journal.disk) (D.told self.new.journal.disk) }
+        ensures calls { CommitMakes D.told (H.digest hash.now) tx self.old self.new.journal result }
         ensures grows { Grows (D.told self.old.journal.disk) (D.told self.new.journal.disk) }
         ensures durable { OnOk result (LeavesNow (λ image. Stands (H.digest hash.now) image self.new.held.transactions) (D.told self.new.journal.disk)) }
         ensures cause { HasCommitCause (D.faults self.old.journal.disk) (D.faults self.new.journal.disk) result }
@@ -127,14 +137,15 @@ impl<D: Disk> KeptLedger<D> {
         Ok((header, vec![in alloc; record]?))
     }
 
-    /// Raises the tree by so many transactions, at most to the last one, and leaves the disk as it is. Its only
-    /// error is want of memory. After an error the ledger isn't used again.
+    /// Raises the tree by so many transactions, at most to the last one, and leaves the disk as it is. It hashes
+    /// the leaves that are added. Its only error is want of memory. After an error the ledger isn't used again.
     pub fn link<H: Hash32>(&mut self, hash: &H, count: u64) -> Result<(), AllocError>
         requires { IsLedger (H.digest hash.now) self.old.held }
         ensures journal { self.new.journal ≡ self.old.journal }
         ensures logs { self.new.logs ≡ self.old.logs }
-        ensures same { OnOk result (self.new.held.transactions ≡ self.old.held.transactions) }
+        ensures same { self.new.held.transactions ≡ self.old.held.transactions }
         ensures size { OnOk result (length self.new.held.tree ≡ min (length self.old.held.tree + count) (length self.old.held.transactions)) }
+        ensures ledger { OnOk result (IsLedger (H.digest hash.now) self.new.held) }
         ensures kept { IsKept D.told (H.digest hash.now) self.old → OnOk result (IsKept D.told (H.digest hash.now) self.new) }
     {
         self.ledger.link(hash, count)?;

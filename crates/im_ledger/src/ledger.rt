@@ -16,6 +16,16 @@ use std::marker::Model;
 /// A history in memory: the book of the transactions, with the header and the Alh of each, and the tree of the
 /// first of these Alh, whose root is kept (zeros where the tree is empty), as are its whole subtrees. So a
 /// header is made without the tree being hashed again. A clause sees the lists, and what is kept of the tree.
+///
+/// # Thread safety
+///
+/// None of its own: one session holds it. Calls that take `&self` change nothing.
+///
+/// # Invariants
+///
+/// `IsLedger`, for one hash: the lists are those of one history, the tree has the first Alh, at least as many as
+/// the tree of any transaction, and the subtrees and the root are those of this tree. `new` begins with it, and so
+/// does `from_records` over the records and headers of a history; `push` and `link` keep it where they succeed.
 #[derive(Drop)]
 pub struct Ledger {
     book: Book,
@@ -33,7 +43,7 @@ impl Model for Ledger {
 }
 
 impl Ledger {
-    ghost use Rattle.std.specs.Prelude.{◌≡◌, ◌+◌, ◌<◌, ◌≤◌, [], ◌∷◌, ◌++◌, length, map, min, IfErr, IfOk, None, OnOk, Some};
+    ghost use Rattle.std.specs.Prelude.{◌≡◌, ◌+◌, ◌<◌, ◌≤◌, [], ◌∷◌, ◌++◌, length, map, min, IfErr, IfOk, None, OnErr, OnOk, Some};
     ghost use Rattle.im_digest.specs.Digests.{Hash};
     ghost use Rattle.im_format.specs.Records.{AreRecords};
     ghost use Rattle.im_model.specs.Headers.{alh};
@@ -137,7 +147,7 @@ impl Ledger {
     }
 
     /// Judges preconditions against all transactions. It takes no memory. It costs, for each precondition, a
-    /// look at the entries from the last one back to the first of its key.
+    /// look at the entries from the last one back to its key's last version.
     ///
     /// # Errors
     ///
@@ -168,23 +178,25 @@ impl Ledger {
     }
 
     /// Takes a transaction behind the others, with its header and its Alh. It hashes nothing. Its only error is
-    /// want of memory.
+    /// want of memory, and the ledger is then as it was.
     pub fn push(&mut self, tx: Transaction, header: Header, digest: D32) -> Result<(), AllocError>
         ensures grown { OnOk result (self.new.transactions ≡ self.old.transactions ++ tx ∷ []) }
         ensures tree { OnOk result (self.new.tree ≡ self.old.tree) }
         ensures ledger { (hash : Hash) → IsLedger hash self.old → length self.old.transactions < 1048576 → IsTransaction (length self.old.transactions) tx
             → tx.bl ≡ length self.old.tree → header ≡ next_header hash self.old.alhs tx → digest ≡ alh hash header → OnOk result (IsLedger hash self.new) }
+        ensures left { OnErr result (self.new ≡ self.old) }
     {
         self.book.push(tx, header, digest)?;
         Ok(())
     }
 
     /// Raises the tree by so many transactions, at most to the last one, and takes its root. It hashes the
-    /// leaves that are added, and no other ones. Its only error is want of memory. After an error the ledger
-    /// isn't used again.
+    /// leaves that are added, and no other ones. Its only error is want of memory. After an error the tree may
+    /// have some of the leaves, and the ledger isn't used again.
     pub fn link<H: Hash32>(&mut self, hash: &H, count: u64) -> Result<(), AllocError>
         requires { IsLedger (H.digest hash.now) self.old }
-        ensures same { OnOk result (self.new.transactions ≡ self.old.transactions) }
+        ensures same { self.new.transactions ≡ self.old.transactions }
+        ensures kept { (self.new.headers ≡ self.old.headers) × (self.new.alhs ≡ self.old.alhs) }
         ensures size { OnOk result (length self.new.tree ≡ min (length self.old.tree + count) (length self.old.transactions)) }
         ensures ledger { OnOk result (IsLedger (H.digest hash.now) self.new) }
     {

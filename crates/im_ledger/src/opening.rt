@@ -1,5 +1,6 @@
-ghost use Rattle.std.specs.Prelude.{◌≡◌, ◌≤◌, List, length, IfErr, IfOk, Some, Err};
+ghost use Rattle.std.specs.Prelude.{◌≡◌, ◌≤◌, List, length, slice_index_or, IfErr, IfOk, MatchResult, Some, Err};
 ghost use Rattle.im_disk.specs.Disk.{Told, after, seen};
+ghost use Rattle.im_disk.specs.Grown.{Grows};
 ghost use Rattle.im_disk.specs.Moments.{Leaves};
 ghost use Rattle.im_disk.specs.declared.calls.Call.TheVariants.{Synced};
 ghost use Rattle.im_edge.specs.Counts.{Rose};
@@ -8,8 +9,7 @@ ghost use Rattle.im_format.specs.Standing.{Stands};
 ghost use Rattle.im_format.specs.declared.damages.Damage.{Damage};
 ghost use Rattle.im_model.specs.declared.transactions.Transaction.{Transaction};
 ghost use Rattle.im_mtree.specs.Checks.{first_fail};
-ghost use Rattle.im_opening.specs.Cut.{WasOpened};
-ghost use Rattle.im_ledger.specs.Grown.{Grows};
+ghost use Rattle.im_opening.specs.Cut.{IsOpenedBy, WasOpened};
 ghost use Rattle.im_ledger.specs.Histories.{IsKept};
 ghost use Rattle.im_ledger.specs.Openings.{SyncsAtMost};
 
@@ -24,6 +24,10 @@ use std::alloc::Global;
 
 /// Opens a disk as a ledger, whose values are put over so many value logs, 1 to 4, and whose tree holds all
 /// transactions that were found.
+///
+/// The disk gets a sync, six questions for a length, a read of each of the two logs and one of each value; and a
+/// write and a sync more where the gate behind the batches that count is missing or cut off. It hashes each value,
+/// entry and header once, and each leaf of the tree at most twice.
 ///
 /// # Errors
 ///
@@ -41,7 +45,10 @@ pub fn open_ledger<D: Disk, H: Hash32>(
     ensures stands { (t : Told) → D.told disk ≡ Some t → IfOk result (λ kept. Stands (H.digest hash.now) (seen t) kept.held.transactions) }
     ensures moments { (t : Told) → D.told disk ≡ Some t
         → IfOk result (λ kept. Leaves (λ image. Stands (H.digest hash.now) image kept.held.transactions) (Some (after Synced t)) (D.told kept.journal.disk)) }
+    ensures calls { (t : Told) → D.told disk ≡ Some t
+        → IfOk result (λ kept. IsOpenedBy (slice_index_or kept.journal.ends 1 0) t (D.told kept.journal.disk)) }
     ensures grows { (t : Told) → D.told disk ≡ Some t → IfOk result (λ kept. Grows (Some (after Synced t)) (D.told kept.journal.disk)) }
+    ensures grown { MatchResult result (λ kept. Grows (D.told disk) (D.told kept.journal.disk)) (λ failed. Grows (D.told disk) (D.told failed.disk)) }
     ensures faults { IfOk result (λ kept. D.faults kept.journal.disk ≡ D.faults disk) }
     ensures off { (t : Told) (history : List Transaction) → D.told disk ≡ Some t → Stands (H.digest hash.now) (seen t) history
         → IfErr result (λ failed. WasOpened (H.digest hash.now) history t (D.told failed.disk)) }

@@ -1,9 +1,11 @@
-use Rattle.std.proofs.Common.{◌≡◌, ◌∙◌, ◌+◌, ℕ, length, refl, ap, inl}
+use Rattle.std.proofs.Common.{arith, ◌≡◌, ◌∙◌, ◌+◌, ℕ, length, refl, ap, subst, inl}
 use Rattle.im_disk.specs.Moments.{Leaves}
-use Rattle.im_journal.specs.Kept.{StandsBy}
-use Rattle.im_journal.specs.declared.batches.Step.TheVariants.{Gated}
+use Rattle.im_disk.proofs.Growing.{grows_both}
+use Rattle.im_journal.specs.Kept.{HasStaged, StandsBy}
+use Rattle.im_journal.specs.declared.batches.Step.TheVariants.{Idle, Staged, Gated}
 use Rattle.im_ledger.proofs.DurableLemmas.{at-last, one-more}
-use Rattle.im_ledger.proofs.GrownLemmas.{grows-both, step-grows}
+use Rattle.im_ledger.proofs.GrownLemmas.{step-grows}
+use Rattle.im_ledger.proofs.MadeLemmas.{sealed-all, settles, staged-all, stops-sealing, stops-settling, stops-staging}
 use Rattle.im_ledger.proofs.durable.make_durable.Goals as goal
 
 pub returns-in_err-stage-clause-any_moment : goal.returns-in_err-stage-clause-any_moment
@@ -98,7 +100,7 @@ returns-in_err-seal-clause-grows g c =
     let old = c.args.journal.now in
     let staged = c.stage.new.self in
     let sealed = c.seal.new.self in
-    grows-both (told old.disk) (told staged.disk) (told sealed.disk)
+    grows_both (told old.disk) (told staged.disk) (told sealed.disk)
     (step-grows told _ _ old staged c.stage.result c.stage.ensures.calls c.stage.ensures.stopped c.stage.ensures.going)
     (step-grows told _ _ staged sealed c.seal.result c.seal.ensures.calls c.seal.ensures.stopped c.seal.ensures.going)
 
@@ -109,8 +111,8 @@ returns-in_err-settle-clause-grows g c =
     let staged = c.stage.new.self in
     let sealed = c.seal.new.self in
     let settled = c.settle.new.self in
-    grows-both (told old.disk) (told sealed.disk) (told settled.disk)
-    (grows-both (told old.disk) (told staged.disk) (told sealed.disk)
+    grows_both (told old.disk) (told sealed.disk) (told settled.disk)
+    (grows_both (told old.disk) (told staged.disk) (told sealed.disk)
     (step-grows told _ _ old staged c.stage.result c.stage.ensures.calls c.stage.ensures.stopped c.stage.ensures.going)
     (step-grows told _ _ staged sealed c.seal.result c.seal.ensures.calls c.seal.ensures.stopped c.seal.ensures.going))
     (step-grows told _ _ sealed settled c.settle.result c.settle.ensures.calls c.settle.ensures.stopped c.settle.ensures.going)
@@ -122,8 +124,52 @@ returns-clause-grows g c =
     let staged = c.stage.new.self in
     let sealed = c.seal.new.self in
     let settled = c.settle.new.self in
-    grows-both (told old.disk) (told sealed.disk) (told settled.disk)
-    (grows-both (told old.disk) (told staged.disk) (told sealed.disk)
+    grows_both (told old.disk) (told sealed.disk) (told settled.disk)
+    (grows_both (told old.disk) (told staged.disk) (told sealed.disk)
     (step-grows told _ _ old staged c.stage.result c.stage.ensures.calls c.stage.ensures.stopped c.stage.ensures.going)
     (step-grows told _ _ staged sealed c.seal.result c.seal.ensures.calls c.seal.ensures.stopped c.seal.ensures.going))
     (step-grows told _ _ sealed settled c.settle.result c.settle.ensures.calls c.settle.ensures.stopped c.settle.ensures.going)
+
+pub returns-in_err-stage-clause-calls : goal.returns-in_err-stage-clause-calls
+returns-in_err-stage-clause-calls g c =
+    stops-staging g.D.Disk.told c.args.journal.now c.args.records.now _ _ c.stage.new.self _ c.from_residual.result c.in_err-stage.field-0.0 c.requires.next.3.idle
+    (λ faults is. absurd (omega (arith, c.requires.going, c.in_err-stage.ensures.going faults is))) c.from_residual.ensures.1 c.in_err-stage.ensures.calls
+
+pub returns-in_err-seal-clause-calls : goal.returns-in_err-seal-clause-calls
+returns-in_err-seal-clause-calls g c =
+    let told = g.D.Disk.told in
+    let old = c.args.journal.now in
+    let staged = c.stage.new.self in
+    let idle : old.batch.step ≡ Idle = c.requires.next.3.idle in
+    let zero : staged.failures ≡ 0 = c.in_ok-stage.ensures.counted.failures (λ e. cc) ∙ c.requires.going in
+    stops-sealing told old c.args.records.now _ _ staged c.seal.new.self _ c.from_residual-in_err-seal.result c.in_err-seal.field-0.0
+    (staged-all told old c.args.records.now _ _ _ (told staged.disk) idle c.in_ok-stage.ensures.calls) (c.in_ok-stage.ensures.step (λ has. subst HasStaged idle has))
+    (λ faults is. absurd (omega (arith, zero, c.in_err-seal.ensures.going faults is))) c.from_residual-in_err-seal.ensures.1 c.in_err-seal.ensures.calls
+
+pub returns-in_err-settle-clause-calls : goal.returns-in_err-settle-clause-calls
+returns-in_err-settle-clause-calls g c =
+    let told = g.D.Disk.told in
+    let old = c.args.journal.now in
+    let staged = c.stage.new.self in
+    let sealed = c.seal.new.self in
+    let idle : old.batch.step ≡ Idle = c.requires.next.3.idle in
+    let step : staged.batch.step ≡ Staged = c.in_ok-stage.ensures.step (λ has. subst HasStaged idle has) in
+    let zero : sealed.failures ≡ 0 = c.in_ok-seal.ensures.counted.failures (λ e. cc) ∙ c.in_ok-stage.ensures.counted.failures (λ e. cc) ∙ c.requires.going in
+    stops-settling told old c.args.records.now _ _ staged sealed c.settle.new.self _ c.from_residual-in_err-settle.result c.in_err-settle.field-0.0
+    (staged-all told old c.args.records.now _ _ _ (told staged.disk) idle c.in_ok-stage.ensures.calls)
+    (sealed-all told old c.args.records.now _ _ staged.batch.step _ (told staged.disk) (told sealed.disk) step c.in_ok-seal.ensures.calls)
+    (c.in_ok-seal.ensures.step step) (c.seal.ensures.kept.0 ∙ c.stage.ensures.kept.0)
+    (λ faults is. absurd (omega (arith, zero, c.in_err-settle.ensures.going faults is))) c.from_residual-in_err-settle.ensures.1 c.in_err-settle.ensures.calls
+
+pub returns-clause-calls : goal.returns-clause-calls
+returns-clause-calls g c =
+    let told = g.D.Disk.told in
+    let old = c.args.journal.now in
+    let staged = c.stage.new.self in
+    let sealed = c.seal.new.self in
+    let idle : old.batch.step ≡ Idle = c.requires.next.3.idle in
+    let step : staged.batch.step ≡ Staged = c.in_ok-stage.ensures.step (λ has. subst HasStaged idle has) in
+    settles told old c.args.records.now _ _ _ _ staged sealed c.settle.new.self _
+    (staged-all told old c.args.records.now _ _ _ (told staged.disk) idle c.in_ok-stage.ensures.calls)
+    (sealed-all told old c.args.records.now _ _ staged.batch.step _ (told staged.disk) (told sealed.disk) step c.in_ok-seal.ensures.calls)
+    (c.in_ok-seal.ensures.step step) (c.seal.ensures.kept.0 ∙ c.stage.ensures.kept.0) c.in_ok-settle.ensures.calls

@@ -1,14 +1,14 @@
-use Rattle.std.proofs.Common.{◌≡◌, List, length, map, ap, subst, sym, ◌∙◌, Option, Some, inr}
+use Rattle.std.proofs.Common.{◌≡◌, List, length, get_or, map, ap, subst, sym, ◌∙◌, Option, Some, inr}
 use Rattle.im_digest.specs.Digests.{Hash}
 use Rattle.im_disk.specs.Disk.{Told, after}
+use Rattle.im_disk.specs.Grown.{Grows}
 use Rattle.im_disk.specs.Moments.{Leaves}
 use Rattle.im_disk.specs.declared.calls.Call.TheVariants.{Synced}
 use Rattle.im_format.specs.Standing.{Stands}
 use Rattle.im_journal.specs.Kept.{Kept}
 use Rattle.im_model.specs.declared.transactions.Transaction.{Transaction}
-use Rattle.im_opening.specs.Cut.{WasOpened}
-use Rattle.im_recovery.proofs.FoundLemmas.{if-err}
-use Rattle.im_ledger.specs.Grown.{Grows}
+use Rattle.im_opening.specs.Cut.{IsOpenedBy, WasOpened}
+use Rattle.im_recovery.proofs.FoundLemmas.{if-err, match-err}
 use Rattle.im_ledger.specs.Ledgers.{Held}
 use Rattle.im_ledger.proofs.GrownLemmas.{opened-grows}
 use Rattle.im_ledger.proofs.OpenLemmas.{found-filled, leaves-same}
@@ -39,6 +39,11 @@ returns-in-Ok-clause-grows g c = λ t told.
     subst O (sym c.over.ensures.given.0)
     (opened-grows _ t (g.D.Disk.told c.in_ok-journal.field-0.journal.disk) (c.in_ok-journal.ensures.calls t told))
 
+pub returns-in-Ok-clause-calls : goal.returns-in-Ok-clause-calls
+returns-in-Ok-clause-calls g c = λ t told.
+    let O : Kept g.row.D.Denot → Type 0 = λ j. IsOpenedBy (get_or j.ends 1 0) t (g.D.Disk.told j.disk) in
+    subst O (sym c.over.ensures.given.0) (c.in_ok-journal.ensures.calls t told)
+
 pub returns-in-Ok-clause-one : goal.returns-in-Ok-clause-one
 returns-in-Ok-clause-one g c = λ t history told stands.
     ap (λ (h : Held). h.transactions) c.over.ensures.given.1 ∙ c.in-Ok.ensures.transactions ∙ c.in_ok-journal.ensures.one t history told stands
@@ -54,3 +59,16 @@ returns-in-Err-clause-off g c = λ t history told stands.
 pub returns-in_err-journal-clause-sound : goal.returns-in_err-journal-clause-sound
 returns-in_err-journal-clause-sound g c = λ t history damage told stands.
     if-err _ c.from_residual.result c.in_err-journal.field-0.0 c.from_residual.ensures.1 (c.in_err-journal.ensures.sound t history damage told stands)
+
+pub returns-in-Ok-clause-grown : goal.returns-in-Ok-clause-grown
+returns-in-Ok-clause-grown g c =
+    let O : Kept g.row.D.Denot → Type 0 = λ j. Grows (g.D.Disk.told c.args.disk) (g.D.Disk.told j.disk) in
+    subst O (sym c.over.ensures.given.0) c.in_ok-journal.ensures.grows
+
+pub returns-in-Err-clause-grown : goal.returns-in-Err-clause-grown
+returns-in-Err-clause-grown g c =
+    let O : g.row.D.Denot → Type 0 = λ d. Grows (g.D.Disk.told c.args.disk) (g.D.Disk.told d) in
+    subst O (sym c.into_disk.ensures) c.in_ok-journal.ensures.grows
+
+pub returns-in_err-journal-clause-grown : goal.returns-in_err-journal-clause-grown
+returns-in_err-journal-clause-grown g c = match-err _ _ c.from_residual.result c.in_err-journal.field-0.0 c.from_residual.ensures.1 c.in_err-journal.ensures.grows

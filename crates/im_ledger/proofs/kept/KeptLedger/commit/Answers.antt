@@ -1,11 +1,13 @@
-use Rattle.std.proofs.Common.{◌≡◌, ◌∙◌, List, [], ◌∷◌, ◌++◌, length, arith, sym, ap, subst}
+use Rattle.std.proofs.Common.{◌≡◌, ◌∙◌, List, [], ◌∷◌, ◌++◌, length, arith, refl, sym, ap, subst, inl}
 use Rattle.im_digest.specs.Digests.{Hash}
 use Rattle.im_format.specs.declared.records.Record.{Record}
 use Rattle.im_model.specs.declared.transactions.Transaction.{Transaction}
 use Rattle.im_ledger.specs.Histories.{KeptHistory}
 use Rattle.im_ledger.specs.Ledgers.{Held}
+use Rattle.im_ledger.specs.declared.errors.CommitError.TheVariants.{Memory}
 use Rattle.im_ledger.proofs.CommitLemmas.{CanCommit, next-committed, next-follows, next-kept, next-leaves, next-rests, only, taken}
 use Rattle.im_ledger.proofs.GrowLemmas.{kept-images, kept-stays}
+use Rattle.im_ledger.proofs.MadeLemmas.{committed-makes, err-is, same-error, unplaced-makes}
 use Rattle.im_ledger.proofs.kept.KeptLedger.commit.Goals as goal
 
 pub returns-in_err-header-clause-any_moment : goal.returns-in_err-header-clause-any_moment
@@ -152,3 +154,42 @@ returns-clause-put g c batches resting =
     let grown : c.push.new.self.transactions ≡ k.held.transactions ++ c.args.tx ∷ [] =
     c.in_ok-push.ensures.grown ∙ ap (λ (h : Held). h.transactions ++ c.unwrap-tx.result.tx ∷ []) held ∙ ap (λ (t : Transaction). k.held.transactions ++ t ∷ []) tx_is in
     next-committed told hash k c.args.tx can batches resting rs r is batch.2 c.push.new.self.transactions grown c.make_durable.new.journal settled.0
+
+pub returns-in_err-header-clause-calls : goal.returns-in_err-header-clause-calls
+returns-in_err-header-clause-calls g c = inl (err-is c.from_residual.result Memory c.from_residual.ensures.1, refl)
+
+pub returns-in_err-make_durable-clause-calls : goal.returns-in_err-make_durable-clause-calls
+returns-in_err-make_durable-clause-calls g c =
+    let told = g.D.Disk.told in
+    let same = ap (λ (x : KeptHistory g.row.D.Denot). x.journal) c.self.view_is in
+    let batch = c.in_ok-header.ensures.batch in
+    let r : Record = batch.0 in
+    let rs : List Record = c.as_slice.result.now in
+    let is : rs ≡ r ∷ [] = c.as_slice.ensures.value ∙ batch.1 in
+    let result = c.from_residual-in_err-make_durable.result in
+    let made = same-error told rs c.self.inside.journal c.make_durable.new.journal c.in_err-make_durable.field-0.0 result
+    c.from_residual-in_err-make_durable.ensures.1 c.in_err-make_durable.ensures.calls in
+    committed-makes told (g.H.Hash32.digest c.args.hash.now) c.args.tx c.args.self.now c.make_durable.new.journal c.self.inside.journal same rs r is batch.2 result made
+
+pub returns-in_err-push-clause-calls : goal.returns-in_err-push-clause-calls
+returns-in_err-push-clause-calls g c =
+    let told = g.D.Disk.told in
+    let same = ap (λ (x : KeptHistory g.row.D.Denot). x.journal) c.self.view_is in
+    let batch = c.in_ok-header.ensures.batch in
+    let r : Record = batch.0 in
+    let rs : List Record = c.as_slice.result.now in
+    let is : rs ≡ r ∷ [] = c.as_slice.ensures.value ∙ batch.1 in
+    let result = c.from_residual-in_err-push.result in
+    let made = unplaced-makes told rs c.self.inside.journal c.make_durable.new.journal _ result c.from_residual-in_err-push.ensures.1 c.in_ok-make_durable.ensures.calls in
+    committed-makes told (g.H.Hash32.digest c.args.hash.now) c.args.tx c.args.self.now c.make_durable.new.journal c.self.inside.journal same rs r is batch.2 result made
+
+pub returns-clause-calls : goal.returns-clause-calls
+returns-clause-calls g c =
+    let told = g.D.Disk.told in
+    let same = ap (λ (x : KeptHistory g.row.D.Denot). x.journal) c.self.view_is in
+    let batch = c.in_ok-header.ensures.batch in
+    let r : Record = batch.0 in
+    let rs : List Record = c.as_slice.result.now in
+    let is : rs ≡ r ∷ [] = c.as_slice.ensures.value ∙ batch.1 in
+    committed-makes told (g.H.Hash32.digest c.args.hash.now) c.args.tx c.args.self.now c.make_durable.new.journal c.self.inside.journal same rs r is batch.2 _
+    c.in_ok-make_durable.ensures.calls
