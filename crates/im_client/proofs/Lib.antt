@@ -1,3 +1,4 @@
 pub mod NamedLemmas
 pub mod OutcomeLemmas
 pub mod TextLemmas
+pub mod OutcomeSome

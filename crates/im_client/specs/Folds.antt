@@ -59,12 +59,13 @@ IsRefused (Refused fault) = Unit {0}
 IsRefused Passed = ⊥
 IsRefused (Accepted message) = ⊥
 
--- the canonical texts of the accepted messages, in order
+-- the one text of an accepted message, as a list; none of another outcome
 abbrev pub kept_text : Outcome → List (List ℕ)
 kept_text Passed = []
 kept_text (Accepted message) = text message ∷ []
 kept_text (Refused fault) = []
 
+-- those of outcomes, in order
 abbrev pub kept_texts : List Outcome → List (List ℕ)
 kept_texts [] = []
 kept_texts (outcome ∷ outcomes) = kept_text outcome ++ kept_texts outcomes

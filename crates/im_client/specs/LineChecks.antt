@@ -14,7 +14,7 @@ use Rattle.im_wire.specs.declared.messages.Message.TheVariants as says
 use Rattle.im_client.specs.declared.faults.LineFault.{LineFault}
 use Rattle.im_client.specs.declared.faults.LineFault.TheVariants.{State, StateId, StateAlh, NoState, SourceId, SourceAlh, TargetId, TargetAlh, Dual, AnchorMissing, AnchorExtra, AnchorSourceId, AnchorTargetId, AnchorSourceAlh, AnchorTargetAlh, Anchor, Path}
 
--- a state: its header, and that it is the kept one where one is kept
+-- a state is the kept one, by its number and its Alh, where one is kept
 abbrev pub same_state_checks : Hash → Option Header → Header → List (Check LineFault)
 same_state_checks hash None header = []
 same_state_checks hash (Some kept) header =
@@ -22,6 +22,7 @@ same_state_checks hash (Some kept) header =
     ∷ (bytes_eq (alh hash header) (alh hash kept), StateAlh (alh hash kept) (alh hash header))
     ∷ []
 
+-- a state: its header, and that it is the kept one where one is kept
 abbrev pub state_checks : Hash → Option Header → Header → List (Check LineFault)
 state_checks hash kept header = as_faults State (header_checks header) ++ same_state_checks hash kept header
 
@@ -58,8 +59,8 @@ advance_line_checks hash kept p anchor =
     ∷ (bytes_eq (alh hash p.source) (alh hash kept), SourceAlh (alh hash kept) (alh hash p.source))
     ∷ (as_faults Dual (dual_checks hash p) ++ anchor_checks hash p anchor)
 
--- a message under the kept state; only a state is one where none is kept. An item's entry is in the
--- source's transaction, whose header gives the width of the tree.
+-- the checks of a message under the kept state; where none is kept every message but a state fails. An item's entry
+-- is in the source's transaction, whose header gives the width of the tree.
 abbrev pub line_checks : Hash → Option Header → Message → List (Check LineFault)
 line_checks hash kept (says.State header) = state_checks hash kept header
 line_checks hash None (says.Dual dual) = (false, NoState) ∷ []

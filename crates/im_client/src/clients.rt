@@ -14,6 +14,15 @@ use std::alloc::{AllocError, Global};
 use std::marker::Model;
 
 /// A client that keeps one state: a header, or none yet. A clause sees that state.
+///
+/// # Thread safety
+///
+/// None of its own: one run of `verify` holds it. `judge` takes `&self` and changes nothing.
+///
+/// # Invariants
+///
+/// The state is the one that the outcomes lead to which the client followed, from none on: `state_by` at each call
+/// of `follow`, and nothing else changes it.
 #[derive(Drop)]
 pub struct Client {
     state: Option<Header>,
@@ -44,7 +53,8 @@ impl Client {
     }
 
     /// What becomes of a line of a stream, without its LF, under the kept state. The client stays as it is
-    /// until it follows the outcome. The only error is want of memory.
+    /// until it follows the outcome. It reads the line into a message, whose checks cost what `check_message`
+    /// says. The only error is want of memory.
     pub fn judge<H: Hash32>(
         &self,
         alloc: Global,
@@ -67,7 +77,7 @@ impl Client {
     }
 
     /// Follows the outcome of a line: an accepted state becomes the kept one where none is kept, and the
-    /// target of an accepted advance does.
+    /// target of an accepted advance does. The header is moved, and nothing is hashed.
     pub fn follow(&mut self, outcome: Outcome)
         ensures { self.new ≡ state_by self.old outcome }
     {

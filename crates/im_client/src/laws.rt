@@ -15,3 +15,13 @@ pub fn one_outcome()
 pub fn one_fold()
     ensures { (hash : Hash) (kept : Option Header) (lines : List (List ℕ)) (a b : List Outcome) → IsFold hash kept lines a → IsFold hash kept lines b → a ≡ b }
 {}
+
+/// Of each line something becomes.
+pub fn each_line_has_an_outcome()
+    ensures { (hash : Hash) (kept : Option Header) (line : List ℕ) → (outcome : Outcome) × IsOutcome hash kept line outcome }
+{}
+
+/// Of lines, one after the other, too.
+pub fn lines_have_a_fold()
+    ensures { (hash : Hash) (kept : Option Header) (lines : List (List ℕ)) → (outcomes : List Outcome) × IsFold hash kept lines outcomes }
+{}

@@ -68,27 +68,52 @@ fn refuses(
     writes(rt, &[state, line], &wanted)
 }
 
+// Asserts that a client that keeps a state refuses a line in which one part at a time is another, each as
+// told behind these words.
+fn refuses_each(
+    rt: &(impl Abort + Alloc<A = Global>),
+    (state, id): (&str, u64),
+    line: &str,
+    words: &str,
+    changes: &[(&str, &str, &str)],
+) -> Result<(), Fail> {
+    for (part, other, told) in changes {
+        let line = line.replace(rt.alloc(), part, other)?;
+        let told = format!(in rt.alloc(); "{words}{told}")?;
+        refuses(rt, state, id, &line, &told)?;
+    }
+    Ok(())
+}
+
 // A history of transactions with one entry each, placed at time 1. Their Alh are <10>, <20> and so on.
 // The first two have no tree, the third one has the tree of the first, and the seventh that of five:
 // 1 + (1 + (1 + 10 + 20) + (1 + 30 + 40)) + 50 is f4.
 
-const STATE_2: &str = "\
+fn state_2() -> &'static str {
+    "\
     {'header':{'blRoot':'<00>','blTxId':0,'eh':'<0b>','id':2,'md':'','nentries':1,\
-    'prevAlh':'<10>','ts':1,'version':1},'type':'state'}";
+    'prevAlh':'<10>','ts':1,'version':1},'type':'state'}"
+}
 
-const STATE_3: &str = "\
+fn state_3() -> &'static str {
+    "\
     {'header':{'blRoot':'<10>','blTxId':1,'eh':'<f9>','id':3,'md':'','nentries':1,\
-    'prevAlh':'<20>','ts':1,'version':1},'type':'state'}";
+    'prevAlh':'<20>','ts':1,'version':1},'type':'state'}"
+}
 
-const STATE_7: &str = "\
+fn state_7() -> &'static str {
+    "\
     {'header':{'blRoot':'<f4>','blTxId':5,'eh':'<0d>','id':7,'md':'','nentries':1,\
-    'prevAlh':'<60>','ts':1,'version':1},'type':'state'}";
+    'prevAlh':'<60>','ts':1,'version':1},'type':'state'}"
+}
 
 // The dual proof from the third transaction to the seventh.
-const PROOF: &str = "\
+fn proof() -> &'static str {
+    "\
     {'consistency':['<10>','<20>','<71>','<50>'],'inclusion':['<40>','<31>','<50>'],\
     'lastInclusion':['<a3>'],'linear':['<50>','<0a>','<09>'],'linearAdvance':{\
     'inclusions':[['<10>','<71>','<50>']],'terms':['<20>','<0d>']},'source':{\
     'blRoot':'<10>','blTxId':1,'eh':'<f9>','id':3,'md':'','nentries':1,'prevAlh':'<20>',\
     'ts':1,'version':1},'target':{'blRoot':'<f4>','blTxId':5,'eh':'<0d>','id':7,'md':'',\
-    'nentries':1,'prevAlh':'<60>','ts':1,'version':1},'targetBlTxAlh':'<50>'}";
+    'nentries':1,'prevAlh':'<60>','ts':1,'version':1},'targetBlTxAlh':'<50>'}"
+}

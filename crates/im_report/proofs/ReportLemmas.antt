@@ -57,21 +57,6 @@ IsAnswer-grow hash h more (Item t i None) n reply within a = read-grow (λ hs. i
 IsAnswer-grow hash h more (Item t i (Some s)) n reply within a = read-grow (λ hs. item_reply hash hs t i s) h more n reply within a
 IsAnswer-grow hash h more (Link count) n reply within a = a
 
--- nothing is written for no line
-pub Report-first : (hash : Hash) → Report hash [] [] [] []
-Report-first hash = record {
-  history = record { few = omega arith; follow = tt };
-  answers = [];
-  lines_are = refl;
-  octets_are = refl;
-  each = λ i d h. absurd (omega arith);
-  begins = refl;
-  placed = refl;
-  within = λ i d h. absurd (omega arith);
-  rising = λ i j d below h. absurd (omega arith);
-  floor = refl;
-}
-
 -- a line's octets are added at the end
 octets-next : (octets : List ℕ) (answers : List Answered) (a : Answered) → octets ≡ flat_map written answers → octets ++ written a ≡ flat_map written (answers ++ a ∷ [])
 octets-next octets answers a e =
@@ -177,11 +162,6 @@ Report-next hash h0 h more lines octets a r answer number count floor history =
 pub record Standing (hash : Hash) (h0 h : List Transaction) (lines : List Line) (octets : List ℕ) (size : ℕ) : Type 0 where
   pub report : Report hash h0 h lines octets
   pub size_is : floor_after (length h0) report.answers ≡ size
-
--- no line, and no tree
-pub Standing-first : (hash : Hash) → Standing hash [] [] [] [] 0
-unfolding Report-first
-Standing-first hash = record { report = Report-first hash; size_is = refl }
 
 -- One line more is answered: what it placed is over the tree as it was, and the tree is then as large as
 -- the line makes it.

@@ -9,7 +9,7 @@ use im_versions::versions::Version;
 use std::alloc::{AllocError, Global};
 
 /// Adds a text, and then octets as they are printed: as they are where they are a bare word, else as `0x`
-/// and lower-case hex. Where memory is refused a part may have been added.
+/// and lower-case hex. Where memory ran out a part may have been added.
 #[tactic(auto, unfolding(crate::specs::Reads::octets_text))]
 pub fn push_octets(
     alloc: Global,

@@ -61,7 +61,7 @@ pub fn beyond_text(alloc: Global, n: u64) -> Result<Vec<u8>, AllocError>
     with_number(alloc, b"refused beyond ", n)
 }
 
-/// The reply that shows a header: `header <alh> <header>`.
+/// The reply that shows a header: `header <alh> <header>`. It hashes the header, which takes two hashes.
 #[tactic(auto, unfolding(crate::specs::Replies::shown_header))]
 pub fn header_shown<H: Hash32>(
     alloc: Global,

@@ -21,7 +21,7 @@ asked-parts text pre pres drafts (front, back, e, (field, more, begins, is, p), 
     (field, more ++ back, whole, asked-end more back pres drafts p f, is, (more, back, refl, p, f))
 
 -- entries alone are asked for without a precondition
-asked-fields : (text : List ℕ) (drafts : List Draft) → AreFields text drafts → AreAsked text [] drafts
+pub asked-fields : (text : List ℕ) (drafts : List Draft) → AreFields text drafts → AreAsked text [] drafts
 asked-fields text drafts f = ([], text, refl, refl, f)
 
 fields-asked : (text : List ℕ) (drafts : List Draft) → AreAsked text [] drafts → AreFields text drafts
@@ -44,7 +44,7 @@ first-asked text fields field behind pre pres drafts begins first asked =
     (subst (λ (t : List ℕ). IsPre t pre) parts.0 is, subst (λ (t : List ℕ). AreAsked t pres drafts) parts.1 rest)
 
 -- where the first field is a precondition, it is the first that is asked for
-only-next : (text fields field behind : List ℕ) (pre : Pre) → text ≡ 32 ∷ fields → IsFirstField fields field behind → IsPre field pre → (pres : List Pre) (drafts : List Draft) → AreAsked text pres drafts → (more : List Pre) × (pres ≡ pre ∷ more) × AreAsked behind more drafts
+pub only-next : (text fields field behind : List ℕ) (pre : Pre) → text ≡ 32 ∷ fields → IsFirstField fields field behind → IsPre field pre → (pres : List Pre) (drafts : List Draft) → AreAsked text pres drafts → (more : List Pre) × (pres ≡ pre ∷ more) × AreAsked behind more drafts
 only-next text fields field behind pre begins first is [] drafts asked =
     absurd (pre-no-fields text fields field behind pre drafts begins first is (fields-asked text drafts asked))
 only-next text fields field behind pre begins first is (p ∷ pres) drafts asked =
@@ -63,7 +63,8 @@ none-unspaced text unspaced [] drafts asked = (refl, fields-asked text drafts as
 none-unspaced text unspaced (p ∷ pres) drafts asked =
     let parts = asked-parts text p pres drafts asked in absurd (unspaced (parts.0 ++ parts.1) parts.2)
 
-asked-next : (text fields field behind : List ℕ) (pre : Pre) (pres : List Pre) (drafts : List Draft) → text ≡ 32 ∷ fields → IsFirstField fields field behind → IsPre field pre → AreAsked behind pres drafts → AreAsked text (pre ∷ pres) drafts
+-- a precondition more is asked for, in front of what the rest asks for
+pub asked-next : (text fields field behind : List ℕ) (pre : Pre) (pres : List Pre) (drafts : List Draft) → text ≡ 32 ∷ fields → IsFirstField fields field behind → IsPre field pre → AreAsked behind pres drafts → AreAsked text (pre ∷ pres) drafts
 asked-next text fields field behind pre pres drafts begins first is (front, back, e, p, f) =
     let fields-are : fields ≡ field ++ front ++ back = first.1 ∙ ap (λ (t : List ℕ). field ++ t) e ∙ sym (append_assoc field front back) in
     (32 ∷ field ++ front, back, begins ∙ ap (λ (t : List ℕ). 32 ∷ t) fields-are, (field, front, refl, is, p), f)

@@ -8,3 +8,6 @@ pub mod CommandLemmas
 pub mod LineLemmas
 pub mod Unique
 pub mod ScriptLemmas
+pub mod Decisions
+pub mod FieldsDecided
+pub mod ScriptDecided

@@ -61,7 +61,8 @@ fields-bad-field rest fields field behind begins first none [] h = no-space fiel
 fields-bad-field rest fields field behind begins first none (draft ∷ drafts) h =
     none draft (subst (λ (t : List ℕ). IsField t draft) (next-parts rest fields field behind draft drafts begins first h).0 h.3)
 
-fields-bad-behind : (rest fields field behind : List ℕ) → rest ≡ 32 ∷ fields → IsFirstField fields field behind → ((tail : List Draft) → AreFields behind tail → ⊥) → (all : List Draft) → AreFields rest all → ⊥
+-- nor where what stands behind that is none
+pub fields-bad-behind : (rest fields field behind : List ℕ) → rest ≡ 32 ∷ fields → IsFirstField fields field behind → ((tail : List Draft) → AreFields behind tail → ⊥) → (all : List Draft) → AreFields rest all → ⊥
 fields-bad-behind rest fields field behind begins first none [] h = no-space fields (sym h ∙ begins)
 fields-bad-behind rest fields field behind begins first none (draft ∷ drafts) h =
     none drafts (subst (λ (t : List ℕ). AreFields t drafts) (next-parts rest fields field behind draft drafts begins first h).1 h.4)

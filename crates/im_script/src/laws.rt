@@ -1,7 +1,7 @@
 //! What holds of scripts by the grammar alone: with the clauses of `read_script` it says exactly which
 //! answer each octet string gets where memory is left.
 
-ghost use Rattle.std.specs.Prelude.{◌≡◌, ℕ, List};
+ghost use Rattle.std.specs.Prelude.{◌≡◌, ◌⊎◌, ℕ, List};
 ghost use Rattle.im_script.specs.declared.commands.Line.{Line};
 ghost use Rattle.im_script.specs.Script.{IsLine, IsScript, StopsAfter};
 
@@ -23,4 +23,9 @@ pub fn one_stop()
 /// A text says one line at most.
 pub fn one_line()
     ensures { (text : List ℕ) (a b : Line) → IsLine text a → IsLine text b → a ≡ b }
+{}
+
+/// Octets are a script, or they stop at a line.
+pub fn one_of_both()
+    ensures { (octets : List ℕ) → ((lines : List Line) × IsScript octets lines) ⊎ ((n : ℕ) × StopsAfter octets n) }
 {}

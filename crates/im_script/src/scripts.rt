@@ -11,7 +11,7 @@ use std::alloc::{AllocError, Global};
 /// Why a script wasn't read.
 #[derive(Debug, Drop)]
 pub enum ScriptError {
-    /// No memory was left.
+    /// Memory ran out.
     Memory,
     /// The number, from 1, of the first line that isn't in the grammar. Empty lines and comments count too.
     Line(u64),

@@ -54,6 +54,22 @@ fn is_missing(pre: &Pre, wanted: &[u8]) -> bool {
     }
 }
 
+// Whether a precondition is that the key is live.
+fn is_exists(pre: &Pre, wanted: &[u8]) -> bool {
+    match pre {
+        Pre::Exists { key } => key.as_slice() == wanted,
+        _ => false,
+    }
+}
+
+// Whether a precondition is that the key has no version behind transaction `number`.
+fn is_since(pre: &Pre, wanted: &[u8], number: u64) -> bool {
+    match pre {
+        Pre::Since { key, n } => key.as_slice() == wanted && *n == number,
+        _ => false,
+    }
+}
+
 #[test]
 fn a_set_and_a_header(rt: HostRuntime) -> Result<(), Fail> {
     let lines = read_script(
@@ -102,14 +118,10 @@ fn a_set_under_a_missing_key(rt: HostRuntime) -> Result<(), Fail> {
 #[test]
 fn a_set_under_two_preconditions(rt: HostRuntime) -> Result<(), Fail> {
     let line = read_line(rt.alloc(), b"a: set exists:z since:k@1 z=1")?.ok_or("refused")?;
-    match pres_of(&line) {
-        [Pre::Exists { key: first }, Pre::Since { key: second, n }] => {
-            assert!(rt; first.as_slice() == b"z".as_slice());
-            assert!(rt; second.as_slice() == b"k".as_slice());
-            assert_eq!(rt; *n, 1);
-        }
-        _ => assert!(rt; false, "other preconditions"),
-    }
+    let pres = pres_of(&line);
+    assert_eq!(rt; pres.len(), 2);
+    assert!(rt; is_exists(&pres[0], b"z"));
+    assert!(rt; is_since(&pres[1], b"k", 1));
     let drafts = drafts_of(&line).ok_or("no set")?;
     assert_eq!(rt; drafts.len(), 1);
     assert!(rt; is_draft(&drafts[0], b"z", b"1"));

@@ -16,7 +16,7 @@ use Rattle.im_verify.specs.declared.ended.Ended.{Ended}
 use Rattle.im_verify.specs.declared.ended.Ended.TheVariants as the
 use Rattle.im_verify.proofs.FoldLemmas.{fold-length}
 use Rattle.im_verify.proofs.RunLemmas.{told}
-use Rattle.im_verify.proofs.Unique.{fold-unique, outcome-unique}
+use Rattle.im_client.proofs.OutcomeLemmas.{fold-unique, outcome-unique}
 
 fold-take : (hash : Hash) (state : Option Header) (lines : List (List ℕ)) (os : List Outcome) (n : ℕ) → IsFold hash state lines os → IsFold hash state (take n lines) (take n os)
 fold-take hash state lines os zero f = tt
@@ -44,7 +44,7 @@ taken-refused hash lines os before n fault within taken f refused =
     taken.accepted n line.Passed (omega arith) (subst IsRefused (sym is) tt)
 
 -- kept lines are taken, or stop at one
-stop-not-taken : (hash : Hash) (kept : List (List ℕ)) (os : List Outcome) (n : ℕ) → StopsKept hash kept n → AreTaken hash kept os → ⊥
+pub stop-not-taken : (hash : Hash) (kept : List (List ℕ)) (os : List Outcome) (n : ℕ) → StopsKept hash kept n → AreTaken hash kept os → ⊥
 stop-not-taken hash kept os n s taken = taken-refused hash kept os s.before n s.fault s.within taken s.taken.fold s.refused
 
 take-take : (xs : List (List ℕ)) (n m : ℕ) → n < m → take n (take m xs) ≡ take n xs

@@ -1,7 +1,7 @@
 -- How far kept lines were taken, one line more, and the first that is refused.
-use Rattle.std.proofs.Common.{◌≡◌, ◌+◌, ◌<◌, ℕ, List, [], ◌∷◌, ◌++◌, length, take, get_or, Option, None, sym, ap, subst, ◌∙◌, arith}
-use Rattle.std.proofs.lemmas.List.{take_all, take_more, get_or_default}
-use Rattle.std.proofs.lemmas.List.Elements.{All-nil, All-push}
+use Rattle.std.proofs.Common.{◌≡◌, ◌+◌, ◌<◌, ℕ, List, [], ◌∷◌, ◌++◌, length, take, get_or, Option, None, sym, ap, subst, ◌∙◌}
+use Rattle.std.proofs.lemmas.List.{take_more, get_or_default}
+use Rattle.std.proofs.lemmas.List.Elements.{All-push}
 use Rattle.im_digest.specs.Digests.{Hash}
 use Rattle.im_model.specs.declared.headers.Header.{Header}
 use Rattle.im_client.specs.Folds.{IsFold, IsOutcome, IsRefused, state_after, state_by}
@@ -11,14 +11,6 @@ use Rattle.im_client.specs.declared.outcomes.Outcome.TheVariants.{Passed, Accept
 use Rattle.im_verify.specs.Judged.{StopsKept}
 use Rattle.im_verify.specs.Turns.{TakesKept}
 use Rattle.im_verify.proofs.FoldLemmas.{fold-push, state-push}
-
--- before the first line
-pub kept-first : (hash : Hash) (kept : List (List ℕ)) (state : Option Header) → state ≡ None → TakesKept hash (take 0 kept) state
-kept-first hash kept state none = record {
-  outcomes = [];
-  taken = record { fold = tt; accepted = All-nil (λ (o : Outcome). IsRefused o → ⊥) };
-  follows = none;
-}
 
 -- one line more that isn't refused
 pub kept-next : (hash : Hash) (kept : List (List ℕ)) (i : ℕ) (line : List ℕ) (state next : Option Header) (o : Outcome)
@@ -35,10 +27,6 @@ kept-next hash kept i line state next o within at t is fine follows =
       };
       follows = follows ∙ ap (λ (s : Option Header). state_by s o) t.follows ∙ sym (state-push None t.outcomes o);
     }
-
--- no line is left
-pub kept-all : (hash : Hash) (kept : List (List ℕ)) (i : ℕ) (state : Option Header) → i ≡ length kept → TakesKept hash (take i kept) state → TakesKept hash kept state
-kept-all hash kept i state end t = subst (λ (ls : List (List ℕ)). TakesKept hash ls state) (take_all i kept (omega arith)) t
 
 refused-fault : (hash : Hash) (state : Option Header) (line : List ℕ) (o : Outcome) → IsOutcome hash state line o → IsRefused o → (fault : LineFault) × IsOutcome hash state line (Refused fault)
 refused-fault hash state line Passed is r = absurd r

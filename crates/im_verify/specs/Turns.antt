@@ -15,6 +15,7 @@ pub record Done : Type 0 where
   pub written : Option (List ℕ)
   pub kept : Option (List (List ℕ))
 
+-- these octets written, and these lines kept
 abbrev pub done : Option (List ℕ) → Option (List (List ℕ)) → Done
 done written kept = record { written = written; kept = kept }
 

@@ -64,6 +64,9 @@ fn verify_octets<H: Hash32, K: Sink, P: Keeper>(
 /// writes nothing. The text of an accepted message is kept before its line is written. A refused line
 /// changes no state, and the run goes on. Nothing is written and nothing kept before the stream was
 /// read and the kept lines were taken.
+///
+/// The stream and the kept lines are held in memory. Each line is read and checked once; the sink gets the text of
+/// each that isn't passed over, and the keeper one line for each accepted message.
 pub fn verify<H: Hash32, S: Source, K: Sink, P: Keeper>(
     alloc: Global,
     hash: &H,

@@ -110,3 +110,18 @@ asks_one words run verify = go (sym run.2 ∙ verify)
   where
     go : Some (Run run.0 run.1) ≡ Some Verify → ⊥
     go same = cc
+
+-- or for two runs
+pub asks_same : (words : List Text) (a b : AsksRun words) → (a.0 ≡ b.0) × (a.1 ≡ b.1)
+asks_same words a b = go (sym a.2 ∙ b.2)
+  where
+    go : Some (Run a.0 a.1) ≡ Some (Run b.0 b.1) → (a.0 ≡ b.0) × (a.1 ≡ b.1)
+    go same = (cc, cc)
+
+-- words of the form ask for the run that they write
+pub form_asks_so : (words : List Text) (logs : ℕ) (link : Link) → IsForm words logs link → (asks : AsksRun words) × (asks.0 ≡ logs) × (asks.1 ≡ link)
+form_asks_so words logs link form = ((logs, link, (form_means words logs link form).asked), refl, refl)
+
+-- and for no other
+pub form_asks_only : (words : List Text) (logs : ℕ) (link : Link) → IsForm words logs link → (asks : AsksRun words) → (asks.0 ≡ logs) × (asks.1 ≡ link)
+form_asks_only words logs link form asks = asks_same words asks (logs, link, (form_means words logs link form).asked)

@@ -10,6 +10,7 @@ ghost use Rattle.im_words.specs.Form.{IsForm, IsVerifyForm};
 ghost use Rattle.im_words.specs.Meaning.{HasFewLogs, asked_of};
 
 mod command;
+pub mod laws;
 mod matches;
 
 use clap::error::ErrorKind;

@@ -1,0 +1,136 @@
+-- Each line has an outcome.
+use Rattle.std.proofs.Common.{◌≡◌, ◌≢◌, ◌⊎◌, ◌==◌, ℕ, List, [], ◌∷◌, ◌++◌, Bool, true, false, Option, Some, None, Result, Ok, Err, IsUtf8, inl, inr, refl, ap, ◌∙◌}
+use Rattle.std.proofs.lemmas.Bool.{and_from, both_ways, not_from_false}
+use Rattle.std.proofs.lemmas.Bool.Decides.{eqb_tells}
+use Rattle.std.proofs.lemmas.Str.{IsUtf8-from_is_utf8, is_utf8-from_IsUtf8}
+use Rattle.std.specs.Char.{is_ascii_digit}
+use Rattle.std.specs.Str.{is_utf8}
+use Rattle.serde_json.specs.Data.{Data}
+use Rattle.serde_json.specs.Read.{read}
+use Rattle.im_cuts.specs.Cuts.{IsCut, Lacks}
+use Rattle.im_cuts.specs.Words.{is_word}
+use Rattle.im_digest.specs.Digests.{Hash}
+use Rattle.im_model.specs.declared.headers.Header.{Header}
+use Rattle.im_mtree.specs.Checks.{first_fail}
+use Rattle.im_talk.specs.Fields.{is_session_octet}
+use Rattle.im_wire.specs.Lines.{IsLine, IsReply, IsShown, is_open}
+use Rattle.im_wire.specs.Messages.{HasMessage, message_of}
+use Rattle.im_wire.specs.declared.messages.Message.{Message}
+use Rattle.im_wire.proofs.LineLemmas.{line-refused, reply-bad-number, reply-bad-session, reply-none, reply-tail}
+use Rattle.im_client.specs.Folds.{IsBad, IsFold, IsOutcome, state_by}
+use Rattle.im_client.specs.LineChecks.{line_checks}
+use Rattle.im_client.specs.declared.faults.LineFault.{LineFault}
+use Rattle.im_client.specs.declared.faults.LineFault.TheVariants.{Syntax}
+use Rattle.im_client.specs.declared.outcomes.Outcome.{Outcome}
+use Rattle.im_client.specs.declared.outcomes.Outcome.TheVariants.{Passed, Accepted, Refused}
+
+-- a test is passed or not
+truth : (b : Bool) → (b ≡ true) ⊎ (b ≡ false)
+truth true = inl refl
+truth false = inr refl
+
+-- a text is cut at the first mark, or has none
+abbrev CutOrNone : ℕ → List ℕ → Type 0
+CutOrNone mark text = ((front : List ℕ) × (back : List ℕ) × IsCut mark text front back) ⊎ Lacks mark text
+
+cut-more : (mark o : ℕ) (text : List ℕ) → (((o == mark) ≡ true) × (o ≡ mark)) ⊎ (((o == mark) ≡ false) × (o ≢ mark)) → CutOrNone mark text → CutOrNone mark (o ∷ text)
+cut-more mark o text (inl same) rest = inl ([], text, (refl, ap (λ (p : ℕ). p ∷ text) same.1))
+cut-more mark o text (inr other) (inl c) =
+    inl (o ∷ c.0, c.1, (and_from _ _ (not_from_false _ other.0) c.2.0, ap (λ (t : List ℕ). o ∷ t) c.2.1))
+cut-more mark o text (inr other) (inr lacks) = inr (and_from _ _ (not_from_false _ other.0) lacks)
+
+cut-tells : (mark : ℕ) (text : List ℕ) → CutOrNone mark text
+cut-tells mark [] = inr refl
+cut-tells mark (o ∷ text) = cut-more mark o text (eqb_tells o mark) (cut-tells mark text)
+
+-- a line is a reply, or none
+abbrev ReplyOrNone : List ℕ → Type 0
+ReplyOrNone line = ((rest : List ℕ) × IsReply line rest) ⊎ ((rest : List ℕ) → IsReply line rest → ⊥)
+
+reply-or-none : (line : List ℕ) → ReplyOrNone line
+reply-or-none line = go (cut-tells 32 line)
+  where
+    number : (front tail digits last : List ℕ) → IsCut 32 line front tail → IsCut 32 tail digits last → is_word 16 is_session_octet front ≡ true
+        → (is_word 20 is_ascii_digit digits ≡ true) ⊎ (is_word 20 is_ascii_digit digits ≡ false) → ReplyOrNone line
+    number front tail digits last cut next session (inl is) =
+        inl (last, record { session = front; number = digits; is_session = session; is_number = is; text = cut.1 ∙ ap (λ (t : List ℕ). front ++ 32 ∷ t) next.1 })
+    number front tail digits last cut next session (inr bad) =
+        inr (λ rest. reply-bad-number line rest front tail digits last cut next (λ h. both_ways _ bad h))
+
+    session : (front tail : List ℕ) → IsCut 32 line front tail → (is_word 16 is_session_octet front ≡ true) ⊎ (is_word 16 is_session_octet front ≡ false) → CutOrNone 32 tail → ReplyOrNone line
+    session front tail cut (inr bad) next = inr (λ rest. reply-bad-session line rest front tail cut (λ h. both_ways _ bad h))
+    session front tail cut (inl is) (inr lacks) = inr (λ rest. reply-tail line rest front tail cut lacks)
+    session front tail cut (inl is) (inl c) = number front tail c.0 c.1 cut c.2 is (truth (is_word 20 is_ascii_digit c.0))
+
+    go : CutOrNone 32 line → ReplyOrNone line
+    go (inl c) = session c.0 c.1 c.2 (truth (is_word 16 is_session_octet c.0)) (cut-tells 32 c.1)
+    go (inr lacks) = inr (λ rest. reply-none line rest lacks)
+
+-- a text has a message, or none
+abbrev MessageOrNone : List ℕ → Type 0
+MessageOrNone text = ((m : Message) × HasMessage text m) ⊎ ((m : Message) → HasMessage text m → ⊥)
+
+no-value : (r : Option Data) (d : Data) → r ≡ None → r ≡ Some d → ⊥
+no-value r d a b = cc
+
+no-message : (r : Option Data) (d e : Data) (m : Message) → r ≡ Some d → r ≡ Some e → message_of d ≡ None → message_of e ≡ Some m → ⊥
+no-message r d e m a b none some = cc
+
+message-or-none : (text : List ℕ) → MessageOrNone text
+message-or-none text = go (truth (is_utf8 text))
+  where
+    says : (d : Data) → IsUtf8 text → read text ≡ Some d → (r : Option Message) → message_of d ≡ r → MessageOrNone text
+    says d good value (Some m) is = inl (m, (good, (d, value, is)))
+    says d good value None is = inr (λ m h. no-message (read text) d h.1.0 m value h.1.1 is h.1.2)
+
+    reads : IsUtf8 text → (r : Option Data) → read text ≡ r → MessageOrNone text
+    reads good (Some d) value = says d good value (message_of d) refl
+    reads good None none = inr (λ m h. no-value (read text) h.1.0 none h.1.1)
+
+    go : (is_utf8 text ≡ true) ⊎ (is_utf8 text ≡ false) → MessageOrNone text
+    go (inl is) = reads (IsUtf8-from_is_utf8 text is) (read text) refl
+    go (inr bad) = inr (λ m h. both_ways _ bad (is_utf8-from_IsUtf8 text h.0))
+
+-- a line says something, or is bad
+abbrev LineOrBad : List ℕ → Type 0
+LineOrBad line = ((o : Option Message) × IsLine line o) ⊎ IsBad line
+
+line-or-bad : (line : List ℕ) → LineOrBad line
+line-or-bad [] = inl (None, inl refl)
+line-or-bad (x ∷ line) = go (reply-or-none (x ∷ line))
+  where
+    some : x ∷ line ≡ [] → ⊥
+    some e = cc
+
+    shows : (text : List ℕ) → IsShown (x ∷ line) text → MessageOrNone text → LineOrBad (x ∷ line)
+    shows text shown (inl m) = inl (Some m.0, (text, shown, m.1))
+    shows text shown (inr none) = inr (line-refused (x ∷ line) text shown none)
+
+    opens : (rest : List ℕ) → IsReply (x ∷ line) rest → (is_open rest ≡ true) ⊎ (is_open rest ≡ false) → LineOrBad (x ∷ line)
+    opens rest reply (inl is) = shows rest (inl (reply, is)) (message-or-none rest)
+    opens rest reply (inr other) = inl (None, inr (rest, reply, other))
+
+    go : ReplyOrNone (x ∷ line) → LineOrBad (x ∷ line)
+    go (inl r) = opens r.0 r.1 (truth (is_open r.0))
+    go (inr none) = shows (x ∷ line) (inr (refl, some, none)) (message-or-none (x ∷ line))
+
+-- a line has an outcome
+pub outcome-exists : (hash : Hash) (kept : Option Header) (line : List ℕ) → (outcome : Outcome) × IsOutcome hash kept line outcome
+outcome-exists hash kept line = go (line-or-bad line)
+  where
+    checked : (m : Message) → IsLine line (Some m) → (r : Result (Unit {0}) LineFault) → first_fail (line_checks hash kept m) ≡ r → (outcome : Outcome) × IsOutcome hash kept line outcome
+    checked m says (Ok done) is = (Accepted m, (says, is))
+    checked m says (Err fault) is = (Refused fault, inr (m, says, is))
+
+    go : LineOrBad line → (outcome : Outcome) × IsOutcome hash kept line outcome
+    go (inl (None, says)) = (Passed, says)
+    go (inl (Some m, says)) = checked m says (first_fail (line_checks hash kept m)) refl
+    go (inr bad) = (Refused Syntax, inl (bad, refl))
+
+-- so have lines, one after the other
+pub fold-exists : (hash : Hash) (kept : Option Header) (lines : List (List ℕ)) → (outcomes : List Outcome) × IsFold hash kept lines outcomes
+fold-exists hash kept [] = ([], tt)
+fold-exists hash kept (line ∷ lines) =
+    let first = outcome-exists hash kept line in
+    let rest = fold-exists hash (state_by kept first.0) lines in
+    (first.0 ∷ rest.0, (first.1, rest.1))

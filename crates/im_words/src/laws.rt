@@ -1,0 +1,34 @@
+//! What holds of the words of the forms: which run they ask for. Each function does nothing, and its contract is the
+//! law.
+
+ghost use Rattle.std.specs.Prelude.{◌≡◌, ℕ, List};
+ghost use Rattle.clap.specs.Words.{Text};
+ghost use Rattle.im_words.specs.Form.{IsForm, IsVerifyForm};
+ghost use Rattle.im_words.specs.Meaning.{AsksRun, AsksVerify};
+ghost use Rattle.im_words.specs.declared.Link.{Link};
+
+/// Words of the form `NAME run` ask for a run, with the number of logs and the link that they write and no other, and
+/// not for `verify`.
+pub fn a_form_asks_for_its_run()
+    ensures asks { (words : List Text) (logs : ℕ) (link : Link) → IsForm words logs link
+        → (asks : AsksRun words) × (asks.0 ≡ logs) × (asks.1 ≡ link) }
+    ensures only { (words : List Text) (logs : ℕ) (link : Link) → IsForm words logs link
+        → (asks : AsksRun words) → (asks.0 ≡ logs) × (asks.1 ≡ link) }
+    ensures no_verify { (words : List Text) (logs : ℕ) (link : Link) → IsForm words logs link → AsksVerify words → ⊥ }
+{}
+
+/// Words of the form `NAME verify` ask for `verify`, and for no run.
+pub fn a_verify_form_asks_for_verify()
+    ensures asks { (words : List Text) → IsVerifyForm words → AsksVerify words }
+    ensures no_run { (words : List Text) → IsVerifyForm words → AsksRun words → ⊥ }
+{}
+
+/// Words that ask for two runs ask for the same one.
+pub fn one_run()
+    ensures { (words : List Text) (a b : AsksRun words) → (a.0 ≡ b.0) × (a.1 ≡ b.1) }
+{}
+
+/// No words ask for a run and for `verify`.
+pub fn not_both()
+    ensures { (words : List Text) → AsksRun words → AsksVerify words → ⊥ }
+{}
