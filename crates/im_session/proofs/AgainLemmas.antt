@@ -1,5 +1,5 @@
 -- Each reply that is a message is read as that message, and so are those of a whole report.
-use Rattle.std.proofs.Common.{◌≡◌, ◌≤◌, length, ℕ, ◌+◌, ℤ, List, [], ◌∷◌, ◌++◌, map, take, refl, arith, ap, subst, ◌∙◌, sym, get_or, length-append, append-nil, All, Option, Some, None, false, unwrap_or}
+use Rattle.std.proofs.Common.{◌≡◌, ◌≤◌, length, ℕ, ◌+◌, ℤ, List, [], ◌∷◌, ◌++◌, map, take, refl, arith, ap, subst, ◌∙◌, sym, get_or, length-append, append-nil, All, Option, Some, None, false}
 use Rattle.std.specs.List.{flat_map}
 use Rattle.std.proofs.Math.Seq.{take-length}
 use Rattle.std.proofs.lemmas.Bool.{both_ways}
@@ -12,12 +12,11 @@ use Rattle.im_digest.specs.Digests.{Hash}
 use Rattle.im_model.specs.declared.transactions.Transaction.{Transaction}
 use Rattle.im_talk.specs.Fields.{IsSession}
 use Rattle.im_wire.specs.Lines.{is_open}
-use Rattle.im_wire.specs.Messages.{HasMessage}
 use Rattle.im_script.specs.declared.commands.Line.{Line}
 use Rattle.im_script.specs.declared.commands.Command.{Command}
 use Rattle.im_script.specs.declared.commands.Command.TheVariants.{Set, Get, Scan, History, Header, State, Prove, Advance, Item, Link}
 use Rattle.im_report.specs.Report.{Answered, Report, written}
-use Rattle.im_accept.specs.Messages.{item_between, IsReadBack}
+use Rattle.im_accept.specs.Messages.{IsReadBack}
 use Rattle.im_accept.specs.Taken.{line_text, AreReadBack, HaveSessions}
 use Rattle.im_accept.proofs.CutLemmas.{answer-lacks, line-lacks, one-answers, texts-of}
 use Rattle.im_accept.proofs.TakenLemmas.{sessions-are}
@@ -37,12 +36,6 @@ closed-again hash history (Advance s t) reply closed = λ is_now. absurd (both_w
 closed-again hash history (Item t i None) reply closed = λ is_now. absurd (both_ways (is_open reply) closed is_now)
 closed-again hash history (Item t i (Some s)) reply closed = λ is_now. absurd (both_ways (is_open reply) closed is_now)
 closed-again hash history (Link count) reply closed = tt
-
--- an item under the state that is named, or under the last
-pub item-again : (hash : Hash) (history : List Transaction) (t i : ℕ) (under : Option ℕ) (reply : List ℕ)
-    → HasMessage reply (item_between hash history t i (unwrap_or under (length history))) → IsReadBack hash history (Item t i under) reply
-item-again hash history t i None reply has = λ is_now. has
-item-again hash history t i (Some s) reply has = λ is_now. has
 
 -- the lines answered so far: their octets, and that each of their messages is read again
 pub record Told (hash : Hash) (h : List Transaction) (lines : List Line) (octets : List ℕ) : Type 0 where

@@ -22,6 +22,7 @@ use Rattle.im_script.specs.declared.commands.Command.{Command}
 use Rattle.im_script.specs.declared.commands.Command.TheVariants.{Set}
 use Rattle.im_session.specs.Moves.{MayPlace, MayPlaceOne, StandsBetween}
 use Rattle.im_session.specs.Served.{StandsWith}
+use Rattle.im_session.proofs.TimeLemmas.{asked-none}
 
 module _ {D : Type 0} (told : D → Option Told) (hash : Hash) (k : KeptHistory D) (is : IsKept told hash k) where
   -- nothing happens to the disk
@@ -38,21 +39,22 @@ module _ {D : Type 0} (told : D → Option Told) (hash : Hash) (k : KeptHistory 
       subst P (sym journal) (still (StandsBetween hash k.held.transactions now.held.transactions) (λ image h. inl h))
 
   -- and placed nothing
-  pub nothing-placed : (constant : Option ℤ) (command : Command) (journal : Kept D) → journal ≡ k.journal
-      → MayPlace hash constant command k.held.transactions (told k.journal.disk) (told journal.disk)
-  nothing-placed constant command journal same = record {
+  pub nothing-placed : (constant : Option ℤ) (times : Option (List ℤ)) (command : Command) (journal : Kept D) → journal ≡ k.journal
+      → MayPlace hash constant command k.held.transactions (told k.journal.disk) (told journal.disk) times times
+  nothing-placed constant times command journal same = record {
     left = [];
     left_is = inl refl;
+    asked = asked-none times;
     moments =
         let P : Kept D → Type 0 = λ j. Leaves (StandsWith hash k.held.transactions []) (told k.journal.disk) (told j.disk) in
         subst P (sym same) (still (StandsWith hash k.held.transactions []) (λ image h. inl h));
   }
 
 -- a `set` was to place one transaction
-pub one-placed : (hash : Hash) (constant : Option ℤ) (pres : List Pre) (drafts : List Draft) (entries : List Entry) (history : List Transaction) (before now : Option Told)
-    → place_refusal history pres ≡ None → AreFree drafts → AreEntries drafts → entries ≡ map entry_of drafts → MayPlaceOne hash constant entries history before now
-    → MayPlace hash constant (Set pres drafts) history before now
-one-placed hash constant pres drafts entries history before now admitted free are same p = record {
+pub one-placed : (hash : Hash) (constant : Option ℤ) (pres : List Pre) (drafts : List Draft) (entries : List Entry) (history : List Transaction) (before now : Option Told) (times_before times_now : Option (List ℤ))
+    → place_refusal history pres ≡ None → AreFree drafts → AreEntries drafts → entries ≡ map entry_of drafts → MayPlaceOne hash constant entries history before now times_before times_now
+    → MayPlace hash constant (Set pres drafts) history before now times_before times_now
+one-placed hash constant pres drafts entries history before now times_before times_now admitted free are same p = record {
   left = p.tx ∷ [];
   left_is = inr (record {
     reaches = record { pres = pres; drafts = drafts; asks = refl; free = free; are = are; admitted = admitted };
@@ -61,6 +63,7 @@ one-placed hash constant pres drafts entries history before now admitted free ar
     writes = p.writes ∙ same;
     timed = p.timed;
   });
+  asked = p.asked;
   moments = p.moments;
 }
 

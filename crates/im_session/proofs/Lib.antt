@@ -3,4 +3,5 @@ pub mod KeptLemmas
 pub mod PutLemmas
 pub mod ReadLemmas
 pub mod ServedLemmas
+pub mod TimeLemmas
 pub mod TurnLemmas

@@ -22,8 +22,9 @@ use Rattle.im_script.specs.declared.commands.Line.{Line}
 use Rattle.im_session.specs.Moves.{MayPlace, StandsBetween}
 use Rattle.im_session.specs.Put.{StandsPut}
 use Rattle.im_session.specs.Served.{IsLeft, IsWhy, ReachesDisk, Serves, ServesAll, ServesFront, StandsFrom, StandsWith}
-use Rattle.im_session.specs.Turns.{HasTime, Turn}
+use Rattle.im_session.specs.Turns.{AskedFor, HasTime, Turn}
 use Rattle.im_session.proofs.AgainLemmas.{Told, report-again}
+use Rattle.im_session.proofs.TimeLemmas.{asked-both, asked-ended}
 
 -- nothing is written for no line over the history that was found
 found-report : (hash : Hash) (found : List Transaction) → IsHistory found → Report hash found found [] []
@@ -110,11 +111,12 @@ timed-next hash constant line least before after old new most t timed =
     subst P (sym same) (All-append (HasTime constant) (drop least before.transactions) t.answers.more timed t.answers.timed)
 
 -- a line got no reply
-pub serves-stopped : (hash : Hash) (constant : Option ℤ) (found history : List Transaction) (lines done : List Line) (line : Line) (before mid now : Option DiskTold) (octets : List ℕ) (size : ℕ)
+pub serves-stopped : (hash : Hash) (constant : Option ℤ) (found history : List Transaction) (lines done : List Line) (line : Line) (before mid now : Option DiskTold) (times_before times_mid times_now : Option (List ℤ)) (octets : List ℕ) (size : ℕ)
     → done ≡ take (length done) lines → length done < length lines → line ≡ get_or lines (length done) line
     → Standing hash found history done octets size → Told hash history done octets → All (HasTime constant) (drop (length found) history)
-    → Leaves (StandsFrom hash (length found) history) before mid → MayPlace hash constant line.command history mid now → Serves hash constant found lines before now octets
-serves-stopped hash constant found history lines done line before mid now octets size front less here standing told timed so_far m =
+    → AskedFor (drop (length found) history) times_before times_mid
+    → Leaves (StandsFrom hash (length found) history) before mid → MayPlace hash constant line.command history mid now times_mid times_now → Serves hash constant found lines before now times_before times_now octets
+serves-stopped hash constant found history lines done line before mid now times_before times_mid times_now octets size front less here standing told timed asked so_far m =
     let P : List Line → Type 0 = λ ls. Standing hash found history ls octets size in
     let Q : List Line → Type 0 = λ ls. Told hash history ls octets in
     let R : List Line → Type 0 = λ ls. IsLeft constant history ls m.left in
@@ -129,6 +131,7 @@ serves-stopped hash constant found history lines done line before mid now octets
       timed = timed;
       left = m.left;
       left_is = subst R (sym (drop-cons lines (length done) line less)) (subst I here m.left_is);
+      asked = asked-both times_before times_mid times_now (drop (length found) history) m.left asked m.asked;
       images = m.moments.1;
       moments = moments-left hash (length found) history m.left before mid now (found-within hash found history done octets size standing) so_far m.moments;
     }
@@ -139,16 +142,17 @@ is-why DiskFault history command reaches = reaches refl
 is-why Memory history command reaches = tt
 
 -- and it is the next line that got no reply
-pub front-stopped : (hash : Hash) (constant : Option ℤ) (found history : List Transaction) (lines done : List Line) (line : Line) (before mid now : Option DiskTold) (octets : List ℕ) (size : ℕ) (why : CommitError)
+pub front-stopped : (hash : Hash) (constant : Option ℤ) (found history : List Transaction) (lines done : List Line) (line : Line) (before mid now : Option DiskTold) (times_before times_mid times_now : Option (List ℤ)) (octets : List ℕ) (size : ℕ) (why : CommitError)
     → done ≡ take (length done) lines → length done < length lines → line ≡ get_or lines (length done) line
     → Standing hash found history done octets size → Told hash history done octets → All (HasTime constant) (drop (length found) history)
-    → Leaves (StandsFrom hash (length found) history) before mid → MayPlace hash constant line.command history mid now → IsWhy why history line.command
-    → ServesFront hash constant found lines before now octets why
+    → AskedFor (drop (length found) history) times_before times_mid
+    → Leaves (StandsFrom hash (length found) history) before mid → MayPlace hash constant line.command history mid now times_mid times_now → IsWhy why history line.command
+    → ServesFront hash constant found lines before now times_before times_now octets why
 unfolding serves-stopped
-front-stopped hash constant found history lines done line before mid now octets size why front less here standing told timed so_far m because =
+front-stopped hash constant found history lines done line before mid now times_before times_mid times_now octets size why front less here standing told timed asked so_far m because =
     let rest : List Line = drop (suc (length done)) lines in
     record {
-      serves = serves-stopped hash constant found history lines done line before mid now octets size front less here standing told timed so_far m;
+      serves = serves-stopped hash constant found history lines done line before mid now times_before times_mid times_now octets size front less here standing told timed asked so_far m;
       stops = record {
         line = line;
         rest = rest;
@@ -158,11 +162,12 @@ front-stopped hash constant found history lines done line before mid now octets 
     }
 
 -- all lines were answered
-pub serves-ended : (hash : Hash) (constant : Option ℤ) (logs : ℕ) (found history : List Transaction) (lines done : List Line) (before now : Option DiskTold) (octets : List ℕ) (size : ℕ)
+pub serves-ended : (hash : Hash) (constant : Option ℤ) (logs : ℕ) (found history : List Transaction) (lines done : List Line) (before now : Option DiskTold) (times_before times_now : Option (List ℤ)) (octets : List ℕ) (size : ℕ)
     → done ≡ lines → Standing hash found history done octets size → Told hash history done octets → All (HasTime constant) (drop (length found) history)
+    → AskedFor (drop (length found) history) times_before times_now
     → Leaves (StandsFrom hash (length found) history) before now → LeavesNow (λ image. Stands hash image history) now → IfSome now (λ t. StandsPut hash logs (length found) history (seen t))
-    → ServesAll hash constant logs found lines before now octets
-serves-ended hash constant logs found history lines done before now octets size whole standing told timed so_far images here =
+    → ServesAll hash constant logs found lines before now times_before times_now octets
+serves-ended hash constant logs found history lines done before now times_before times_now octets size whole standing told timed asked so_far images here =
     let P : List Line → Type 0 = λ ls. Standing hash found history ls octets size in
     let Q : List Line → Type 0 = λ ls. Told hash history ls octets in
     let R : List Line → Type 0 = λ ls. IsLeft constant history ls [] in
@@ -180,6 +185,7 @@ serves-ended hash constant logs found history lines done before now octets size 
         timed = timed;
         left = [];
         left_is = subst R (sym (drop-length lines)) refl;
+        asked = asked-ended (drop (length found) history) times_before times_now asked;
         images = (leaves_weaker S (StandsWith hash history []) (λ image h. inl h) now now (leaves_nothing S now, images)).1;
         moments = subst M (sym (append-nil history)) so_far;
       };

@@ -1,13 +1,11 @@
 -- What one answered line does to the ledger and to the report.
-use Rattle.std.proofs.Common.{◌≡◌, ◌≤◌, length, ℕ, ◌+◌, ◌-◌, ℤ, List, [], ◌∷◌, ◌++◌, refl, arith, ap, subst, ◌∙◌, sym, get_or, length-append, append-nil, All, AllPairs, Option, Some, None, false, map, take, unwrap_or, min, if◌then◌else◌, inl, inr, FitsSigned}
-use Rattle.std.specs.Int.{w64}
+use Rattle.std.proofs.Common.{◌≡◌, length, ℕ, ◌+◌, ◌-◌, ℤ, List, [], ◌∷◌, ◌++◌, refl, arith, ap, subst, ◌∙◌, sym, get_or, length-append, append-nil, Option, Some, None, false, map, take, unwrap_or, min, if◌then◌else◌, inl, inr}
 use Rattle.std.specs.Str.{bytes_eq}
 use Rattle.std.proofs.Math.Seq.{get_or-append_seam, take-length}
 use Rattle.std.proofs.lemmas.List.{take-append-le}
 use Rattle.std.proofs.lemmas.List.Elements.{All-push}
 use Rattle.im_digest.specs.Digests.{Hash}
-use Rattle.im_model.specs.History.{no_transaction, IsEntry, IsHistory, IsTransaction}
-use Rattle.im_model.specs.declared.entries.Entry.{Entry}
+use Rattle.im_model.specs.History.{no_transaction, IsHistory}
 use Rattle.im_model.specs.declared.transactions.Transaction.{Transaction}
 use Rattle.im_draft.specs.Drafts.{entry_of, AreEntries, AreFree, IsReserved, Refuses}
 use Rattle.im_draft.specs.declared.drafts.Draft.{Draft}
@@ -18,7 +16,6 @@ use Rattle.im_versions.specs.Versions.{versions_of}
 use Rattle.im_versions.specs.declared.refusals.PlaceError.{PlaceError}
 use Rattle.im_versions.specs.declared.refusals.PlaceError.TheVariants.{Memory}
 use Rattle.im_report.specs.Reads.{place_reply}
-use Rattle.im_tx.specs.Asked.{Asked, IsAsked}
 use Rattle.im_report.specs.Replies.{advance_reply, header_reply, item_reply, linked_reply, prove_reply, refused_reply, reserved_reply, state_reply, tx_reply}
 use Rattle.im_report.specs.Report.{Answered, IsAnswer, floor_by, written}
 use Rattle.im_script.specs.declared.commands.Line.{Line}
@@ -28,23 +25,6 @@ use Rattle.im_report.proofs.PlacedLemmas.{advance-not-placed, get-not-placed, he
 use Rattle.im_report.proofs.ReportLemmas.{Standing, Standing-next}
 use Rattle.im_ledger.specs.Ledgers.{Held, IsLedger}
 use Rattle.im_session.specs.Turns.{Answers, HasTime, IsLooking, Placed, Turn}
-
--- a transaction of prepared entries lies within the limits behind others, over a tree of some of them
-pub asked-transaction : (before : ℕ) (asked : Asked) (tx : Transaction) → IsAsked asked → tx.entries ≡ asked.entries → tx.bl ≤ before → FitsSigned w64 tx.ts → IsTransaction before tx
-asked-transaction before asked tx is writes linked time =
-    let E : List Entry → Type 0 = λ es. All IsEntry es in
-    let D : List Entry → Type 0 = λ es. AllPairs (λ a b. a.key ≡ b.key → ⊥) es in
-    let size : length tx.entries ≡ length asked.entries = ap length writes in
-    let some : 1 ≤ length asked.entries = is.some in
-    let few : length asked.entries ≤ 1024 = is.few in
-    record {
-      some = omega arith;
-      few = omega arith;
-      entries = subst E (sym writes) is.each;
-      distinct = subst D (sym writes) is.distinct;
-      linked = linked;
-      timed = time;
-    }
 
 -- a reply that places nothing answers over the history as it stands
 pub kept-answers : (hash : Hash) (constant : Option ℤ) (command : Command) (before after : Held) (reply : List ℕ)

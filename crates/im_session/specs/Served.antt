@@ -17,7 +17,7 @@ use Rattle.im_accept.specs.Taken.{AreReadBack, HaveSessions}
 use Rattle.im_ledger.specs.declared.errors.CommitError.{CommitError}
 use Rattle.im_ledger.specs.declared.errors.CommitError.TheVariants.{DiskFault, Memory}
 use Rattle.im_session.specs.Put.{StandsPut}
-use Rattle.im_session.specs.Turns.{HasTime}
+use Rattle.im_session.specs.Turns.{AskedFor, HasTime}
 
 -- the image stands for the first transactions of a history: at least so many of them
 pub record StandsFrom (hash : Hash) (least : ℕ) (history : List Transaction) (image : Files) : Type 0 where
@@ -30,7 +30,7 @@ pub record StandsFrom (hash : Hash) (least : ℕ) (history : List Transaction) (
 abbrev pub StandsWith : Hash → List Transaction → List Transaction → Files → Type 0
 StandsWith hash history left image = Stands hash image history ⊎ Stands hash image (history ++ left)
 
--- a `set` that reaches the disk: its drafts are the entries of a transaction, the history has room for it, and each
+-- a `set` or `del` that reaches the disk: its drafts are the entries of a transaction, the history has room for it, and each
 -- of its preconditions holds behind it
 pub record ReachesDisk (history : List Transaction) (command : Command) : Type 0 where
   pub pres : List Pre
@@ -40,7 +40,7 @@ pub record ReachesDisk (history : List Transaction) (command : Command) : Type 0
   pub are : AreEntries drafts
   pub admitted : place_refusal history pres ≡ None
 
--- this one transaction has the entries of a `set` that reaches the disk, and the clock's time where it tells one
+-- this one transaction has the entries of a `set` or `del` that reaches the disk, and the clock's time where it tells one
 pub record IsOneLeft (constant : Option ℤ) (history : List Transaction) (command : Command) (left : List Transaction) : Type 0 where
   pub reaches : ReachesDisk history command
   pub tx : Transaction
@@ -60,8 +60,9 @@ IsLeft constant history (line ∷ lines) left = IsLeftBy constant history line.c
 -- The first `count` lines were answered, over the history that was found: their report, whose messages are read as
 -- those that were asked for, where each line has a session's name. Each image of the disk now stands for the
 -- history, or for it with what the next line placed, which got no reply; and each image of each moment stood for the
--- first transactions of these, those that were found among them.
-pub record Serves (hash : Hash) (constant : Option ℤ) (found : List Transaction) (lines : List Line) (before now : Option Told) (octets : List ℕ) : Type 0 where
+-- first transactions of these, those that were found among them. The clock was asked once for each transaction that was
+-- placed, and for that of the next line, in order, and for nothing else: each has the time that was given for it.
+pub record Serves (hash : Hash) (constant : Option ℤ) (found : List Transaction) (lines : List Line) (before now : Option Told) (times_before times_now : Option (List ℤ)) (octets : List ℕ) : Type 0 where
   pub count : ℕ
   pub within : count ≤ length lines
   pub history : List Transaction
@@ -70,6 +71,7 @@ pub record Serves (hash : Hash) (constant : Option ℤ) (found : List Transactio
   pub timed : All (HasTime constant) (drop (length found) history)
   pub left : List Transaction
   pub left_is : IsLeft constant history (drop count lines) left
+  pub asked : AskedFor (drop (length found) history ++ left) times_before times_now
   pub images : LeavesNow (StandsWith hash history left) now
   pub moments : Leaves (StandsFrom hash (length found) (history ++ left)) before now
 
@@ -87,13 +89,13 @@ pub record StopsAt (why : CommitError) (history : List Transaction) (lines : Lis
   pub because : IsWhy why history line.command
 
 -- the lines before the first one without a reply were answered
-pub record ServesFront (hash : Hash) (constant : Option ℤ) (found : List Transaction) (lines : List Line) (before now : Option Told) (octets : List ℕ) (why : CommitError) : Type 0 where
-  pub serves : Serves hash constant found lines before now octets
+pub record ServesFront (hash : Hash) (constant : Option ℤ) (found : List Transaction) (lines : List Line) (before now : Option Told) (times_before times_now : Option (List ℤ)) (octets : List ℕ) (why : CommitError) : Type 0 where
+  pub serves : Serves hash constant found lines before now times_before times_now octets
   pub stops : StopsAt why serves.history (drop serves.count lines)
 
 -- all lines were answered, and what reads give stands for the history too, where each transaction behind those that
 -- were found stands in a batch of its own, its values put over so many value logs
-pub record ServesAll (hash : Hash) (constant : Option ℤ) (logs : ℕ) (found : List Transaction) (lines : List Line) (before now : Option Told) (octets : List ℕ) : Type 0 where
-  pub serves : Serves hash constant found lines before now octets
+pub record ServesAll (hash : Hash) (constant : Option ℤ) (logs : ℕ) (found : List Transaction) (lines : List Line) (before now : Option Told) (times_before times_now : Option (List ℤ)) (octets : List ℕ) : Type 0 where
+  pub serves : Serves hash constant found lines before now times_before times_now octets
   pub all : serves.count ≡ length lines
   pub here : IfSome now (λ t. StandsPut hash logs (length found) serves.history (seen t))

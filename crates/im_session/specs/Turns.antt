@@ -1,6 +1,7 @@
 -- What answering one line does to the ledger.
-use Rattle.std.specs.Prelude.{◌≡◌, ◌≤◌, ℤ, ℕ, List, [], ◌∷◌, ◌++◌, length, take, All, Option, IfSome, if◌then◌else◌}
+use Rattle.std.specs.Prelude.{◌≡◌, ◌≤◌, ℤ, ℕ, List, [], ◌∷◌, ◌++◌, length, map, take, All, Option, IfSome, if◌then◌else◌}
 use Rattle.std.specs.Str.{bytes_eq}
+use Rattle.im_edge.specs.Clocks.{AddsTimes}
 use Rattle.im_digest.specs.Digests.{Hash}
 use Rattle.im_model.specs.declared.entries.Entry.{Entry}
 use Rattle.im_model.specs.declared.transactions.Transaction.{Transaction}
@@ -16,6 +17,11 @@ use Rattle.im_ledger.specs.Ledgers.{Held, IsLedger}
 -- a transaction has the clock's time, where the clock tells it
 abbrev pub HasTime : Option ℤ → Transaction → Type 0
 HasTime constant tx = IfSome constant (λ time. tx.ts ≡ time)
+
+-- the clock was asked once for each of these transactions, in order, and for nothing else, where it tells the times that
+-- it gave: each transaction has the one that was given for it
+abbrev pub AskedFor : List Transaction → Option (List ℤ) → Option (List ℤ) → Type 0
+AskedFor txs before now = AddsTimes before now (map (λ (tx : Transaction). tx.ts) txs)
 
 -- a transaction of these entries was placed behind the history, over the tree as it was
 pub record Placed (hash : Hash) (constant : Option ℤ) (entries : List Entry) (before after : Held) (reply : List ℕ) : Type 0 where

@@ -1,7 +1,9 @@
-ghost use Rattle.std.specs.Prelude.{◌≡◌, ◌<◌, ℤ, ℕ, List, length, map, FitsSigned, IfOk, IsErrOf, OnOk, Option, None};
+ghost use Rattle.std.specs.Prelude.{◌≡◌, ◌<◌, ℤ, ℕ, List, [], ◌∷◌, drop, length, map, FitsSigned, IfOk, IsErrOf, OnOk, Option, None};
 ghost use Rattle.std.specs.Int.{w64};
 ghost use Rattle.im_digest.specs.Digests.{Hash};
+ghost use Rattle.im_disk.specs.Grown.{Grows};
 ghost use Rattle.im_disk.specs.Moments.{Leaves};
+ghost use Rattle.im_edge.specs.Clocks.{AddsTimes};
 ghost use Rattle.im_draft.specs.Drafts.{entry_of, AreEntries, AreFree};
 ghost use Rattle.im_draft.specs.declared.drafts.Draft.{Draft as TheDraft};
 ghost use Rattle.im_draft.specs.declared.preconditions.Pre.{Pre as ThePre};
@@ -10,14 +12,13 @@ ghost use Rattle.im_versions.specs.Admits.{place_refusal};
 ghost use Rattle.im_report.specs.Replies.{header_reply};
 ghost use Rattle.im_script.specs.declared.commands.Command.TheVariants.{Set, Link};
 ghost use Rattle.im_ledger.specs.Causes.{HasCommitCause};
-ghost use Rattle.im_ledger.specs.Grown.{Grows};
 ghost use Rattle.im_ledger.specs.Histories.{IsKept};
 ghost use Rattle.im_ledger.specs.Ledgers.{IsLedger};
 ghost use Rattle.im_ledger.specs.declared.errors.CommitError.TheVariants.{DiskFault};
 ghost use Rattle.im_session.specs.Moves.{MayPlace, MayPlaceOne, StandsBetween};
 ghost use Rattle.im_session.specs.Put.{IsKeptPut};
 ghost use Rattle.im_session.specs.Served.{ReachesDisk};
-ghost use Rattle.im_session.specs.Turns.{Answers, HasTime, Placed};
+ghost use Rattle.im_session.specs.Turns.{Answers, AskedFor, HasTime, Placed};
 
 use im_digest::Hash32;
 use im_disk::disk::Disk;
@@ -41,6 +42,7 @@ fn transaction_now<C: Clock>(clock: &mut C, entries: Entries, bl: u64) -> Transa
     ensures writes { result.entries ≡ entries }
     ensures over { result.bl ≡ bl }
     ensures timed { HasTime (C.constant clock.old) result }
+    ensures asked { AddsTimes (C.given clock.old) (C.given clock.new) (result.ts ∷ []) }
     ensures fits { FitsSigned w64 result.ts }
     ensures same { C.constant clock.new ≡ C.constant clock.old }
 {
@@ -61,9 +63,10 @@ fn place<D: Disk, H: Hash32, C: Clock>(
     requires asked { (pres : List ThePre) × IsAsked (record { entries = entries; pres = pres }) }
     ensures placed { IfOk result (λ reply. Placed (H.digest hash.now) (C.constant clock.old) entries kept.old.held kept.new.held reply.items) }
     ensures kept { OnOk result (IsKept D.told (H.digest hash.now) kept.new) }
+    ensures times { OnOk result (AskedFor (drop (length kept.old.held.transactions) kept.new.held.transactions) (C.given clock.old) (C.given clock.new)) }
     ensures put { (w n : ℕ) → IsKeptPut D.told (H.digest hash.now) w n kept.old → OnOk result (IsKeptPut D.told (H.digest hash.now) w n kept.new) }
     ensures moments { OnOk result (Leaves (StandsBetween (H.digest hash.now) kept.old.held.transactions kept.new.held.transactions) (D.told kept.old.journal.disk) (D.told kept.new.journal.disk)) }
-    ensures left { MayPlaceOne (H.digest hash.now) (C.constant clock.old) entries kept.old.held.transactions (D.told kept.old.journal.disk) (D.told kept.new.journal.disk) }
+    ensures left { MayPlaceOne (H.digest hash.now) (C.constant clock.old) entries kept.old.held.transactions (D.told kept.old.journal.disk) (D.told kept.new.journal.disk) (C.given clock.old) (C.given clock.new) }
     ensures grows { Grows (D.told kept.old.journal.disk) (D.told kept.new.journal.disk) }
     ensures cause { HasCommitCause (D.faults kept.old.journal.disk) (D.faults kept.new.journal.disk) result }
     ensures same { C.constant clock.new ≡ C.constant clock.old }
@@ -85,10 +88,11 @@ fn place_prepared<D: Disk, H: Hash32, C: Clock>(
     ensures answers { IfOk result (λ reply. (drafts : List TheDraft) → AreFree drafts → AreEntries drafts → prepared.entries ≡ map entry_of drafts
         → Answers (H.digest hash.now) (C.constant clock.old) (Set prepared.pres drafts) kept.old.held kept.new.held reply.items) }
     ensures kept { OnOk result (IsKept D.told (H.digest hash.now) kept.new) }
+    ensures times { OnOk result (AskedFor (drop (length kept.old.held.transactions) kept.new.held.transactions) (C.given clock.old) (C.given clock.new)) }
     ensures put { (w n : ℕ) → IsKeptPut D.told (H.digest hash.now) w n kept.old → OnOk result (IsKeptPut D.told (H.digest hash.now) w n kept.new) }
     ensures moments { OnOk result (Leaves (StandsBetween (H.digest hash.now) kept.old.held.transactions kept.new.held.transactions) (D.told kept.old.journal.disk) (D.told kept.new.journal.disk)) }
     ensures left { (drafts : List TheDraft) → AreFree drafts → AreEntries drafts → prepared.entries ≡ map entry_of drafts
-        → MayPlace (H.digest hash.now) (C.constant clock.old) (Set prepared.pres drafts) kept.old.held.transactions (D.told kept.old.journal.disk) (D.told kept.new.journal.disk) }
+        → MayPlace (H.digest hash.now) (C.constant clock.old) (Set prepared.pres drafts) kept.old.held.transactions (D.told kept.old.journal.disk) (D.told kept.new.journal.disk) (C.given clock.old) (C.given clock.new) }
     ensures grows { Grows (D.told kept.old.journal.disk) (D.told kept.new.journal.disk) }
     ensures cause { HasCommitCause (D.faults kept.old.journal.disk) (D.faults kept.new.journal.disk) result }
     ensures why { IsErrOf result DiskFault → place_refusal kept.old.held.transactions prepared.pres ≡ None }
@@ -114,9 +118,10 @@ pub(crate) fn answer_set<D: Disk, H: Hash32, C: Clock>(
     requires { IsKept D.told (H.digest hash.now) kept.old }
     ensures answers { IfOk result (λ reply. Answers (H.digest hash.now) (C.constant clock.old) (Set pres.items drafts.items) kept.old.held kept.new.held reply.items) }
     ensures kept { OnOk result (IsKept D.told (H.digest hash.now) kept.new) }
+    ensures times { OnOk result (AskedFor (drop (length kept.old.held.transactions) kept.new.held.transactions) (C.given clock.old) (C.given clock.new)) }
     ensures put { (w n : ℕ) → IsKeptPut D.told (H.digest hash.now) w n kept.old → OnOk result (IsKeptPut D.told (H.digest hash.now) w n kept.new) }
     ensures moments { OnOk result (Leaves (StandsBetween (H.digest hash.now) kept.old.held.transactions kept.new.held.transactions) (D.told kept.old.journal.disk) (D.told kept.new.journal.disk)) }
-    ensures left { MayPlace (H.digest hash.now) (C.constant clock.old) (Set pres.items drafts.items) kept.old.held.transactions (D.told kept.old.journal.disk) (D.told kept.new.journal.disk) }
+    ensures left { MayPlace (H.digest hash.now) (C.constant clock.old) (Set pres.items drafts.items) kept.old.held.transactions (D.told kept.old.journal.disk) (D.told kept.new.journal.disk) (C.given clock.old) (C.given clock.new) }
     ensures grows { Grows (D.told kept.old.journal.disk) (D.told kept.new.journal.disk) }
     ensures cause { HasCommitCause (D.faults kept.old.journal.disk) (D.faults kept.new.journal.disk) result }
     ensures why { IsErrOf result DiskFault → ReachesDisk kept.old.held.transactions (Set pres.items drafts.items) }

@@ -32,7 +32,7 @@ fn message_text(alloc: Global, message: Message) -> Result<Vec<u8>, AllocError>
     write(alloc, &message)
 }
 
-/// The reply to `state`: the header of the last transaction.
+/// The reply to `state`: the header of the last transaction, which is copied. Nothing is hashed.
 #[tactic(auto, unfolding(im_report::specs::Replies::state_reply))]
 pub(crate) fn state_text<H: Hash32>(
     alloc: Global,
@@ -91,7 +91,8 @@ fn dual_between<H: Hash32>(
     build(alloc, hash, ledger.headers(), ledger.tree(), s, t)
 }
 
-/// The reply to `prove`: the dual proof between two transactions. It hashes each leaf of the target's tree.
+/// The reply to `prove`: the dual proof between two transactions. It hashes the leaves of the target's tree for each
+/// path in the proof and for the consistency list: at most three times, and once more for each path of the advance.
 #[tactic(auto, unfolding(im_report::specs::Replies::prove_reply))]
 pub(crate) fn prove_text<H: Hash32>(
     alloc: Global,
@@ -136,8 +137,8 @@ fn anchor<H: Hash32>(
     }
 }
 
-/// The reply to `advance`: the dual proof between two transactions, and its anchor where one is due. Each hashes
-/// the leaves of its target's tree.
+/// The reply to `advance`: the dual proof between two transactions, and its anchor where one is due. Each costs what
+/// the proof of `prove` does.
 #[tactic(auto, unfolding(im_report::specs::Replies::advance_reply))]
 pub(crate) fn advance_text<H: Hash32>(
     alloc: Global,
@@ -197,7 +198,8 @@ fn item<H: Hash32>(
 }
 
 /// The reply to `item`: an entry of a transaction by its index, proved under the named state, or under the
-/// last where none is named. It hashes the transaction's entries and the leaves of the state's tree.
+/// last where none is named. It hashes the transaction's entries and their tree, and costs what `prove` does from
+/// that transaction to the state.
 #[tactic(auto, unfolding(im_report::specs::Replies::item_reply))]
 pub(crate) fn item_text<H: Hash32>(
     alloc: Global,

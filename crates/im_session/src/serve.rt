@@ -1,8 +1,8 @@
-ghost use Rattle.std.specs.Prelude.{◌≡◌, ◌≤◌, ℤ, ℕ, length, Option, IfOk, IsErrOf, OnOk, OnErr};
+ghost use Rattle.std.specs.Prelude.{◌≡◌, ◌≤◌, ℤ, ℕ, drop, length, Option, IfOk, IsErrOf, OnOk, OnErr};
+ghost use Rattle.im_disk.specs.Grown.{Grows};
 ghost use Rattle.im_disk.specs.Moments.{Leaves};
 ghost use Rattle.im_accept.specs.Messages.{IsReadBack};
 ghost use Rattle.im_ledger.specs.Causes.{HasCommitCause};
-ghost use Rattle.im_ledger.specs.Grown.{Grows};
 ghost use Rattle.im_ledger.specs.Histories.{IsKept};
 ghost use Rattle.im_ledger.specs.Ledgers.{IsLedger};
 ghost use Rattle.im_ledger.specs.declared.errors.CommitError.{CommitError as Why};
@@ -10,7 +10,7 @@ ghost use Rattle.im_ledger.specs.declared.errors.CommitError.TheVariants.{DiskFa
 ghost use Rattle.im_session.specs.Moves.{MayPlace, StandsBetween};
 ghost use Rattle.im_session.specs.Put.{IsKeptPut};
 ghost use Rattle.im_session.specs.Served.{ReachesDisk, Serves, ServesAll, ServesFront};
-ghost use Rattle.im_session.specs.Turns.{Answers, IsIndexWithin, IsLooking, IsReading, Turn};
+ghost use Rattle.im_session.specs.Turns.{Answers, AskedFor, IsIndexWithin, IsLooking, IsReading, Turn};
 ghost use Rattle.im_report.specs.Report.{IsAnswer};
 ghost use Rattle.im_digest.specs.Digests.{Hash};
 
@@ -101,10 +101,11 @@ fn answer<D: Disk, H: Hash32, C: Clock>(
     ensures answers { IfOk result (λ reply. Answers (H.digest hash.now) (C.constant clock.old) command kept.old.held kept.new.held reply.items) }
     ensures again { IfOk result (λ reply. IsReadBack (H.digest hash.now) kept.new.held.transactions command reply.items) }
     ensures kept { OnOk result (IsKept D.told (H.digest hash.now) kept.new) }
+    ensures times { OnOk result (AskedFor (drop (length kept.old.held.transactions) kept.new.held.transactions) (C.given clock.old) (C.given clock.new)) }
     ensures within { OnOk result (IsIndexWithin index.new kept.new.held.transactions) }
     ensures put { (w n : ℕ) → IsKeptPut D.told (H.digest hash.now) w n kept.old → OnOk result (IsKeptPut D.told (H.digest hash.now) w n kept.new) }
     ensures moments { OnOk result (Leaves (StandsBetween (H.digest hash.now) kept.old.held.transactions kept.new.held.transactions) (D.told kept.old.journal.disk) (D.told kept.new.journal.disk)) }
-    ensures left { MayPlace (H.digest hash.now) (C.constant clock.old) command kept.old.held.transactions (D.told kept.old.journal.disk) (D.told kept.new.journal.disk) }
+    ensures left { MayPlace (H.digest hash.now) (C.constant clock.old) command kept.old.held.transactions (D.told kept.old.journal.disk) (D.told kept.new.journal.disk) (C.given clock.old) (C.given clock.new) }
     ensures grows { Grows (D.told kept.old.journal.disk) (D.told kept.new.journal.disk) }
     ensures cause { HasCommitCause (D.faults kept.old.journal.disk) (D.faults kept.new.journal.disk) result }
     ensures why { IsErrOf result DiskFault → ReachesDisk kept.old.held.transactions command }
@@ -136,11 +137,12 @@ fn turn<D: Disk, H: Hash32, C: Clock>(
     requires within { IsIndexWithin index.old kept.old.held.transactions }
     ensures turn { OnOk result (Turn (H.digest hash.now) (C.constant clock.old) line kept.old.held kept.new.held out.old.items out.new.items) }
     ensures kept { OnOk result (IsKept D.told (H.digest hash.now) kept.new) }
+    ensures times { OnOk result (AskedFor (drop (length kept.old.held.transactions) kept.new.held.transactions) (C.given clock.old) (C.given clock.new)) }
     ensures within { OnOk result (IsIndexWithin index.new kept.new.held.transactions) }
     ensures put { (w n : ℕ) → IsKeptPut D.told (H.digest hash.now) w n kept.old → OnOk result (IsKeptPut D.told (H.digest hash.now) w n kept.new) }
     ensures moments { OnOk result (Leaves (StandsBetween (H.digest hash.now) kept.old.held.transactions kept.new.held.transactions) (D.told kept.old.journal.disk) (D.told kept.new.journal.disk)) }
     ensures nothing { OnErr result (out.new.items ≡ out.old.items) }
-    ensures left { MayPlace (H.digest hash.now) (C.constant clock.old) line.command kept.old.held.transactions (D.told kept.old.journal.disk) (D.told kept.new.journal.disk) }
+    ensures left { MayPlace (H.digest hash.now) (C.constant clock.old) line.command kept.old.held.transactions (D.told kept.old.journal.disk) (D.told kept.new.journal.disk) (C.given clock.old) (C.given clock.new) }
     ensures grows { Grows (D.told kept.old.journal.disk) (D.told kept.new.journal.disk) }
     ensures cause { HasCommitCause (D.faults kept.old.journal.disk) (D.faults kept.new.journal.disk) result }
     ensures why { IsErrOf result DiskFault → ReachesDisk kept.old.held.transactions line.command }
@@ -171,8 +173,12 @@ pub struct Served<D: Disk> {
 /// that was asked for. On the disk each transaction stands in a batch of its own, its values put over the value
 /// logs by turns. The first line that isn't answered ends the session: the disk then holds the history with what
 /// that line was to place, or without it. The disk fails only at a `set` or `del` that reaches it; memory
-/// may run out at any line. The index of keys is brought to the last transaction by the first line that looks for
-/// one, and holds a copy of each key and value.
+/// may run out at any line.
+///
+/// The index of keys is brought to the last transaction by each line that looks for one, and holds a copy of each
+/// key and value of the entries that aren't hidden. A `set` or `del` costs what `judge` and `commit` of the ledger
+/// say, a `link` the hashes of the leaves that it adds, a read what the index says, and a proof the hashes of the
+/// leaves of its target's tree, once for each path and each list. The replies stand in memory until the end.
 pub fn serve<D: Disk, H: Hash32, C: Clock>(
     alloc: Global,
     hash: &H,
@@ -182,9 +188,9 @@ pub fn serve<D: Disk, H: Hash32, C: Clock>(
 ) -> Served<D>
     requires kept { IsKept D.told (H.digest hash.now) kept }
     requires filled { length kept.held.tree ≡ length kept.held.transactions }
-    ensures some { Serves (H.digest hash.now) (C.constant clock.old) kept.held.transactions lines.items (D.told kept.journal.disk) (D.told result.disk) result.out.items }
-    ensures all { OnOk result.end (ServesAll (H.digest hash.now) (C.constant clock.old) kept.logs kept.held.transactions lines.items (D.told kept.journal.disk) (D.told result.disk) result.out.items) }
-    ensures front { (why : Why) → result.end ≡ Err why → ServesFront (H.digest hash.now) (C.constant clock.old) kept.held.transactions lines.items (D.told kept.journal.disk) (D.told result.disk) result.out.items why }
+    ensures some { Serves (H.digest hash.now) (C.constant clock.old) kept.held.transactions lines.items (D.told kept.journal.disk) (D.told result.disk) (C.given clock.old) (C.given clock.new) result.out.items }
+    ensures all { OnOk result.end (ServesAll (H.digest hash.now) (C.constant clock.old) kept.logs kept.held.transactions lines.items (D.told kept.journal.disk) (D.told result.disk) (C.given clock.old) (C.given clock.new) result.out.items) }
+    ensures front { (why : Why) → result.end ≡ Err why → ServesFront (H.digest hash.now) (C.constant clock.old) kept.held.transactions lines.items (D.told kept.journal.disk) (D.told result.disk) (C.given clock.old) (C.given clock.new) result.out.items why }
     ensures grows { Grows (D.told kept.journal.disk) (D.told result.disk) }
     ensures cause { HasCommitCause (D.faults kept.journal.disk) (D.faults result.disk) result.end }
     ensures same { C.constant clock.new ≡ C.constant clock.old }

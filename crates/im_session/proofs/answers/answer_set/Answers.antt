@@ -6,13 +6,14 @@ use Rattle.im_script.specs.declared.commands.Command.TheVariants.{Set}
 use Rattle.im_ledger.specs.Histories.{KeptHistory}
 use Rattle.im_session.specs.Moves.{MayPlace}
 use Rattle.im_session.proofs.KeptLemmas.{between-same, nothing-placed}
+use Rattle.im_session.proofs.TimeLemmas.{asked-same}
 use Rattle.im_session.proofs.TurnLemmas.{refused-answers, reserved-answers}
 use Rattle.im_session.proofs.answers.answer_set.Goals as goal
 
 pub returns-in_err-reserved_text-clause-left : goal.returns-in_err-reserved_text-clause-left
 returns-in_err-reserved_text-clause-left g c =
     let kept : KeptHistory g.row.D.Denot = c.args.kept.now in
-    nothing-placed g.D.Disk.told (g.H.Hash32.digest c.args.hash.now) kept c.requires (g.C.Clock.constant c.args.clock.now) (Set c.args.pres.items c.args.drafts.items) kept.journal refl
+    nothing-placed g.D.Disk.told (g.H.Hash32.digest c.args.hash.now) kept c.requires (g.C.Clock.constant c.args.clock.now) (g.C.Clock.given c.args.clock.now) (Set c.args.pres.items c.args.drafts.items) kept.journal refl
 
 pub returns-in-Some-clause-answers : goal.returns-in-Some-clause-answers
 returns-in-Some-clause-answers g c =
@@ -29,21 +30,22 @@ returns-in-Some-clause-moments g c =
 pub returns-in-Some-clause-left : goal.returns-in-Some-clause-left
 returns-in-Some-clause-left g c =
     let kept : KeptHistory g.row.D.Denot = c.args.kept.now in
-    nothing-placed g.D.Disk.told (g.H.Hash32.digest c.args.hash.now) kept c.requires (g.C.Clock.constant c.args.clock.now) (Set c.args.pres.items c.args.drafts.items) kept.journal refl
+    nothing-placed g.D.Disk.told (g.H.Hash32.digest c.args.hash.now) kept c.requires (g.C.Clock.constant c.args.clock.now) (g.C.Clock.given c.args.clock.now) (Set c.args.pres.items c.args.drafts.items) kept.journal refl
 
 pub returns-in-Ok-clause-left : goal.returns-in-Ok-clause-left
 returns-in-Ok-clause-left g c =
     let F : List Draft → Type 0 = λ ds. AreFree ds in
     let kept : KeptHistory g.row.D.Denot = c.args.kept.now in
     let now : KeptHistory g.row.D.Denot = c.place_prepared.new.kept in
-    let M : List Pre → Type 0 = λ pres. MayPlace (g.H.Hash32.digest c.args.hash.now) (g.C.Clock.constant c.args.clock.now) (Set pres c.args.drafts.items) kept.held.transactions (g.D.Disk.told kept.journal.disk) (g.D.Disk.told now.journal.disk) in
+    let M : List Pre → Type 0 = λ pres. MayPlace (g.H.Hash32.digest c.args.hash.now) (g.C.Clock.constant c.args.clock.now) (Set pres c.args.drafts.items) kept.held.transactions (g.D.Disk.told kept.journal.disk) (g.D.Disk.told now.journal.disk)
+    (g.C.Clock.given c.args.clock.now) (g.C.Clock.given c.place_prepared.new.clock) in
     subst M c.in-Ok.ensures.pres
     (c.place_prepared.ensures.left c.args.drafts.items (subst F c.deref.ensures.value c.in_default.ensures.none) c.in-Ok.ensures.entries c.in-Ok.ensures.ok)
 
 pub returns-in_err-refused_text-in-Err-clause-left : goal.returns-in_err-refused_text-in-Err-clause-left
 returns-in_err-refused_text-in-Err-clause-left g c =
     let kept : KeptHistory g.row.D.Denot = c.args.kept.now in
-    nothing-placed g.D.Disk.told (g.H.Hash32.digest c.args.hash.now) kept c.requires (g.C.Clock.constant c.args.clock.now) (Set c.args.pres.items c.args.drafts.items) kept.journal refl
+    nothing-placed g.D.Disk.told (g.H.Hash32.digest c.args.hash.now) kept c.requires (g.C.Clock.constant c.args.clock.now) (g.C.Clock.given c.args.clock.now) (Set c.args.pres.items c.args.drafts.items) kept.journal refl
 
 pub returns-in_ok-refused_text-in-Err-clause-answers : goal.returns-in_ok-refused_text-in-Err-clause-answers
 returns-in_ok-refused_text-in-Err-clause-answers g c =
@@ -64,4 +66,10 @@ returns-in_ok-refused_text-in-Err-clause-moments g c =
 pub returns-in_ok-refused_text-in-Err-clause-left : goal.returns-in_ok-refused_text-in-Err-clause-left
 returns-in_ok-refused_text-in-Err-clause-left g c =
     let kept : KeptHistory g.row.D.Denot = c.args.kept.now in
-    nothing-placed g.D.Disk.told (g.H.Hash32.digest c.args.hash.now) kept c.requires (g.C.Clock.constant c.args.clock.now) (Set c.args.pres.items c.args.drafts.items) kept.journal refl
+    nothing-placed g.D.Disk.told (g.H.Hash32.digest c.args.hash.now) kept c.requires (g.C.Clock.constant c.args.clock.now) (g.C.Clock.given c.args.clock.now) (Set c.args.pres.items c.args.drafts.items) kept.journal refl
+
+pub returns-in-Some-clause-times : goal.returns-in-Some-clause-times
+returns-in-Some-clause-times g c = asked-same c.args.kept.now.held.transactions c.args.kept.now.held.transactions (g.C.Clock.given c.args.clock.now) refl
+
+pub returns-in_ok-refused_text-in-Err-clause-times : goal.returns-in_ok-refused_text-in-Err-clause-times
+returns-in_ok-refused_text-in-Err-clause-times g c = asked-same c.args.kept.now.held.transactions c.args.kept.now.held.transactions (g.C.Clock.given c.args.clock.now) refl

@@ -2,21 +2,22 @@ use Rattle.std.proofs.Common.{ℤ, ℕ, List, Option, Err, length, ap, inl, inr,
 use Rattle.std.proofs.lemmas.Result.{err_from_is_err_and}
 use Rattle.im_accept.specs.Messages.{IsReadBack}
 use Rattle.im_digest.specs.Digests.{Hash}
+use Rattle.im_disk.proofs.Growing.{grows_none}
 use Rattle.im_ledger.specs.Histories.{KeptHistory}
 use Rattle.im_ledger.specs.Ledgers.{Held}
 use Rattle.im_ledger.specs.declared.errors.CommitError.TheVariants.{DiskFault}
-use Rattle.im_ledger.proofs.GrownLemmas.{grows-none}
 use Rattle.im_report.specs.Report.{IsAnswer}
 use Rattle.im_script.specs.declared.commands.Command.{Command}
 use Rattle.im_session.specs.Turns.{Answers, IsLooking}
 use Rattle.im_session.proofs.KeptLemmas.{between-same, memory-cause, never-err, never-fault, never-ok, nothing-placed, ok-cause}
 use Rattle.im_session.proofs.PutLemmas.{put-same}
+use Rattle.im_session.proofs.TimeLemmas.{asked-same}
 use Rattle.im_session.proofs.TurnLemmas.{looked-answers}
 use Rattle.im_session.proofs.serve.answer.Goals as goal
 
 pub returns-in_err-answer_link-in-Link-clause-left : goal.returns-in_err-answer_link-in-Link-clause-left
 returns-in_err-answer_link-in-Link-clause-left g c =
-    nothing-placed g.D.Disk.told (g.H.Hash32.digest c.args.hash.now) c.args.kept.now c.requires.kept (g.C.Clock.constant c.args.clock.now) c.args.command c.answer_link.new.kept.journal c.answer_link.ensures.journal
+    nothing-placed g.D.Disk.told (g.H.Hash32.digest c.args.hash.now) c.args.kept.now c.requires.kept (g.C.Clock.constant c.args.clock.now) (g.C.Clock.given c.args.clock.now) c.args.command c.answer_link.new.kept.journal c.answer_link.ensures.journal
 
 pub returns-in_ok-answer_link-in-Link-clause-moments : goal.returns-in_ok-answer_link-in-Link-clause-moments
 returns-in_ok-answer_link-in-Link-clause-moments g c =
@@ -24,7 +25,7 @@ returns-in_ok-answer_link-in-Link-clause-moments g c =
 
 pub returns-in_ok-answer_link-in-Link-clause-left : goal.returns-in_ok-answer_link-in-Link-clause-left
 returns-in_ok-answer_link-in-Link-clause-left g c =
-    nothing-placed g.D.Disk.told (g.H.Hash32.digest c.args.hash.now) c.args.kept.now c.requires.kept (g.C.Clock.constant c.args.clock.now) c.args.command c.answer_link.new.kept.journal c.answer_link.ensures.journal
+    nothing-placed g.D.Disk.told (g.H.Hash32.digest c.args.hash.now) c.args.kept.now c.requires.kept (g.C.Clock.constant c.args.clock.now) (g.C.Clock.given c.args.clock.now) c.args.command c.answer_link.new.kept.journal c.answer_link.ensures.journal
 
 pub returns-in_ok-answer_link-in-Link-clause-put : goal.returns-in_ok-answer_link-in-Link-clause-put
 returns-in_ok-answer_link-in-Link-clause-put g c w n p =
@@ -33,7 +34,7 @@ returns-in_ok-answer_link-in-Link-clause-put g c w n p =
 pub returns-in_err-look-in-Get-clause-left : goal.returns-in_err-look-in-Get-clause-left
 returns-in_err-look-in-Get-clause-left g c =
     let kept : KeptHistory g.row.D.Denot = c.args.kept.now in
-    nothing-placed g.D.Disk.told (g.H.Hash32.digest c.args.hash.now) kept c.requires.kept (g.C.Clock.constant c.args.clock.now) c.args.command kept.journal refl
+    nothing-placed g.D.Disk.told (g.H.Hash32.digest c.args.hash.now) kept c.requires.kept (g.C.Clock.constant c.args.clock.now) (g.C.Clock.given c.args.clock.now) c.args.command kept.journal refl
 
 pub returns-in_ok-look-in-Get-clause-answers : goal.returns-in_ok-look-in-Get-clause-answers
 returns-in_ok-look-in-Get-clause-answers g c =
@@ -58,7 +59,7 @@ returns-in_ok-look-in-Get-clause-moments g c =
 pub returns-in_ok-look-in-Get-clause-left : goal.returns-in_ok-look-in-Get-clause-left
 returns-in_ok-look-in-Get-clause-left g c =
     let kept : KeptHistory g.row.D.Denot = c.args.kept.now in
-    nothing-placed g.D.Disk.told (g.H.Hash32.digest c.args.hash.now) kept c.requires.kept (g.C.Clock.constant c.args.clock.now) c.args.command kept.journal refl
+    nothing-placed g.D.Disk.told (g.H.Hash32.digest c.args.hash.now) kept c.requires.kept (g.C.Clock.constant c.args.clock.now) (g.C.Clock.given c.args.clock.now) c.args.command kept.journal refl
 
 pub returns-in_err-read-in_default : goal.returns-in_err-read-in_default
 returns-in_err-read-in_default g c =
@@ -69,11 +70,12 @@ returns-in_err-read-in_default g c =
       answers = never-ok _ given error.0 error.1;
       again = never-ok _ given error.0 error.1;
       kept = never-ok _ given error.0 error.1;
+      times = never-ok _ given error.0 error.1;
       within = never-ok _ given error.0 error.1;
       put = λ w n p. never-ok _ given error.0 error.1;
       moments = never-ok _ given error.0 error.1;
-      left = nothing-placed g.D.Disk.told (g.H.Hash32.digest c.args.hash.now) kept c.requires.kept (g.C.Clock.constant c.args.clock.now) c.args.command kept.journal refl;
-      grows = grows-none (g.D.Disk.told kept.journal.disk);
+      left = nothing-placed g.D.Disk.told (g.H.Hash32.digest c.args.hash.now) kept c.requires.kept (g.C.Clock.constant c.args.clock.now) (g.C.Clock.given c.args.clock.now) c.args.command kept.journal refl;
+      grows = grows_none (g.D.Disk.told kept.journal.disk);
       cause = memory-cause (g.D.Disk.faults kept.journal.disk) given (error.1 ∙ ap Err error.2);
       why = λ fault. absurd (never-fault given (error.1 ∙ ap Err error.2) fault);
       same = refl;
@@ -92,12 +94,20 @@ returns-in_ok-read-in_default g c =
       answers = subst A c.ledger-in_default.ensures (done.ensures.answers constant);
       again = subst R c.ledger-in_default.ensures done.ensures.again;
       kept = c.requires.kept;
+      times = asked-same kept.held.transactions kept.held.transactions (g.C.Clock.given c.args.clock.now) refl;
       within = c.requires.within;
       put = λ w n p. p;
       moments = between-same g.D.Disk.told hash kept c.requires.kept kept refl refl;
-      left = nothing-placed g.D.Disk.told hash kept c.requires.kept constant c.args.command kept.journal refl;
-      grows = grows-none (g.D.Disk.told kept.journal.disk);
+      left = nothing-placed g.D.Disk.told hash kept c.requires.kept constant (g.C.Clock.given c.args.clock.now) c.args.command kept.journal refl;
+      grows = grows_none (g.D.Disk.told kept.journal.disk);
       cause = ok-cause (g.D.Disk.faults kept.journal.disk) _;
       why = λ fault. absurd (never-err done.field-0 DiskFault fault);
       same = refl;
     }
+
+pub returns-in_ok-look-in-Get-clause-times : goal.returns-in_ok-look-in-Get-clause-times
+returns-in_ok-look-in-Get-clause-times g c = asked-same c.args.kept.now.held.transactions c.args.kept.now.held.transactions (g.C.Clock.given c.args.clock.now) refl
+
+pub returns-in_ok-answer_link-in-Link-clause-times : goal.returns-in_ok-answer_link-in-Link-clause-times
+returns-in_ok-answer_link-in-Link-clause-times g c =
+    asked-same c.args.kept.now.held.transactions c.answer_link.new.kept.held.transactions (g.C.Clock.given c.args.clock.now) c.in_ok-answer_link-in-Link.ensures.same

@@ -5,12 +5,12 @@ use Rattle.std.proofs.lemmas.Iterator.Consumers.{YieldsList-end, YieldsList-so_f
 use Rattle.std.proofs.lemmas.List.{map-id}
 use Rattle.im_digest.specs.Digests.{Hash}
 use Rattle.im_disk.specs.Disk.{Told as DiskTold}
+use Rattle.im_disk.specs.Grown.{Grows}
+use Rattle.im_disk.proofs.Growing.{grows_both, grows_none}
 use Rattle.im_ledger.specs.Causes.{HasCommitCause}
-use Rattle.im_ledger.specs.Grown.{Grows}
 use Rattle.im_ledger.specs.Histories.{KeptHistory}
 use Rattle.im_ledger.specs.declared.errors.CommitError.TheVariants.{DiskFault}
 use Rattle.im_ledger.proofs.GrowLemmas.{kept-images}
-use Rattle.im_ledger.proofs.GrownLemmas.{grows-both, grows-none}
 use Rattle.im_model.specs.declared.transactions.Transaction.{Transaction}
 use Rattle.im_script.specs.declared.commands.Line.{Line}
 use Rattle.im_report.proofs.ReportLemmas.{Standing}
@@ -22,6 +22,7 @@ use Rattle.im_session.proofs.KeptLemmas.{error-is, never-err, ok-cause}
 use Rattle.im_session.proofs.PutLemmas.{put-first, put-shown}
 use Rattle.im_session.proofs.ReadLemmas.{within-none}
 use Rattle.im_session.proofs.ServedLemmas.{found-standing, found-within, front-stopped, is-why, moments-first, moments-next, serves-ended, timed-next}
+use Rattle.im_session.proofs.TimeLemmas.{asked-next, asked-same}
 use Rattle.im_session.proofs.TurnLemmas.{turn-report}
 use Rattle.im_session.proofs.serve.serve.Goals as goal
 
@@ -41,8 +42,9 @@ loop-line-init g c =
       within = within-none c.new-index.result found c.new-index.ensures;
       put = put-first g.D.Disk.told hash kept c.requires.kept;
       timed = subst T (sym (drop-length found)) (λ i d h. absurd (omega arith));
+      asked = asked-same found found (g.C.Clock.given c.args.clock.now) refl;
       moments = moments-first hash found now (kept-images g.D.Disk.told hash kept c.requires.kept);
-      grows = grows-none now;
+      grows = grows_none now;
       faults = refl;
       same = refl;
     }
@@ -68,9 +70,11 @@ loop-line-preserved g c =
       within = c.in_default.ensures.within;
       put = c.in_default.ensures.put c.args.kept.logs (length found) c.loop-line.invariant.put;
       timed = timed-next hash first line (length found) before.held after.held old new most (subst P c.loop-line.invariant.same turn) c.loop-line.invariant.timed;
+      asked = asked-next (length found) before.held.transactions after.held.transactions turn.answers.more (g.C.Clock.given c.args.clock.now) (g.C.Clock.given c.loop-line.clock)
+          (g.C.Clock.given c.turn.new.clock) most turn.answers.grown c.loop-line.invariant.asked c.in_default.ensures.times;
       moments = moments-next hash (length found) before.held.transactions turn.answers.more after.held.transactions
           (g.D.Disk.told c.args.kept.journal.disk) (g.D.Disk.told before.journal.disk) (g.D.Disk.told after.journal.disk) most turn.answers.grown c.loop-line.invariant.moments c.in_default.ensures.moments;
-      grows = grows-both (g.D.Disk.told c.args.kept.journal.disk) (g.D.Disk.told before.journal.disk) (g.D.Disk.told after.journal.disk) c.loop-line.invariant.grows c.turn.ensures.grows;
+      grows = grows_both (g.D.Disk.told c.args.kept.journal.disk) (g.D.Disk.told before.journal.disk) (g.D.Disk.told after.journal.disk) c.loop-line.invariant.grows c.turn.ensures.grows;
       faults = c.in_default.ensures.cause.others (λ fault. cc) ∙ c.loop-line.invariant.faults;
       same = c.turn.ensures.same ∙ c.loop-line.invariant.same;
     }
@@ -89,17 +93,20 @@ returns-in-Err-clause-front g c why is =
     let mid : Option DiskTold = g.D.Disk.told before.journal.disk in
     let now : Option DiskTold = g.D.Disk.told after.journal.disk in
     let out : List ℕ = c.loop-line.out.items in
+    let times_before : Option (List ℤ) = g.C.Clock.given c.args.clock.now in
+    let times_mid : Option (List ℤ) = g.C.Clock.given c.loop-line.clock in
+    let times_now : Option (List ℤ) = g.C.Clock.given c.turn.new.clock in
     let gives = c.into_iter-line-iterator.ensures.into_iter_gives in
     let all = YieldsList-from_vec {s = c.into_iter-line-iterator.result} lines gives.0 (gives.1 ∙ c.args.lines.ok.0) in
     let front = sym (map-id done) ∙ YieldsList-so_far all done c.loop-line.line-iterator c.loop-line.yielded_by in
     let here = YieldsList-turn all done c.loop-line.line-iterator c.loop-line.yielded_by c.next.result c.next.new.self line c.in-Some.is c.next.ensures.steps in
-    let P : Option ℤ → Type 0 = λ o. MayPlace hash o line.command before.held.transactions mid now in
-    let O : List ℕ → Type 0 = λ o. ServesFront hash first found lines start now o why in
-    let E : g.row.D.Denot → Type 0 = λ d. ServesFront hash first found lines start (g.D.Disk.told d) c.turn.new.out.items why in
+    let P : Option ℤ → Type 0 = λ o. MayPlace hash o line.command before.held.transactions mid now times_mid times_now in
+    let O : List ℕ → Type 0 = λ o. ServesFront hash first found lines start now times_before times_now o why in
+    let E : g.row.D.Denot → Type 0 = λ d. ServesFront hash first found lines start (g.D.Disk.told d) times_before times_now c.turn.new.out.items why in
     let fault : why ≡ DiskFault → ReachesDisk before.held.transactions line.command = λ w. c.in-Err.ensures.why (error-is c.in-Err.error why DiskFault is w) in
     subst E (sym c.into_disk.ensures) (subst O (sym c.in-Err.ensures.nothing)
-    (front-stopped hash first found before.held.transactions lines done line start mid now out (length before.held.tree) why front here.0 here.1
-    c.loop-line.invariant.standing c.loop-line.invariant.told c.loop-line.invariant.timed c.loop-line.invariant.moments (subst P c.loop-line.invariant.same c.turn.ensures.left)
+    (front-stopped hash first found before.held.transactions lines done line start mid now times_before times_mid times_now out (length before.held.tree) why front here.0 here.1
+    c.loop-line.invariant.standing c.loop-line.invariant.told c.loop-line.invariant.timed c.loop-line.invariant.asked c.loop-line.invariant.moments (subst P c.loop-line.invariant.same c.turn.ensures.left)
     (is-why why before.held.transactions line.command fault)))
 
 pub returns-in-Err-clause-some : goal.returns-in-Err-clause-some
@@ -117,7 +124,7 @@ returns-in-Err-clause-grows g c =
     let mid : Option DiskTold = g.D.Disk.told c.loop-line.kept.journal.disk in
     let now : Option DiskTold = g.D.Disk.told c.turn.new.kept.journal.disk in
     let E : g.row.D.Denot → Type 0 = λ d. Grows start (g.D.Disk.told d) in
-    subst E (sym c.into_disk.ensures) (grows-both start mid now c.loop-line.invariant.grows c.turn.ensures.grows)
+    subst E (sym c.into_disk.ensures) (grows_both start mid now c.loop-line.invariant.grows c.turn.ensures.grows)
 
 pub returns-clause-all : goal.returns-clause-all
 returns-clause-all g c =
@@ -131,11 +138,13 @@ returns-clause-all g c =
     let gives = c.into_iter-line-iterator.ensures.into_iter_gives in
     let all = YieldsList-from_vec {s = c.into_iter-line-iterator.result} lines gives.0 (gives.1 ∙ c.args.lines.ok.0) in
     let end = YieldsList-end all c.loop-line.yielded c.loop-line.line-iterator c.loop-line.yielded_by c.next.result c.next.new.self c.in-None.is c.next.ensures.steps in
+    let times_before : Option (List ℤ) = g.C.Clock.given c.args.clock.now in
+    let times_now : Option (List ℤ) = g.C.Clock.given c.loop-line.clock in
     let whole : c.loop-line.yielded ≡ lines = sym (map-id c.loop-line.yielded) ∙ end.0 in
-    let E : g.row.D.Denot → Type 0 = λ d. ServesAll hash first c.args.kept.logs found lines start (g.D.Disk.told d) c.loop-line.out.items in
+    let E : g.row.D.Denot → Type 0 = λ d. ServesAll hash first c.args.kept.logs found lines start (g.D.Disk.told d) times_before times_now c.loop-line.out.items in
     subst E (sym c.into_disk-2.ensures)
-    (serves-ended hash first c.args.kept.logs found kept.held.transactions lines c.loop-line.yielded start now c.loop-line.out.items (length kept.held.tree) whole
-    c.loop-line.invariant.standing c.loop-line.invariant.told c.loop-line.invariant.timed c.loop-line.invariant.moments
+    (serves-ended hash first c.args.kept.logs found kept.held.transactions lines c.loop-line.yielded start now times_before times_now c.loop-line.out.items (length kept.held.tree) whole
+    c.loop-line.invariant.standing c.loop-line.invariant.told c.loop-line.invariant.timed c.loop-line.invariant.asked c.loop-line.invariant.moments
     (kept-images g.D.Disk.told hash kept c.loop-line.invariant.kept) (put-shown g.D.Disk.told hash kept c.loop-line.invariant.kept c.args.kept.logs (length found) c.loop-line.invariant.put))
 
 pub returns-clause-front : goal.returns-clause-front
