@@ -4,9 +4,11 @@ use Rattle.std.proofs.lemmas.List.{take-append-le, length-take}
 use Rattle.std.proofs.lemmas.List.Elements.{All-take}
 use Rattle.im_digest.specs.Digests.{Hash}
 use Rattle.im_disk.specs.Disk.{Files, Told, after, seen}
+use Rattle.im_disk.specs.Grown.{Grows}
 use Rattle.im_disk.specs.Moments.{Leaves}
 use Rattle.im_disk.specs.declared.calls.Call.TheVariants.{Synced}
 use Rattle.im_disk.proofs.Leaving.{leaves_both, leaves_weaker}
+use Rattle.im_disk.proofs.Growing.{grows_both}
 use Rattle.im_format.specs.Standing.{Stands}
 use Rattle.im_model.specs.declared.transactions.Transaction.{Transaction}
 use Rattle.im_report.specs.Report.{Report}
@@ -15,9 +17,7 @@ use Rattle.im_script.specs.declared.commands.Line.{Line}
 use Rattle.im_accept.specs.Taken.{AreReadBack, HaveSessions}
 use Rattle.im_accept.proofs.CutLemmas.{report-texts, script-sessions}
 use Rattle.im_accept.proofs.TakenLemmas.{report-taken}
-use Rattle.im_ledger.specs.Grown.{Grows}
 use Rattle.im_ledger.specs.declared.errors.CommitError.{CommitError}
-use Rattle.im_ledger.proofs.GrownLemmas.{grows-both}
 use Rattle.im_session.specs.Served.{Serves, ServesAll, ServesFront, StandsFrom, StopsAt}
 use Rattle.im_app.specs.Runs.{IsGiven, IsReport, IsWhole}
 
@@ -58,7 +58,7 @@ moments-both hash found history left (Some t) mid now begins opened served =
 -- the calls of opening behind its sync, and then those of the session
 grows-served : (before mid now : Option Told) → IfSome before (λ t. Grows (Some (after Synced t)) mid) → Grows mid now → IfSome before (λ t. Grows (Some (after Synced t)) now)
 grows-served None mid now opened served = tt
-grows-served (Some t) mid now opened served = grows-both (Some (after Synced t)) mid now opened served
+grows-served (Some t) mid now opened served = grows_both (Some (after Synced t)) mid now opened served
 
 -- what opening found, and what a session made of it
 pub record Opens (hash : Hash) (found : List Transaction) (before mid : Option Told) : Type 0 where
@@ -66,9 +66,9 @@ pub record Opens (hash : Hash) (found : List Transaction) (before mid : Option T
   pub opened : IfSome before (λ t. Leaves (λ image. Stands hash image found) (Some (after Synced t)) mid)
   pub grew : IfSome before (λ t. Grows (Some (after Synced t)) mid)
 
-pub is-report : (hash : Hash) (constant : Option ℤ) (script octets : List ℕ) (lines : List Line) (found : List Transaction) (before mid now : Option Told)
-    → IsGiven script lines → Opens hash found before mid → Grows mid now → Serves hash constant found lines mid now octets → IsReport hash constant script octets before now
-is-report hash constant script octets lines found before mid now given o served s =
+pub is-report : (hash : Hash) (constant : Option ℤ) (script octets : List ℕ) (lines : List Line) (found : List Transaction) (before mid now : Option Told) (times_before times_now : Option (List ℤ))
+    → IsGiven script lines → Opens hash found before mid → Grows mid now → Serves hash constant found lines mid now times_before times_now octets → IsReport hash constant script octets before now times_before times_now
+is-report hash constant script octets lines found before mid now times_before times_now given o served s =
     let front : List Line = take s.count lines in
     let names : HaveSessions front = sessions-front lines s.count (script-sessions script lines given.read) in
     record {
@@ -85,30 +85,31 @@ is-report hash constant script octets lines found before mid now given o served 
       taken = report-taken hash found s.history front octets s.report names (s.again names);
       left = s.left;
       left_is = s.left_is;
+      asked = s.asked;
       images = s.images;
       moments = moments-both hash found s.history s.left before mid now s.report.begins o.opened s.moments;
       grows = grows-served before mid now o.grew served;
     }
 
-pub is-whole : (hash : Hash) (constant : Option ℤ) (logs : ℕ) (script octets : List ℕ) (lines : List Line) (found : List Transaction) (before mid now : Option Told)
-    → IsGiven script lines → Opens hash found before mid → Grows mid now → ServesAll hash constant logs found lines mid now octets → IsWhole hash constant logs script octets before now
+pub is-whole : (hash : Hash) (constant : Option ℤ) (logs : ℕ) (script octets : List ℕ) (lines : List Line) (found : List Transaction) (before mid now : Option Told) (times_before times_now : Option (List ℤ))
+    → IsGiven script lines → Opens hash found before mid → Grows mid now → ServesAll hash constant logs found lines mid now times_before times_now octets → IsWhole hash constant logs script octets before now times_before times_now
 unfolding is-report
-is-whole hash constant logs script octets lines found before mid now given o served s = record {
-  report = is-report hash constant script octets lines found before mid now given o served s.serves;
+is-whole hash constant logs script octets lines found before mid now times_before times_now given o served s = record {
+  report = is-report hash constant script octets lines found before mid now times_before times_now given o served s.serves;
   all = s.all;
   here = s.here;
 }
 
 -- a report of the lines before one that got no reply
-pub record IsFront (hash : Hash) (constant : Option ℤ) (why : CommitError) (script octets : List ℕ) (before now : Option Told) : Type 0 where
-  pub report : IsReport hash constant script octets before now
+pub record IsFront (hash : Hash) (constant : Option ℤ) (why : CommitError) (script octets : List ℕ) (before now : Option Told) (times_before times_now : Option (List ℤ)) : Type 0 where
+  pub report : IsReport hash constant script octets before now times_before times_now
   pub stops : StopsAt why report.history (drop report.count report.lines)
 
-pub is-front : (hash : Hash) (constant : Option ℤ) (why : CommitError) (script octets : List ℕ) (lines : List Line) (found : List Transaction) (before mid now : Option Told)
-    → IsGiven script lines → Opens hash found before mid → Grows mid now → ServesFront hash constant found lines mid now octets why → IsFront hash constant why script octets before now
+pub is-front : (hash : Hash) (constant : Option ℤ) (why : CommitError) (script octets : List ℕ) (lines : List Line) (found : List Transaction) (before mid now : Option Told) (times_before times_now : Option (List ℤ))
+    → IsGiven script lines → Opens hash found before mid → Grows mid now → ServesFront hash constant found lines mid now times_before times_now octets why → IsFront hash constant why script octets before now times_before times_now
 unfolding is-report
-is-front hash constant why script octets lines found before mid now given o served s = record {
-  report = is-report hash constant script octets lines found before mid now given o served s.serves;
+is-front hash constant why script octets lines found before mid now times_before times_now given o served s = record {
+  report = is-report hash constant script octets lines found before mid now times_before times_now given o served s.serves;
   stops = s.stops;
 }
 

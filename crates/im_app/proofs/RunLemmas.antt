@@ -76,11 +76,11 @@ same-script None a b is e = tt
 same-script (Some octets) a b is e = is ∙ e
 
 -- what is said of a script that was given is said of the source that gave it
-pub front-told : (hash : Hash) (constant : Option ℤ) (why : CommitError) (left : Option (List ℕ)) (script : List ℕ) (before now : Option Told) (sink_before sink_now : Option (List ℕ)) (faults_before faults_now : ℕ)
+pub front-told : (hash : Hash) (constant : Option ℤ) (why : CommitError) (left : Option (List ℕ)) (script : List ℕ) (before now : Option Told) (times_before times_now : Option (List ℤ)) (sink_before sink_now : Option (List ℕ)) (faults_before faults_now : ℕ)
     → IfSome left (λ octets. octets ≡ script)
-    → WritesFront hash constant why (Some script) before now sink_before sink_now faults_before faults_now
-    → WritesFront hash constant why left before now sink_before sink_now faults_before faults_now
-front-told hash constant why left script before now sink_before sink_now faults_before faults_now is w = record {
+    → WritesFront hash constant why (Some script) before now times_before times_now sink_before sink_now faults_before faults_now
+    → WritesFront hash constant why left before now times_before times_now sink_before sink_now faults_before faults_now
+front-told hash constant why left script before now times_before times_now sink_before sink_now faults_before faults_now is w = record {
   script = w.script;
   script_is = same-script left script w.script is w.script_is;
   octets = w.octets;

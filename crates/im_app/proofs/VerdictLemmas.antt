@@ -54,8 +54,3 @@ memory hash stream kept = record {
   passes = λ outcomes short v none. inr refl;
   refuses = λ outcomes short v some. inr refl;
 }
-
-pub memory-told : (hash : Hash) (left : Option (List ℕ)) (kept : Option (List (List ℕ))) → IfSome left (λ s. IfSome kept (HasVerdict hash the.Memory s))
-memory-told hash None kept = tt
-memory-told hash (Some s) None = tt
-memory-told hash (Some s) (Some lines) = memory hash s lines

@@ -6,6 +6,7 @@ use Rattle.im_edge.specs.Counts.{Rose}
 use Rattle.im_edge.specs.Sinks.{AddsPart}
 use Rattle.im_digest.specs.Digests.{Hash}
 use Rattle.im_disk.specs.Disk.{Files, Told, after, seen}
+use Rattle.im_disk.specs.Grown.{Grows}
 use Rattle.im_disk.specs.Moments.{Leaves, LeavesNow}
 use Rattle.im_disk.specs.declared.calls.Call.TheVariants.{Synced, Missed}
 use Rattle.im_format.specs.Standing.{Stands}
@@ -14,12 +15,11 @@ use Rattle.im_report.specs.Report.{Report}
 use Rattle.im_script.specs.Script.{IsScript}
 use Rattle.im_script.specs.declared.commands.Line.{Line}
 use Rattle.im_accept.specs.Taken.{line_text, AreTaken}
-use Rattle.im_ledger.specs.Grown.{Grows}
 use Rattle.im_ledger.specs.declared.errors.CommitError.{CommitError}
 use Rattle.im_opening.specs.Cut.{WasOpened}
 use Rattle.im_session.specs.Put.{StandsPut}
 use Rattle.im_session.specs.Served.{IsLeft, StandsFrom, StandsWith, StopsAt}
-use Rattle.im_session.specs.Turns.{HasTime}
+use Rattle.im_session.specs.Turns.{AskedFor, HasTime}
 
 -- these octets are a script that isn't too long
 pub record IsGiven (script : List ℕ) (lines : List Line) : Type 0 where
@@ -34,8 +34,9 @@ pub record IsGiven (script : List ℕ) (lines : List Line) : Type 0 where
 -- Each image that a crash may leave of the disk now stands for the history, or for it with the one transaction
 -- of the next line, which got no reply. And at each moment since the first sync each image stood for the first
 -- transactions of these, those that were found among them. The disk tells its calls as before, a sync that succeeded,
--- and others behind it.
-pub record IsReport (hash : Hash) (constant : Option ℤ) (script octets : List ℕ) (before now : Option Told) : Type 0 where
+-- and others behind it. The clock was asked once for each transaction that was placed, and for that of the next line,
+-- in order, and for nothing else: each has the time that was given for it, where the clock tells its times.
+pub record IsReport (hash : Hash) (constant : Option ℤ) (script octets : List ℕ) (before now : Option Told) (times_before times_now : Option (List ℤ)) : Type 0 where
   pub lines : List Line
   pub given : IsGiven script lines
   pub found : List Transaction
@@ -49,40 +50,41 @@ pub record IsReport (hash : Hash) (constant : Option ℤ) (script octets : List 
   pub taken : AreTaken hash history report.answers
   pub left : List Transaction
   pub left_is : IsLeft constant history (drop count lines) left
+  pub asked : AskedFor (drop (length found) history ++ left) times_before times_now
   pub images : LeavesNow (StandsWith hash history left) now
   pub moments : IfSome before (λ t. Leaves (StandsFrom hash (length found) (history ++ left)) (Some (after Synced t)) now)
   pub grows : IfSome before (λ t. Grows (Some (after Synced t)) now)
 
 -- all lines were answered, so that no transaction is without a reply, and what reads give stands for the history,
 -- where each transaction that was placed stands in a batch of its own, its values put over so many value logs
-pub record IsWhole (hash : Hash) (constant : Option ℤ) (logs : ℕ) (script octets : List ℕ) (before now : Option Told) : Type 0 where
-  pub report : IsReport hash constant script octets before now
+pub record IsWhole (hash : Hash) (constant : Option ℤ) (logs : ℕ) (script octets : List ℕ) (before now : Option Told) (times_before times_now : Option (List ℤ)) : Type 0 where
+  pub report : IsReport hash constant script octets before now times_before times_now
   pub all : report.count ≡ length report.lines
   pub here : IfSome now (λ t. StandsPut hash logs (length report.found) report.history (seen t))
 
 -- The report of all lines of a script, which is what the source had where it tells, was written, and nothing else.
-pub record WritesReport (hash : Hash) (constant : Option ℤ) (logs : ℕ) (source : Option (List ℕ)) (before now : Option Told) (sink_before sink_now : Option (List ℕ)) : Type 0 where
+pub record WritesReport (hash : Hash) (constant : Option ℤ) (logs : ℕ) (source : Option (List ℕ)) (before now : Option Told) (times_before times_now : Option (List ℤ)) (sink_before sink_now : Option (List ℕ)) : Type 0 where
   pub script : List ℕ
   pub script_is : IfSome source (λ octets. octets ≡ script)
   pub octets : List ℕ
-  pub report : IsWhole hash constant logs script octets before now
+  pub report : IsWhole hash constant logs script octets before now times_before times_now
   pub whole : Appends sink_before sink_now octets
 
 -- A front part of the report of all lines was written, and nothing else.
-pub record WritesPart (hash : Hash) (constant : Option ℤ) (logs : ℕ) (source : Option (List ℕ)) (before now : Option Told) (sink_before sink_now : Option (List ℕ)) : Type 0 where
+pub record WritesPart (hash : Hash) (constant : Option ℤ) (logs : ℕ) (source : Option (List ℕ)) (before now : Option Told) (times_before times_now : Option (List ℤ)) (sink_before sink_now : Option (List ℕ)) : Type 0 where
   pub script : List ℕ
   pub script_is : IfSome source (λ octets. octets ≡ script)
   pub octets : List ℕ
-  pub report : IsWhole hash constant logs script octets before now
+  pub report : IsWhole hash constant logs script octets before now times_before times_now
   pub part : AddsPart octets sink_before sink_now
 
 -- The report of the lines before the first one without a reply was written, and nothing else; or a front part of it
 -- where the sink failed.
-pub record WritesFront (hash : Hash) (constant : Option ℤ) (why : CommitError) (source : Option (List ℕ)) (before now : Option Told) (sink_before sink_now : Option (List ℕ)) (faults_before faults_now : ℕ) : Type 0 where
+pub record WritesFront (hash : Hash) (constant : Option ℤ) (why : CommitError) (source : Option (List ℕ)) (before now : Option Told) (times_before times_now : Option (List ℤ)) (sink_before sink_now : Option (List ℕ)) (faults_before faults_now : ℕ) : Type 0 where
   pub script : List ℕ
   pub script_is : IfSome source (λ octets. octets ≡ script)
   pub octets : List ℕ
-  pub report : IsReport hash constant script octets before now
+  pub report : IsReport hash constant script octets before now times_before times_now
   pub stops : StopsAt why report.history (drop report.count report.lines)
   pub wrote : (Appends sink_before sink_now octets × (faults_now ≡ faults_before))
       ⊎ (AddsPart octets sink_before sink_now × Rose faults_before faults_now)
@@ -112,7 +114,3 @@ pub record BeginsWith (hash : Hash) (found : List Transaction) (image : Files) :
 abbrev pub KeepsFound : Hash → List Transaction → Told → Option Told → Type 0
 KeepsFound hash found t now =
     (now ≡ Some t) ⊎ ((now ≡ Some (after Missed t)) ⊎ Leaves (BeginsWith hash found) (Some (after Synced t)) now)
-
--- what is done to a disk whose reads give an image that stands for no history: one sync at most, and nothing else
-abbrev pub SyncsAlone : Told → Option Told → Type 0
-SyncsAlone t now = (now ≡ Some t) ⊎ ((now ≡ Some (after Missed t)) ⊎ (now ≡ Some (after Synced t)))

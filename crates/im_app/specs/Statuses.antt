@@ -1,10 +1,12 @@
 -- How the ends of a run are told.
-use Rattle.std.specs.Prelude.{ℕ, List, [], codes, Result, Ok as Done, Err}
+use Rattle.std.specs.Prelude.{ℕ, List, [], ◌++◌, codes, Result, Ok as Done, Err}
+use Rattle.std.specs.Fmt.{decimal}
 use Rattle.im_edge.specs.declared.sink.WriteFault.{WriteFault as TheFault}
 use Rattle.im_ledger.specs.declared.errors.CommitError.{CommitError}
 use Rattle.im_ledger.specs.declared.errors.CommitError.TheVariants as commit
 use Rattle.im_opening.specs.declared.errors.OpenError.{OpenError}
 use Rattle.im_opening.specs.declared.errors.OpenError.TheVariants as opened
+use Rattle.im_app.specs.Damages.{damage_words}
 use Rattle.im_app.specs.declared.status.Status.{Status}
 use Rattle.im_app.specs.declared.status.Status.TheVariants.{Ok, Usage, Script, ReadFault, WriteFault, DiskFault, Damaged, KeeperFault, Refused, Memory, Long, Kept}
 
@@ -23,8 +25,7 @@ code_of Memory = 11
 code_of Long = 12
 code_of (Kept line) = 13
 
--- the words on standard error, where something is said there; the number of a line or what is said of a
--- damage follows them
+-- the words on standard error, where something is said there
 unfoldable pub words_of : Status → List ℕ
 words_of Ok = []
 words_of Usage = codes "usage"
@@ -38,6 +39,18 @@ words_of Refused = codes "refused"
 words_of Memory = codes "memory"
 words_of Long = codes "long"
 words_of (Kept line) = codes "kept"
+
+-- what stands behind the words: the number of a line, or what is said of a damage
+unfoldable pub behind_words : Status → List ℕ
+behind_words (Script line) = codes " " ++ decimal line
+behind_words (Damaged damage) = codes " " ++ damage_words damage
+behind_words (Kept line) = codes " " ++ decimal line
+behind_words _ = []
+
+-- all that is said on standard error at an end: nothing where all was done, and else one line
+unfoldable pub text_of : Status → List ℕ
+text_of Ok = []
+text_of status = codes "im: " ++ words_of status ++ behind_words status ++ codes "\n"
 
 -- words that ask for a run end so, where clap refuses them too
 abbrev pub EndsRun : Status → Type 0

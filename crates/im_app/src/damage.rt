@@ -21,10 +21,10 @@ fn push_difference(alloc: Global, out: &mut Vec<u8>, found: Difference) -> Resul
     }
 }
 
-/// What is said of a damage on standard error, behind `im: damaged `: the number of the file, the place in it in
+/// What is said of a damage on standard error, behind its words: the number of the file, the place in it in
 /// octets, what was wanted there and what was found, numbers in decimal and digests in hex.
 #[tactic(auto, unfolding(crate::specs::Damages::damage_words))]
-pub fn damage_text(alloc: Global, damage: &Damage) -> Result<Vec<u8>, AllocError>
+pub(crate) fn damage_text(alloc: Global, damage: &Damage) -> Result<Vec<u8>, AllocError>
     ensures { IfOk result (λ text. text.items ≡ damage_words damage.now) }
 {
     let mut out = Vec::new(alloc);

@@ -1,7 +1,7 @@
 //! The top call of the program `im`: from words and octets to octets.
 #![tactic(auto)]
 
-pub mod damage;
+mod damage;
 mod run;
 pub mod status;
 #[cfg(test)]

@@ -2,6 +2,7 @@ ghost use Rattle.std.specs.Prelude.{◌≡◌, ◌⊎◌, ℕ, ◌+◌, ◌≤�
 ghost use Rattle.im_digest.specs.Digests.{Hash};
 ghost use Rattle.im_disk.specs.Disk.{Told, after, seen};
 ghost use Rattle.im_disk.specs.declared.calls.Call.TheVariants.{Synced};
+ghost use Rattle.im_disk.specs.Grown.{Grows};
 ghost use Rattle.im_edge.specs.Counts.{Rose};
 ghost use Rattle.im_format.specs.Damages.{image_checks};
 ghost use Rattle.im_format.specs.Standing.{Stands};
@@ -10,8 +11,9 @@ ghost use Rattle.im_model.specs.declared.transactions.Transaction.{Transaction};
 ghost use Rattle.im_mtree.specs.Checks.{first_fail};
 ghost use Rattle.im_script.specs.Script.{StopsAfter};
 ghost use Rattle.im_app.specs.Fates.{HasFate};
-ghost use Rattle.im_app.specs.Runs.{GivesScript, IsGiven, KeepsFound, LeavesFound, SyncsAlone, WritesFront, WritesPart, WritesReport};
+ghost use Rattle.im_app.specs.Runs.{GivesScript, IsGiven, KeepsFound, LeavesFound, WritesFront, WritesPart, WritesReport};
 ghost use Rattle.im_app.specs.Statuses.{EndsGiven, EndsReading, EndsRun, EndsWriting, status_behind, status_by, status_for};
+ghost use Rattle.im_ledger.specs.Openings.{SyncsAtMost};
 ghost use Rattle.im_ledger.specs.declared.errors.CommitError.{CommitError as Why};
 ghost use Rattle.im_script.specs.declared.commands.Line.{Line as TheLine};
 
@@ -101,12 +103,12 @@ fn run_lines<H: Hash32, K: Sink, D: Disk, C: Clock>(
     requires logs { (1 ≤ logs) × (logs ≤ 4) }
     ensures ends { EndsWriting result.status }
     ensures report { (script : List ℕ) → IsGiven script lines.items → result.status ≡ Status.Ok
-        → WritesReport (H.digest hash.now) (C.constant clock.old) logs (Some script) (D.told disk) (D.told result.disk) (K.written sink.old) (K.written sink.new) }
+        → WritesReport (H.digest hash.now) (C.constant clock.old) logs (Some script) (D.told disk) (D.told result.disk) (C.given clock.old) (C.given clock.new) (K.written sink.old) (K.written sink.new) }
     ensures part { (script : List ℕ) → IsGiven script lines.items → result.status ≡ Status.WriteFault
-        → WritesPart (H.digest hash.now) (C.constant clock.old) logs (Some script) (D.told disk) (D.told result.disk) (K.written sink.old) (K.written sink.new) }
+        → WritesPart (H.digest hash.now) (C.constant clock.old) logs (Some script) (D.told disk) (D.told result.disk) (C.given clock.old) (C.given clock.new) (K.written sink.old) (K.written sink.new) }
     ensures front { (script : List ℕ) (why : Why) → IsGiven script lines.items → result.status ≡ status_for why
-        → ((sink.new ≡ sink.old) × LeavesFound (H.digest hash.now) (D.told disk) (D.told result.disk))
-        ⊎ WritesFront (H.digest hash.now) (C.constant clock.old) why (Some script) (D.told disk) (D.told result.disk)
+        → ((sink.new ≡ sink.old) × ((clock.new ≡ clock.old) × LeavesFound (H.digest hash.now) (D.told disk) (D.told result.disk)))
+        ⊎ WritesFront (H.digest hash.now) (C.constant clock.old) why (Some script) (D.told disk) (D.told result.disk) (C.given clock.old) (C.given clock.new)
         (K.written sink.old) (K.written sink.new) (K.faults sink.old) (K.faults sink.new) }
     ensures damaged { (damage : Damage) → result.status ≡ Status.Damaged damage → IfSome (D.told disk) (λ t.
         (first_fail (image_checks (H.digest hash.now) (seen t)) ≡ Err damage) × (D.told result.disk ≡ Some (after Synced t))) }
@@ -116,7 +118,8 @@ fn run_lines<H: Hash32, K: Sink, D: Disk, C: Clock>(
     ensures any_moment { (t : Told) (found : List Transaction) → D.told disk ≡ Some t → Stands (H.digest hash.now) (seen t) found
         → KeepsFound (H.digest hash.now) found t (D.told result.disk) }
     ensures unharmed { (t : Told) → D.told disk ≡ Some t → ((found : List Transaction) → Stands (H.digest hash.now) (seen t) found → ⊥)
-        → SyncsAlone t (D.told result.disk) }
+        → SyncsAtMost t (D.told result.disk) }
+    ensures grows { Grows (D.told disk) (D.told result.disk) }
     ensures device { result.status ≡ Status.DiskFault → Rose (D.faults disk) (D.faults result.disk) }
     ensures disk_count { (result.status ≡ Status.DiskFault → ⊥) → D.faults result.disk ≡ D.faults disk }
     ensures write { result.status ≡ Status.WriteFault → Rose (K.faults sink.old) (K.faults sink.new) }
@@ -153,12 +156,12 @@ pub(crate) fn run<H: Hash32, S: Source, K: Sink, D: Disk, C: Clock>(
 ) -> Ran<D>
     requires logs { (1 ≤ logs) × (logs ≤ 4) }
     ensures report { result.status ≡ Status.Ok
-        → WritesReport (H.digest hash.now) (C.constant clock.old) logs (S.left source.old) (D.told disk) (D.told result.disk) (K.written sink.old) (K.written sink.new) }
+        → WritesReport (H.digest hash.now) (C.constant clock.old) logs (S.left source.old) (D.told disk) (D.told result.disk) (C.given clock.old) (C.given clock.new) (K.written sink.old) (K.written sink.new) }
     ensures part { result.status ≡ Status.WriteFault
-        → WritesPart (H.digest hash.now) (C.constant clock.old) logs (S.left source.old) (D.told disk) (D.told result.disk) (K.written sink.old) (K.written sink.new) }
+        → WritesPart (H.digest hash.now) (C.constant clock.old) logs (S.left source.old) (D.told disk) (D.told result.disk) (C.given clock.old) (C.given clock.new) (K.written sink.old) (K.written sink.new) }
     ensures front { (why : Why) → result.status ≡ status_for why
-        → ((sink.new ≡ sink.old) × LeavesFound (H.digest hash.now) (D.told disk) (D.told result.disk))
-        ⊎ WritesFront (H.digest hash.now) (C.constant clock.old) why (S.left source.old) (D.told disk) (D.told result.disk)
+        → ((sink.new ≡ sink.old) × ((clock.new ≡ clock.old) × LeavesFound (H.digest hash.now) (D.told disk) (D.told result.disk)))
+        ⊎ WritesFront (H.digest hash.now) (C.constant clock.old) why (S.left source.old) (D.told disk) (D.told result.disk) (C.given clock.old) (C.given clock.new)
         (K.written sink.old) (K.written sink.new) (K.faults sink.old) (K.faults sink.new) }
     ensures given { EndsGiven result.status → GivesScript (S.left source.old) (S.left source.new) }
     ensures untouched { IfSome (S.left source.old) (λ script. ((lines : List TheLine) → IsGiven script lines → ⊥)
@@ -175,7 +178,8 @@ pub(crate) fn run<H: Hash32, S: Source, K: Sink, D: Disk, C: Clock>(
     ensures any_moment { (t : Told) (found : List Transaction) → D.told disk ≡ Some t → Stands (H.digest hash.now) (seen t) found
         → KeepsFound (H.digest hash.now) found t (D.told result.disk) }
     ensures unharmed { (t : Told) → D.told disk ≡ Some t → ((found : List Transaction) → Stands (H.digest hash.now) (seen t) found → ⊥)
-        → SyncsAlone t (D.told result.disk) }
+        → SyncsAtMost t (D.told result.disk) }
+    ensures grows { Grows (D.told disk) (D.told result.disk) }
 
     // Where the script wasn't run, nothing is touched but the source.
     ensures nothing { EndsReading result.status → (result.status ≡ Status.Memory → ⊥)

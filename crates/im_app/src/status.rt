@@ -1,7 +1,10 @@
-ghost use Rattle.std.specs.Prelude.{◌≡◌};
-ghost use Rattle.im_app.specs.Statuses.{code_of, words_of};
+ghost use Rattle.std.specs.Prelude.{◌≡◌, ◌++◌, IfOk, OnOk};
+ghost use Rattle.im_app.specs.Statuses.{behind_words, code_of, text_of, words_of};
 
+use crate::damage::damage_text;
 use im_format::damages::Damage;
+use im_talk::texts::push_number;
+use std::alloc::{AllocError, Global};
 
 /// How a run of the program ended. The program's exit status is the number at each.
 #[derive(Clone, Copy, Debug, PartialEq, Eq)]
@@ -54,8 +57,7 @@ impl Status {
         }
     }
 
-    /// The words that tell of it on standard error, behind `im: `, and before the number of a line or what is
-    /// said of a damage.
+    /// The words that tell of it on standard error.
     #[tactic(auto, unfolding(crate::specs::Statuses::words_of))]
     pub fn words(self) -> &'static str
         ensures { result.now ≡ words_of self }
@@ -75,12 +77,46 @@ impl Status {
             Status::Kept { .. } => "kept",
         }
     }
+
+    /// All that is said of it on standard error: nothing where all was done, and else one line.
+    #[tactic(auto, unfolding(crate::specs::Statuses::text_of))]
+    pub fn told(self, alloc: Global) -> Result<Vec<u8>, AllocError>
+        ensures { IfOk result (λ text. text.items ≡ text_of self) }
+    {
+        let mut out = Vec::new(alloc);
+        if let Status::Ok = self {
+            return Ok(out);
+        }
+        out.extend_from_slice(b"im: ")?;
+        out.extend_from_slice(self.words().as_bytes())?;
+        push_behind(alloc, &mut out, self)?;
+        out.extend_from_slice(b"\n")?;
+        Ok(out)
+    }
+}
+
+// Adds the number of a line, or what is said of a damage.
+#[tactic(auto, unfolding(crate::specs::Statuses::behind_words))]
+fn push_behind(alloc: Global, out: &mut Vec<u8>, status: Status) -> Result<(), AllocError>
+    ensures { OnOk result (out.new.items ≡ out.old.items ++ behind_words status) }
+{
+    match status {
+        Status::Script { line } | Status::Kept { line } => push_number(alloc, out, b" ", line),
+        Status::Damaged(damage) => {
+            out.extend_from_slice(b" ")?;
+            out.extend_from_slice(damage_text(alloc, &damage)?.as_slice())
+        }
+        _ => Ok(()),
+    }
 }
 
 /// What the top call hands back.
 #[derive(Drop)]
 pub struct Done<D, C> {
+    /// How the program ended.
     pub status: Status,
+    /// The disk, as the run left it.
     pub disk: D,
+    /// The clock, as the run left it.
     pub clock: C,
 }

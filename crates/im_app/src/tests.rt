@@ -1,23 +1,28 @@
-//! Runs of `top` whose output is known from elsewhere: worked by hand under the sum of octets, and
-//! computed with another program's SHA-256.
+//! Tests from the words of the command line to the octets that are written, in four parts.
+//!
+//! - `plain` is a reference, slow and simple: it answers a script from a list of transactions alone.
+//! - `compared` runs many small scripts through `top` and through the reference. Their reports are equal.
+//! - `known` has answers that are worked by hand, or come from another program.
+//! - `spoilt` has sources, sinks, keepers and disks that fail, and octets that were changed.
 
-mod exchange;
-mod faults;
-mod proofs;
-mod reads;
-mod stored;
-mod taken;
+ghost use Rattle.std.specs.Prelude.{◌≤◌, length};
+
+mod compared;
+mod known;
+mod plain;
+mod spoilt;
 
 use crate::status::{Done, Status};
 use crate::top::top;
-use im_digest::{Hash32, Sha, Sum};
+use im_digest::{Hash32, Sum};
+use im_disk::disk::Disk;
+use im_disk::memory::MemDisk;
 use im_disk::no_disk::NoDisk;
-use im_edge::clock::{Clock, FixedClock};
+use im_edge::clock::FixedClock;
 use im_edge::gate::OpenGate;
-use im_edge::keeper::MemKeeper;
-use im_edge::sink::{Given, Sink, Writing};
-use im_edge::source::{Reading, Source, Taken};
-use im_format::damages::{Damage, Difference};
+use im_edge::keeper::{Keeper, MemKeeper};
+use im_edge::sink::{Sink, Writing};
+use im_edge::source::{Reading, Source};
 use std::alloc::Global;
 use std::process::Abort;
 use std::test::Fail;
@@ -63,313 +68,112 @@ fn run<H: Hash32 + Sync>(
     Ok((status, inner))
 }
 
-#[test]
-fn scripts_and_their_reports_under_the_sum(rt: HostRuntime) -> Result<(), Fail> {
-    let cases: [(&[u8], &[u8]); 10] = [
-        (b"", b""),
-        (
-            b"a: set k=abc\na: header 1\na: header 0\na: header 2\n",
-            b"a 1 tx 1\na 1 header 0000000000000000000000000000000000000000000000000000000000000095 {\"blRoot\":\"0000000000000000000000000000000000000000000000000000000000000000\",\"blTxId\":0,\"eh\":\"0000000000000000000000000000000000000000000000000000000000000092\",\"id\":1,\"md\":\"\",\"nentries\":1,\"prevAlh\":\"0000000000000000000000000000000000000000000000000000000000000000\",\"ts\":0,\"version\":1}\na 1 refused order 0 0\na 1 refused beyond 1\n",
-        ),
-        (
-            b"a: set a=1 b=2 c=3\na: header 1\n",
-            b"a 1 tx 1\na 1 header 00000000000000000000000000000000000000000000000000000000000000c6 {\"blRoot\":\"0000000000000000000000000000000000000000000000000000000000000000\",\"blTxId\":0,\"eh\":\"00000000000000000000000000000000000000000000000000000000000000c1\",\"id\":1,\"md\":\"\",\"nentries\":3,\"prevAlh\":\"0000000000000000000000000000000000000000000000000000000000000000\",\"ts\":0,\"version\":1}\n",
-        ),
-        (
-            b"a: set k=1 k=2\na: set k=1\n",
-            b"a 0 refused twice 0 1\na 1 tx 1\n",
-        ),
-        (b"a: set\n", b"a 0 refused noentries\n"),
-        (b"a: set 0x=1\n", b"a 0 refused keyempty 0\n"),
-        (b"a: set 0x00=1\n", b"a 0 refused reserved 0\n"),
-        (b"a: set k=1 k=2 0x00=1\n", b"a 0 refused reserved 2\n"),
-        (
-            b"# a comment\n\na: header 9\na: set k=0x",
-            b"a 0 refused beyond 0\na 1 tx 1\n",
-        ),
-        (b"a: set b=1 a=1 c=1 a=2 b=2\n", b"a 0 refused twice 1 3\n"),
-    ];
-    for (script, report) in cases {
-        let (status, written) = run(&rt, &Sum, script)?;
-        assert_eq!(rt; status, Status::Ok);
-        assert_eq!(rt; written.as_slice(), report);
-    }
-    Ok(())
-}
-
-#[test]
-fn two_headers_under_sha_256(rt: HostRuntime) -> Result<(), Fail> {
-    let (status, written) = run(
-        &rt,
-        &Sha,
-        b"a: set k=abc\na: header 1\na: set j=0x00FF i=1\na: header 2\n",
-    )?;
-    assert_eq!(rt; status, Status::Ok);
-    assert_eq!(rt;
-        written.as_slice(),
-        b"a 1 tx 1\na 1 header fa5cc3315ddfc8e1b1cda45f1f2de03eb0939931934eedb7abc077f895b66b58 {\"blRoot\":\"0000000000000000000000000000000000000000000000000000000000000000\",\"blTxId\":0,\"eh\":\"d57284f116856443cfb07ce69377a334cdd845a711a510703d83e8da3dda94ae\",\"id\":1,\"md\":\"\",\"nentries\":1,\"prevAlh\":\"e3b0c44298fc1c149afbf4c8996fb92427ae41e4649b934ca495991b7852b855\",\"ts\":0,\"version\":1}\na 2 tx 2\na 2 header cc8feb1b8d70b5e5d31b707ad05a4f0e63ace4ba67302a7b8892e6090617fba2 {\"blRoot\":\"0000000000000000000000000000000000000000000000000000000000000000\",\"blTxId\":0,\"eh\":\"81d018b828494428836772e640ccf1f47b4d0bf21c410f51cd23e9a0d4210e3b\",\"id\":2,\"md\":\"\",\"nentries\":2,\"prevAlh\":\"fa5cc3315ddfc8e1b1cda45f1f2de03eb0939931934eedb7abc077f895b66b58\",\"ts\":0,\"version\":1}\n".as_slice()
-    );
-    Ok(())
-}
-
-// A script of one `set` whose key has so many octets.
-fn long_key(alloc: Global, count: usize) -> Result<Vec<u8>, Fail> {
-    let mut script = Vec::from_slice(alloc, b"a: set ")?;
-    for _ in 0..count {
-        script.push(b'k')?;
-    }
-    script.extend_from_slice(b"=v\n")?;
-    Ok(script)
-}
-
-#[test]
-fn keys_at_the_limit(rt: HostRuntime) -> Result<(), Fail> {
-    let (status, written) = run(&rt, &Sum, long_key(rt.alloc(), 1024)?.as_slice())?;
-    assert_eq!(rt; status, Status::Ok);
-    assert_eq!(rt; written.as_slice(), b"a 1 tx 1\n".as_slice());
-    let (status, written) = run(&rt, &Sum, long_key(rt.alloc(), 1025)?.as_slice())?;
-    assert_eq!(rt; status, Status::Ok);
-    assert_eq!(rt;
-        written.as_slice(),
-        b"a 0 refused keylong 0 1025\n".as_slice()
-    );
-    Ok(())
-}
-
-#[test]
-fn a_bad_line_writes_nothing(rt: HostRuntime) -> Result<(), Fail> {
-    let cases: [(&[u8], u64); 4] = [
-        (b"a: set k=v\na set\n", 2),
-        (b"# one\n\na: set k=v \n", 3),
-        (b"a: set k=v\nb: set k=v\n", 2),
-        (b"a: set k=v\n---\na: header 1\n", 2),
-    ];
-    for (script, line) in cases {
-        let (status, written) = run(&rt, &Sum, script)?;
-        assert_eq!(rt; status, Status::Script { line });
-        assert!(rt; written.is_empty());
-    }
-    Ok(())
-}
-
-#[test]
-fn words_that_are_no_command_line(rt: HostRuntime) -> Result<(), Fail> {
-    let lines: [&[&str]; 6] = [
-        &["im"],
-        &["im", "walk"],
-        &["im", "run", "--logs", "5"],
-        &["im", "run", "--link", "never"],
-        &["im", "--help"],
-        &["im", "verify", "twice"],
-    ];
-    for words in lines {
-        let mut source = Reading::new(b"a: set k=v\n".as_slice());
-        let mut sink = Writing::new(Vec::new(rt.alloc()));
-        let status = status_of(&rt, &Sum, words, &mut source, &mut sink)?;
-        assert_eq!(rt; status, Status::Usage);
-        assert!(rt; sink.inner.is_empty());
-    }
-    let mut source = Reading::new(b"a: set k=v\n".as_slice());
-    let mut sink = Writing::new(Vec::new(rt.alloc()));
-    let words = ["im", "run", "--link", "manual", "--logs", "4"];
-    let status = status_of(&rt, &Sum, &words, &mut source, &mut sink)?;
-    assert_eq!(rt; status, Status::Ok);
-    assert_eq!(rt; sink.inner.as_slice(), b"a 1 tx 1\n".as_slice());
-    Ok(())
-}
-
-// A source that gives blocks of `#`, and then fails, or ends.
-#[derive(Drop)]
-struct Blocks {
-    left: u64,
-    fails: bool,
-    faults: u64,
-}
-
-impl Source for Blocks {
-    ghost use Rattle.std.specs.Prelude.{None};
-
-    ghost left = { λ _. None };
-
-    ghost faults = { λ s. s.faults };
-
-    fn take(&mut self, buffer: &mut [u8]) -> Taken {
-        if buffer.is_empty() {
-            return Taken::End;
-        }
-        if self.left > 0 {
-            self.left -= 1;
-            buffer.fill(b'#');
-            return Taken::Took(buffer.len());
-        }
-        if self.fails {
-            self.faults = self.faults.saturating_add(1);
-            return Taken::Failed;
-        }
-        Taken::End
-    }
-}
-
-#[test]
-fn a_source_that_fails_or_is_too_long(rt: HostRuntime) -> Result<(), Fail> {
-    let cases = [
-        (3, true, Status::ReadFault),
-        (3, false, Status::Ok),
-        (1 << 32, false, Status::Long),
-    ];
-    for (left, fails, want) in cases {
-        let mut source = Blocks {
-            left,
-            fails,
-            faults: 0,
-        };
-        let mut sink = Writing::new(Vec::new(rt.alloc()));
-        let status = status_of(&rt, &Sum, &["im", "run"], &mut source, &mut sink)?;
-        assert_eq!(rt; status, want);
-        assert!(rt; sink.inner.is_empty());
-    }
-    Ok(())
-}
-
-// A sink that takes one octet at a time, so many of them, and then fails.
-#[derive(Drop)]
-struct Narrow {
-    room: u64,
-    faults: u64,
-}
-
-impl Sink for Narrow {
-    ghost use Rattle.std.specs.Prelude.{None};
-
-    ghost written = { λ _. None };
-
-    ghost faults = { λ s. s.faults };
-
-    fn give(&mut self, piece: &[u8]) -> Given {
-        if piece.is_empty() {
-            return Given::Gave(0);
-        }
-        if self.room > 0 {
-            self.room -= 1;
-            return Given::Gave(1);
-        }
-        self.faults = self.faults.saturating_add(1);
-        Given::Failed
-    }
-}
-
-#[test]
-fn a_sink_that_fails(rt: HostRuntime) -> Result<(), Fail> {
-    for (room, want) in [(9, Status::Ok), (8, Status::WriteFault)] {
-        let mut source = Reading::new(b"a: set k=v\n".as_slice());
-        let mut sink = Narrow { room, faults: 0 };
-        let status = status_of(&rt, &Sum, &["im", "run"], &mut source, &mut sink)?;
-        assert_eq!(rt; status, want);
-    }
-    Ok(())
-}
-
-// A clock that gives a second more each time, from 1 on.
-#[derive(Drop)]
-struct Ticking {
+// Runs `im run` with so many value logs and a clock of one time on a script, a sink and a disk.
+fn run_with<H: Hash32 + Sync, K: Sink, D: Disk + Send>(
+    rt: &(impl Abort + Alloc<A = Global>),
+    hash: &H,
+    logs: &str,
     time: i64,
-}
-
-impl Clock for Ticking {
-    ghost use Rattle.std.specs.Prelude.{None};
-
-    ghost constant = { λ _. None };
-
-    fn now(&mut self) -> i64 {
-        self.time = self.time.saturating_add(1);
-        self.time
-    }
-}
-
-// Under the sum the inner digests are 1 + 1 + 1 + 92 = 95 and 2 + 1 + 3 + c1 = c7, in hex, so the Alh are
-// 1 + 95 = 96 and 2 + 96 + c7 = 15f, of which 5f is kept.
-#[test]
-fn each_transaction_has_the_time_when_it_was_placed(rt: HostRuntime) -> Result<(), Fail> {
+    script: &[u8],
+    sink: &mut K,
+    disk: D,
+) -> Result<(Status, D), Fail> {
     let mut words = Vec::new(rt.alloc());
-    for word in ["im", "run"] {
+    for word in ["im", "run", "--logs", logs] {
         words.push(String::from_str(rt.alloc(), word)?)?;
     }
-    let script = b"a: set k=abc\na: set k=1 k=2\na: set a=1 b=2 c=3\na: header 1\na: header 2\n";
-    let mut source = Reading::new(script.as_slice());
-    let mut sink = Writing::new(Vec::new(rt.alloc()));
+    let mut source = Reading::new(script);
     let mut keeper = MemKeeper::new(rt.alloc());
-    let Done { status, clock, .. } = top(
-        &rt,
+    let Done { status, disk, .. } = top(
+        rt,
         rt.alloc(),
         words.as_slice(),
-        &Sum,
+        hash,
         &mut source,
-        &mut sink,
-        NoDisk,
+        sink,
+        disk,
         &mut keeper,
-        Ticking { time: 0 },
+        FixedClock { time },
         &OpenGate,
     );
-    assert_eq!(rt; status, Status::Ok);
-    assert_eq!(rt; clock.time, 2);
-    assert_eq!(rt;
-        sink.inner.as_slice(),
-        b"a 1 tx 1\na 1 refused twice 0 1\na 2 tx 2\na 2 header 0000000000000000000000000000000000000000000000000000000000000096 {\"blRoot\":\"0000000000000000000000000000000000000000000000000000000000000000\",\"blTxId\":0,\"eh\":\"0000000000000000000000000000000000000000000000000000000000000092\",\"id\":1,\"md\":\"\",\"nentries\":1,\"prevAlh\":\"0000000000000000000000000000000000000000000000000000000000000000\",\"ts\":1,\"version\":1}\na 2 header 000000000000000000000000000000000000000000000000000000000000005f {\"blRoot\":\"0000000000000000000000000000000000000000000000000000000000000000\",\"blTxId\":0,\"eh\":\"00000000000000000000000000000000000000000000000000000000000000c1\",\"id\":2,\"md\":\"\",\"nentries\":3,\"prevAlh\":\"0000000000000000000000000000000000000000000000000000000000000096\",\"ts\":2,\"version\":1}\n".as_slice()
+    Ok((status, disk))
+}
+
+// What a run writes with one value log, at the time 0 and under the sum.
+fn run_over(
+    rt: &(impl Abort + Alloc<A = Global>),
+    script: &[u8],
+    disk: MemDisk,
+) -> Result<(Status, Vec<u8>, MemDisk), Fail> {
+    let mut sink = Writing::new(Vec::new(rt.alloc()));
+    let (status, disk) = run_with(rt, &Sum, "1", 0, script, &mut sink, disk)?;
+    let Writing { inner, .. } = sink;
+    Ok((status, inner, disk))
+}
+
+// Runs `im verify` on a source, a sink and a keeper.
+fn verify_with<H: Hash32 + Sync, S: Source, K: Sink, P: Keeper>(
+    rt: &(impl Abort + Alloc<A = Global>),
+    hash: &H,
+    source: &mut S,
+    sink: &mut K,
+    keeper: &mut P,
+) -> Result<Status, Fail> {
+    let mut words = Vec::new(rt.alloc());
+    words.push(String::from_str(rt.alloc(), "im")?)?;
+    words.push(String::from_str(rt.alloc(), "verify")?)?;
+    let Done { status, .. } = top(
+        rt,
+        rt.alloc(),
+        words.as_slice(),
+        hash,
+        source,
+        sink,
+        NoDisk,
+        keeper,
+        FixedClock { time: 0 },
+        &OpenGate,
     );
-    Ok(())
+    Ok(status)
 }
 
-// A script of one `set` with so many entries, each value of so many octets.
-fn wide_set(alloc: Global, entries: usize, value: usize) -> Result<Vec<u8>, Fail> {
-    let mut script = Vec::from_slice(alloc, b"a: set")?;
-    for _ in 0..entries {
-        script.extend_from_slice(b" k=")?;
-        script.extend_from_slice(Vec::from_elem(alloc, b'v', value)?.as_slice())?;
-    }
-    Ok(script)
+// What `im verify` writes for a stream behind the lines of a keeper, and how it ends.
+fn verify<H: Hash32 + Sync>(
+    rt: &(impl Abort + Alloc<A = Global>),
+    hash: &H,
+    keeper: &mut MemKeeper,
+    stream: &[u8],
+) -> Result<(Status, Vec<u8>), Fail> {
+    let mut source = Reading::new(stream);
+    let mut sink = Writing::new(Vec::new(rt.alloc()));
+    let status = verify_with(rt, hash, &mut source, &mut sink, keeper)?;
+    let Writing { inner, .. } = sink;
+    Ok((status, inner))
 }
 
-#[test]
-fn entries_and_values_above_the_limits(rt: HostRuntime) -> Result<(), Fail> {
-    let cases: [(usize, usize, &[u8]); 4] = [
-        (1025, 1, b"a 0 refused toomany 1025\n"),
-        (1024, 1, b"a 0 refused twice 0 1\n"),
-        (1, 4097, b"a 0 refused valuelong 0 4097\n"),
-        (1, 4096, b"a 1 tx 1\n"),
-    ];
-    for (entries, value, report) in cases {
-        let script = wide_set(rt.alloc(), entries, value)?;
-        let (status, written) = run(&rt, &Sum, script.as_slice())?;
-        assert_eq!(rt; status, Status::Ok);
-        assert_eq!(rt; written.as_slice(), report);
+// The place of a text in another, or that one's length.
+fn place_of(text: &[u8], part: &[u8]) -> usize
+    ensures { result ≤ length text.now }
+{
+    for at in 0..text.len() {
+        if text[at..].starts_with(part) {
+            return at;
+        }
     }
-    Ok(())
+    text.len()
 }
 
-#[test]
-fn how_each_end_is_told(rt: HostRuntime) -> Result<(), Fail> {
-    let damage = Damage {
-        file: 0,
-        at: 0,
-        found: Difference::Numbers { want: 1, got: 2 },
-    };
-    let ends = [
-        (Status::Ok, 0, ""),
-        (Status::Usage, 2, "usage"),
-        (Status::Script { line: 7 }, 3, "script"),
-        (Status::ReadFault, 4, "read fault"),
-        (Status::WriteFault, 5, "write fault"),
-        (Status::DiskFault, 6, "disk fault"),
-        (Status::Damaged(damage), 7, "damaged"),
-        (Status::KeeperFault, 8, "keeper fault"),
-        (Status::Refused, 9, "refused"),
-        (Status::Memory, 11, "memory"),
-        (Status::Long, 12, "long"),
-        (Status::Kept { line: 7 }, 13, "kept"),
-    ];
-    for (status, code, words) in ends {
-        assert_eq!(rt; status.code(), code);
-        assert!(rt; status.words() == words);
-    }
-    Ok(())
+// The text with the first part that begins so, and ends before the next such end, replaced.
+fn replaced(
+    alloc: Global,
+    text: &[u8],
+    from: &[u8],
+    until: &[u8],
+    by: &[u8],
+) -> Result<Vec<u8>, Fail> {
+    let (before, rest) = text.split_at(place_of(text, from));
+    let mut out = Vec::from_slice(alloc, before)?;
+    out.extend_from_slice(by)?;
+    out.extend_from_slice(&rest[place_of(rest, until)..])?;
+    Ok(out)
 }

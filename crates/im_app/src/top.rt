@@ -2,6 +2,7 @@ ghost use Rattle.std.specs.Prelude.{◌≡◌, ◌⊎◌, ℕ, ◌+◌, ◌<◌,
 ghost use Rattle.std.specs.String.{string_bytes};
 ghost use Rattle.im_disk.specs.Disk.{Told, after, seen};
 ghost use Rattle.im_disk.specs.declared.calls.Call.TheVariants.{Synced};
+ghost use Rattle.im_disk.specs.Grown.{Grows};
 ghost use Rattle.im_edge.specs.Counts.{Rose};
 ghost use Rattle.im_format.specs.Damages.{image_checks};
 ghost use Rattle.im_format.specs.Standing.{Stands};
@@ -17,9 +18,10 @@ ghost use Rattle.im_words.specs.Form.{IsForm, IsVerifyForm};
 ghost use Rattle.im_words.specs.Meaning.{AsksRun, AsksVerify};
 ghost use Rattle.im_words.specs.declared.Link.{Link};
 ghost use Rattle.im_app.specs.Fates.{HasFate, HasVerdict};
+ghost use Rattle.im_ledger.specs.Openings.{SyncsAtMost};
 ghost use Rattle.im_ledger.specs.declared.errors.CommitError.{CommitError as Why};
 ghost use Rattle.im_script.specs.declared.commands.Line.{Line};
-ghost use Rattle.im_app.specs.Runs.{GivesScript, IsGiven, KeepsFound, LeavesFound, SyncsAlone, WritesFront, WritesPart, WritesReport};
+ghost use Rattle.im_app.specs.Runs.{GivesScript, IsGiven, KeepsFound, LeavesFound, WritesFront, WritesPart, WritesReport};
 ghost use Rattle.im_app.specs.Statuses.{EndsGiven, EndsReading, EndsRun, EndsVerify, status_for};
 
 use crate::run::{Ran, run};
@@ -47,12 +49,12 @@ fn carry_out<H: Hash32, S: Source, K: Sink, D: Disk, P: Keeper, C: Clock>(
     clock: &mut C,
 ) -> Ran<D>
     ensures report { (asks : AsksRun (map string_bytes words.now)) → result.status ≡ Status.Ok
-        → WritesReport (H.digest hash.now) (C.constant clock.old) asks.0 (S.left source.old) (D.told disk) (D.told result.disk) (K.written sink.old) (K.written sink.new) }
+        → WritesReport (H.digest hash.now) (C.constant clock.old) asks.0 (S.left source.old) (D.told disk) (D.told result.disk) (C.given clock.old) (C.given clock.new) (K.written sink.old) (K.written sink.new) }
     ensures part { (asks : AsksRun (map string_bytes words.now)) → result.status ≡ Status.WriteFault
-        → WritesPart (H.digest hash.now) (C.constant clock.old) asks.0 (S.left source.old) (D.told disk) (D.told result.disk) (K.written sink.old) (K.written sink.new) }
+        → WritesPart (H.digest hash.now) (C.constant clock.old) asks.0 (S.left source.old) (D.told disk) (D.told result.disk) (C.given clock.old) (C.given clock.new) (K.written sink.old) (K.written sink.new) }
     ensures front { (why : Why) → AsksRun (map string_bytes words.now) → result.status ≡ status_for why
-        → ((sink.new ≡ sink.old) × LeavesFound (H.digest hash.now) (D.told disk) (D.told result.disk))
-        ⊎ WritesFront (H.digest hash.now) (C.constant clock.old) why (S.left source.old) (D.told disk) (D.told result.disk)
+        → ((sink.new ≡ sink.old) × ((clock.new ≡ clock.old) × LeavesFound (H.digest hash.now) (D.told disk) (D.told result.disk)))
+        ⊎ WritesFront (H.digest hash.now) (C.constant clock.old) why (S.left source.old) (D.told disk) (D.told result.disk) (C.given clock.old) (C.given clock.new)
         (K.written sink.old) (K.written sink.new) (K.faults sink.old) (K.faults sink.new) }
     ensures given { AsksRun (map string_bytes words.now) → EndsGiven result.status → GivesScript (S.left source.old) (S.left source.new) }
     ensures unread { AsksRun (map string_bytes words.now) → IfSome (S.left source.old) (λ script. ((lines : List Line) → IsGiven script lines → ⊥)
@@ -61,7 +63,8 @@ fn carry_out<H: Hash32, S: Source, K: Sink, D: Disk, P: Keeper, C: Clock>(
     ensures any_moment { (t : Told) (found : List Transaction) → D.told disk ≡ Some t → Stands (H.digest hash.now) (seen t) found
         → KeepsFound (H.digest hash.now) found t (D.told result.disk) }
     ensures unharmed { (t : Told) → D.told disk ≡ Some t → ((found : List Transaction) → Stands (H.digest hash.now) (seen t) found → ⊥)
-        → SyncsAlone t (D.told result.disk) }
+        → SyncsAtMost t (D.told result.disk) }
+    ensures grows { Grows (D.told disk) (D.told result.disk) }
     ensures damaged { (damage : Damage) → result.status ≡ Status.Damaged damage → IfSome (D.told disk) (λ t.
         (first_fail (image_checks (H.digest hash.now) (seen t)) ≡ Err damage) × (D.told result.disk ≡ Some (after Synced t))) }
     ensures sound { (damage : Damage) (t : Told) (found : List Transaction) → D.told disk ≡ Some t → Stands (H.digest hash.now) (seen t) found
@@ -165,19 +168,20 @@ pub fn top<
     // reply, as `verify` reads them. Each line that is a message is accepted by every client that keeps the header it
     // is for, a state by one that keeps none too, and that client then keeps the header that the message leads to;
     // every other line is passed over. In the files each new transaction stands in a batch of its own, its values put
-    // over as many value logs as the words ask for.
+    // over as many value logs as the words ask for. Each has the time that the clock gave for it: where the clock tells
+    // the times that it gave, it was asked once for each new transaction, in order, and for nothing else.
     ensures report { (asks : AsksRun (map string_bytes words.now)) → result.status ≡ Status.Ok
-        → WritesReport (H.digest hash.now) (C.constant clock) asks.0 (S.left source.old) (D.told disk) (D.told result.disk) (K.written sink.old) (K.written sink.new) }
+        → WritesReport (H.digest hash.now) (C.constant clock) asks.0 (S.left source.old) (D.told disk) (D.told result.disk) (C.given clock) (C.given result.clock) (K.written sink.old) (K.written sink.new) }
 
     // Where the sink failed, what was written is a front part of the report. Where the disk failed or memory ran out
     // at a line, the lines before it were answered and told, as far as the sink took them, and what the disk stands for
-    // has all of them. Else the sink wasn't touched. A source without a script of the grammar has neither
-    // sink, clock nor disk touched.
+    // has all of them; the clock was asked for that line's transaction too, if there was one. Else neither the sink nor
+    // the clock was touched. A source without a script of the grammar has neither sink, clock nor disk touched.
     ensures part { (asks : AsksRun (map string_bytes words.now)) → result.status ≡ Status.WriteFault
-        → WritesPart (H.digest hash.now) (C.constant clock) asks.0 (S.left source.old) (D.told disk) (D.told result.disk) (K.written sink.old) (K.written sink.new) }
+        → WritesPart (H.digest hash.now) (C.constant clock) asks.0 (S.left source.old) (D.told disk) (D.told result.disk) (C.given clock) (C.given result.clock) (K.written sink.old) (K.written sink.new) }
     ensures front { (why : Why) → AsksRun (map string_bytes words.now) → result.status ≡ status_for why
-        → ((sink.new ≡ sink.old) × LeavesFound (H.digest hash.now) (D.told disk) (D.told result.disk))
-        ⊎ WritesFront (H.digest hash.now) (C.constant clock) why (S.left source.old) (D.told disk) (D.told result.disk)
+        → ((sink.new ≡ sink.old) × ((result.clock ≡ clock) × LeavesFound (H.digest hash.now) (D.told disk) (D.told result.disk)))
+        ⊎ WritesFront (H.digest hash.now) (C.constant clock) why (S.left source.old) (D.told disk) (D.told result.disk) (C.given clock) (C.given result.clock)
         (K.written sink.old) (K.written sink.new) (K.faults sink.old) (K.faults sink.new) }
     ensures given { AsksRun (map string_bytes words.now) → EndsGiven result.status → GivesScript (S.left source.old) (S.left source.new) }
     ensures unread { AsksRun (map string_bytes words.now) → IfSome (S.left source.old) (λ script. ((lines : List Line) → IsGiven script lines → ⊥)
@@ -190,11 +194,14 @@ pub fn top<
     ensures any_moment { (t : Told) (found : List Transaction) → D.told disk ≡ Some t → Stands (H.digest hash.now) (seen t) found
         → KeepsFound (H.digest hash.now) found t (D.told result.disk) }
     ensures unharmed { (t : Told) → D.told disk ≡ Some t → ((found : List Transaction) → Stands (H.digest hash.now) (seen t) found → ⊥)
-        → SyncsAlone t (D.told result.disk) }
+        → SyncsAtMost t (D.told result.disk) }
     ensures damaged { (damage : Damage) → result.status ≡ Status.Damaged damage → IfSome (D.told disk) (λ t.
         (first_fail (image_checks (H.digest hash.now) (seen t)) ≡ Err damage) × (D.told result.disk ≡ Some (after Synced t))) }
     ensures sound { (damage : Damage) (t : Told) (found : List Transaction) → D.told disk ≡ Some t → Stands (H.digest hash.now) (seen t) found
         → result.status ≡ Status.Damaged damage → ⊥ }
+
+    // At every end the disk that comes back tells the calls that it was handed in with, and others behind them.
+    ensures grows { Grows (D.told disk) (D.told result.disk) }
 
     // The script is at fault, at its first line that isn't in the grammar.
     ensures script { (k : ℕ) → result.status ≡ Status.Script k → IfSome (S.left source.old) (λ script.
@@ -229,10 +236,12 @@ pub fn top<
     ensures long { result.status ≡ Status.Long → IfSome (S.left source.old) (λ octets. 67108864 < length octets) }
 
     // The words are at fault just where `clap` refuses them, and then nothing is touched. Those of the forms
-    // `NAME run [--logs 1..4] [--link auto|manual]`, the options in any order, and `NAME verify` never are.
+    // `NAME run [--logs 1..4] [--link auto|manual]`, the options in any order, and `NAME verify` never are: the first
+    // ask for a run with the number of logs and the link that they write, the second for `verify`.
     ensures usage { result.status ≡ Status.Usage → IsRefused (map string_bytes words.now) }
-    ensures form { (logs : ℕ) (link : Link) → IsForm (map string_bytes words.now) logs link → result.status ≡ Status.Usage → ⊥ }
-    ensures verify_form { IsVerifyForm (map string_bytes words.now) → result.status ≡ Status.Usage → ⊥ }
+    ensures form { (logs : ℕ) (link : Link) → IsForm (map string_bytes words.now) logs link
+        → (result.status ≡ Status.Usage → ⊥) × ((asks : AsksRun (map string_bytes words.now)) × (asks.0 ≡ logs) × (asks.1 ≡ link)) }
+    ensures verify_form { IsVerifyForm (map string_bytes words.now) → (result.status ≡ Status.Usage → ⊥) × AsksVerify (map string_bytes words.now) }
     ensures refused { IsRefused (map string_bytes words.now) → (result.status ≡ Status.Usage) ⊎ (result.status ≡ Status.Memory) }
     ensures untouched { IsRefused (map string_bytes words.now) → (source.new ≡ source.old) × ((sink.new ≡ sink.old) × ((keeper.new ≡ keeper.old) × ((result.disk ≡ disk) × (result.clock ≡ clock)))) }
 

@@ -5,6 +5,7 @@ use std::time::{SystemTime, UNIX_EPOCH};
 /// The system's clock. Where it can't be read, or stands before 1970, it gives 0.
 #[derive(Drop)]
 pub struct SystemClock<'a, R> {
+    /// What tells the time.
     pub rt: &'a R,
 }
 
@@ -12,6 +13,8 @@ impl<R: rt::Clock> Clock for SystemClock<'_, R> {
     ghost use Rattle.std.specs.Prelude.{None};
 
     ghost constant = { λ _. None };
+
+    ghost given = { λ _. None };
 
     fn now(&mut self) -> i64 {
         let Ok(now) = SystemTime::now(self.rt) else {

@@ -4,8 +4,7 @@
 mod clock;
 
 use clock::SystemClock;
-use im_app::damage::damage_text;
-use im_app::status::{Done, Status};
+use im_app::status::Status;
 use im_app::top::top;
 use im_digest::Sha;
 use im_disk::folder::FolderDisk;
@@ -13,10 +12,9 @@ use im_edge::file_keeper::FileKeeper;
 use im_edge::gate::OpenGate;
 use im_edge::sink::Writing;
 use im_edge::source::Reading;
-use im_format::damages::Damage;
-use std::alloc::Global;
+use std::env;
+use std::io::{self, Lock, Write};
 use std::process::ExitCode;
-use std::{env, io};
 
 // The folder in the working folder whose files are the store's.
 const STORED: &str = "im-data";
@@ -47,28 +45,17 @@ fn main(rt: HostRuntime) -> ExitCode {
         SystemClock { rt: &rt },
         &OpenGate,
     );
-    let Done { status, .. } = done;
-    ended(&rt, status)
+    ended(&rt, done.status)
 }
 
 // Tells how a run ended, on standard error and by the exit status.
-fn ended(rt: &(impl Eprint + Alloc<A = Global>), status: Status) -> ExitCode {
-    let words = status.words();
-    let told = match status {
-        Status::Ok => Ok(()),
-        Status::Script { line } | Status::Kept { line } => eprintln!(rt; "im: {words} {line}"),
-        Status::Damaged(damage) => eprintln!(rt; "im: {words} {}", shown(rt.alloc(), &damage)),
-        _ => eprintln!(rt; "im: {words}"),
+fn ended(rt: &HostRuntime, status: Status) -> ExitCode {
+    let told = match status.told(rt.alloc()) {
+        Ok(text) => rt.stderr().lock().write_all(text.as_slice()),
+        // The words need no memory.
+        Err(_) => eprintln!(rt; "im: {}", status.words()),
     };
     // Where standard error can't be written, the exit status alone tells.
     let _ = told;
     ExitCode::from(status.code())
-}
-
-// What is said of a damage; nothing where memory ran out.
-fn shown(alloc: Global, damage: &Damage) -> String {
-    match damage_text(alloc, damage) {
-        Ok(text) => String::from_utf8(text).unwrap_or(String::new(alloc)),
-        Err(_) => String::new(alloc),
-    }
 }

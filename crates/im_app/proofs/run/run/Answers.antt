@@ -1,6 +1,7 @@
 use Rattle.std.proofs.Common.{◌≡◌, ℕ, ℤ, List, sym, ◌∙◌, ap, subst, Option, Some, Err, inl, inr, refl, IfSome}
 use Rattle.im_digest.specs.Digests.{Hash}
 use Rattle.im_disk.specs.Disk.{Told, after, seen}
+use Rattle.im_disk.proofs.Growing.{grows_none}
 use Rattle.im_disk.proofs.Leaving.{if_told}
 use Rattle.im_disk.specs.declared.calls.Call.TheVariants.{Synced}
 use Rattle.im_format.specs.Damages.{image_checks}
@@ -24,7 +25,7 @@ returns-in-Ok-clause-front g c = λ why e.
     elim (c.run_lines.ensures.front given.0 why given.2 e) [
       | inl none ↦ inl none
       | inr front ↦ inr (front-told (g.H.Hash32.digest c.args.hash.now) (g.C.Clock.constant c.args.clock.now) why (g.S.Source.left c.args.source.now) given.0
-          (g.D.Disk.told c.args.disk) (g.D.Disk.told c.run_lines.result.disk) (g.K.Sink.written c.args.sink.now) (g.K.Sink.written c.run_lines.new.sink)
+          (g.D.Disk.told c.args.disk) (g.D.Disk.told c.run_lines.result.disk) (g.C.Clock.given c.args.clock.now) (g.C.Clock.given c.run_lines.new.clock) (g.K.Sink.written c.args.sink.now) (g.K.Sink.written c.run_lines.new.sink)
           (g.K.Sink.faults c.args.sink.now) (g.K.Sink.faults c.run_lines.new.sink) given.1 front)
     ]
 
@@ -67,3 +68,6 @@ returns-in-Err-clause-fate g c = λ no_read no_write no_device.
     let read = c.in-Err.ensures in
     unread-told (g.H.Hash32.digest c.args.hash.now) (g.D.Disk.told c.args.disk) c.in-Err.status (g.S.Source.left c.args.source.now)
     read.ends (λ e. no_read (read.read (ap Err e))) (λ k e. read.script k (ap Err e)) (λ e. read.long (ap Err e))
+
+pub returns-in-Err-clause-grows : goal.returns-in-Err-clause-grows
+returns-in-Err-clause-grows g c = grows_none (g.D.Disk.told c.args.disk)

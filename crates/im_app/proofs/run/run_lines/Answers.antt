@@ -2,13 +2,14 @@ use Rattle.std.proofs.Common.{◌≡◌, ◌⊎◌, ℕ, ℤ, List, ◌++◌, le
 use Rattle.std.specs.Io.KnownBytes.{Appends}
 use Rattle.im_digest.specs.Digests.{Hash}
 use Rattle.im_disk.specs.Disk.{Told, after, seen}
+use Rattle.im_disk.specs.Grown.{Grows}
 use Rattle.im_disk.specs.Moments.{Leaves}
 use Rattle.im_disk.specs.declared.calls.Call.TheVariants.{Synced}
+use Rattle.im_disk.proofs.Growing.{grows_both}
 use Rattle.im_edge.specs.Counts.{Rose}
 use Rattle.im_edge.specs.Sinks.{AddsPart}
 use Rattle.im_format.specs.Standing.{Stands}
 use Rattle.im_model.specs.declared.transactions.Transaction.{Transaction}
-use Rattle.im_ledger.specs.Grown.{Grows}
 use Rattle.im_session.specs.Served.{Serves, ServesAll}
 use Rattle.im_app.specs.Runs.{IsWhole, KeepsFound}
 use Rattle.im_app.proofs.FoundLemmas.{opened-keeps, served-keeps}
@@ -33,6 +34,8 @@ returns-clause-report g c = λ script given e.
     let now : Option Told = g.D.Disk.told c.serve-disk.result.disk in
     let found : List Transaction = c.in-Ok.kept.held.transactions in
     let out : List ℕ = c.serve-disk.result.out.items in
+    let times_before : Option (List ℤ) = g.C.Clock.given c.args.clock.now in
+    let times_now : Option (List ℤ) = g.C.Clock.given c.serve-disk.new.clock in
     let sink_before = g.K.Sink.written c.args.sink.now in
     let sink_now = g.K.Sink.written c.write_all-wrote.new.sink in
     let A : List ℕ → Type 0 = λ octets. Appends sink_before sink_now octets in
@@ -42,14 +45,14 @@ returns-clause-report g c = λ script given e.
       opened = if-told before (λ t. Leaves (λ image. Stands hash image found) (Some (after Synced t)) mid) c.in-Ok.ensures.moments;
       grew = if-told before (λ t. Grows (Some (after Synced t)) mid) c.in-Ok.ensures.grows;
     } in
-    let all : ServesAll hash constant c.in-Ok.kept.logs found c.args.lines.items mid now out =
-    on-ok c.serve-disk.result.end (ServesAll hash constant c.in-Ok.kept.logs found c.args.lines.items mid now out) both.0 c.serve-disk.ensures.all in
-    let L : ℕ → Type 0 = λ n. IsWhole hash constant n script out before now in
+    let all : ServesAll hash constant c.in-Ok.kept.logs found c.args.lines.items mid now times_before times_now out =
+    on-ok c.serve-disk.result.end (ServesAll hash constant c.in-Ok.kept.logs found c.args.lines.items mid now times_before times_now out) both.0 c.serve-disk.ensures.all in
+    let L : ℕ → Type 0 = λ n. IsWhole hash constant n script out before now times_before times_now in
     record {
       script = script;
       script_is = refl;
       octets = out;
-      report = subst L c.in-Ok.ensures.logs (is-whole hash constant c.in-Ok.kept.logs script out c.args.lines.items found before mid now given opens c.serve-disk.ensures.grows all);
+      report = subst L c.in-Ok.ensures.logs (is-whole hash constant c.in-Ok.kept.logs script out c.args.lines.items found before mid now times_before times_now given opens c.serve-disk.ensures.grows all);
       whole = subst A c.as_slice.ensures.value (on-ok c.write_all-wrote.result (A c.as_slice.result.now) both.1 c.write_all-wrote.ensures.whole);
     }
 
@@ -62,6 +65,8 @@ returns-clause-part g c = λ script given e.
     let now : Option Told = g.D.Disk.told c.serve-disk.result.disk in
     let found : List Transaction = c.in-Ok.kept.held.transactions in
     let out : List ℕ = c.serve-disk.result.out.items in
+    let times_before : Option (List ℤ) = g.C.Clock.given c.args.clock.now in
+    let times_now : Option (List ℤ) = g.C.Clock.given c.serve-disk.new.clock in
     let A : List ℕ → Type 0 = λ octets. AddsPart octets (g.K.Sink.written c.args.sink.now) (g.K.Sink.written c.write_all-wrote.new.sink) in
     let answered = failed-behind c.serve-disk.result.end c.write_all-wrote.result (sym c.status_after.ensures ∙ e) in
     let opens : Opens hash found before mid = record {
@@ -69,14 +74,14 @@ returns-clause-part g c = λ script given e.
       opened = if-told before (λ t. Leaves (λ image. Stands hash image found) (Some (after Synced t)) mid) c.in-Ok.ensures.moments;
       grew = if-told before (λ t. Grows (Some (after Synced t)) mid) c.in-Ok.ensures.grows;
     } in
-    let all : ServesAll hash constant c.in-Ok.kept.logs found c.args.lines.items mid now out =
-    on-ok c.serve-disk.result.end (ServesAll hash constant c.in-Ok.kept.logs found c.args.lines.items mid now out) answered c.serve-disk.ensures.all in
-    let L : ℕ → Type 0 = λ n. IsWhole hash constant n script out before now in
+    let all : ServesAll hash constant c.in-Ok.kept.logs found c.args.lines.items mid now times_before times_now out =
+    on-ok c.serve-disk.result.end (ServesAll hash constant c.in-Ok.kept.logs found c.args.lines.items mid now times_before times_now out) answered c.serve-disk.ensures.all in
+    let L : ℕ → Type 0 = λ n. IsWhole hash constant n script out before now times_before times_now in
     record {
       script = script;
       script_is = refl;
       octets = out;
-      report = subst L c.in-Ok.ensures.logs (is-whole hash constant c.in-Ok.kept.logs script out c.args.lines.items found before mid now given opens c.serve-disk.ensures.grows all);
+      report = subst L c.in-Ok.ensures.logs (is-whole hash constant c.in-Ok.kept.logs script out c.args.lines.items found before mid now times_before times_now given opens c.serve-disk.ensures.grows all);
       part = subst A c.as_slice.ensures.value c.write_all-wrote.ensures.part;
     }
 
@@ -89,6 +94,8 @@ returns-clause-front g c = λ script why given e.
     let now : Option Told = g.D.Disk.told c.serve-disk.result.disk in
     let found : List Transaction = c.in-Ok.kept.held.transactions in
     let out : List ℕ = c.serve-disk.result.out.items in
+    let times_before : Option (List ℤ) = g.C.Clock.given c.args.clock.now in
+    let times_now : Option (List ℤ) = g.C.Clock.given c.serve-disk.new.clock in
     let sink_before = g.K.Sink.written c.args.sink.now in
     let sink_now = g.K.Sink.written c.write_all-wrote.new.sink in
     let faults_before : ℕ = g.K.Sink.faults c.args.sink.now in
@@ -105,7 +112,7 @@ returns-clause-front g c = λ script why given e.
     } in
     let wrote : W c.as_slice.result.now = wrote-either c.write_all-wrote.result (A c.as_slice.result.now) (faults_now ≡ faults_before) (B c.as_slice.result.now) (Rose faults_before faults_now)
     c.write_all-wrote.ensures.whole c.write_all-wrote.ensures.same c.write_all-wrote.ensures.part c.write_all-wrote.ensures.failed in
-    let told = is-front hash constant why script out c.args.lines.items found before mid now given opens c.serve-disk.ensures.grows front in
+    let told = is-front hash constant why script out c.args.lines.items found before mid now times_before times_now given opens c.serve-disk.ensures.grows front in
     inr (record {
       script = script;
       script_is = refl;
@@ -130,3 +137,8 @@ returns-clause-any_moment g c = λ t others told stands.
 pub returns-clause-unharmed : goal.returns-clause-unharmed
 returns-clause-unharmed g c = λ t told none.
     absurd (none c.in-Ok.kept.held.transactions (c.in-Ok.ensures.stands t told))
+
+pub returns-clause-grows : goal.returns-clause-grows
+returns-clause-grows g c =
+    grows_both (g.D.Disk.told c.args.disk) (g.D.Disk.told c.in-Ok.kept.journal.disk) (g.D.Disk.told c.serve-disk.result.disk)
+    c.in-Ok.ensures.grown c.serve-disk.ensures.grows

@@ -1,63 +1,16 @@
-//! Runs over a disk: what stays from run to run, and what a disk that failed or was spoilt leaves.
+//! Disks that fail, and files that were changed: what is told, and what the next run finds.
 
 use super::Narrow;
 use crate::damage::damage_text;
-use crate::status::{Done, Status};
-use crate::top::top;
+use crate::status::Status;
+use crate::tests::known::stored::HEADER;
+use crate::tests::{run_over, run_with};
 use im_digest::{D32, Sum};
-use im_disk::disk::Disk;
 use im_disk::memory::MemDisk;
-use im_edge::clock::FixedClock;
-use im_edge::gate::OpenGate;
-use im_edge::keeper::MemKeeper;
-use im_edge::sink::{Sink, Writing};
-use im_edge::source::Reading;
 use im_format::damages::{Damage, Difference};
 use im_octet::octets::Octets;
 use std::alloc::Global;
-use std::process::Abort;
 use std::test::Fail;
-
-// Runs `im run` with so many value logs on a script, a sink and a disk, at the time 0 and under the sum.
-fn run_with<K: Sink, D: Disk + Send>(
-    rt: &(impl Abort + Alloc<A = Global>),
-    logs: &str,
-    script: &[u8],
-    sink: &mut K,
-    disk: D,
-) -> Result<(Status, D), Fail> {
-    let mut words = Vec::new(rt.alloc());
-    for word in ["im", "run", "--logs", logs] {
-        words.push(String::from_str(rt.alloc(), word)?)?;
-    }
-    let mut source = Reading::new(script);
-    let mut keeper = MemKeeper::new(rt.alloc());
-    let Done { status, disk, .. } = top(
-        rt,
-        rt.alloc(),
-        words.as_slice(),
-        &Sum,
-        &mut source,
-        sink,
-        disk,
-        &mut keeper,
-        FixedClock { time: 0 },
-        &OpenGate,
-    );
-    Ok((status, disk))
-}
-
-// What a run writes, with one value log.
-fn run_over(
-    rt: &(impl Abort + Alloc<A = Global>),
-    script: &[u8],
-    disk: MemDisk,
-) -> Result<(Status, Vec<u8>, MemDisk), Fail> {
-    let mut sink = Writing::new(Vec::new(rt.alloc()));
-    let (status, disk) = run_with(rt, "1", script, &mut sink, disk)?;
-    let Writing { inner, .. } = sink;
-    Ok((status, inner, disk))
-}
 
 // A disk with these three files: the transaction log, the commit log, value log 0.
 fn disk_of(alloc: Global, log: &[u8], commits: &[u8], values: &[u8]) -> Result<MemDisk, Fail> {
@@ -66,42 +19,6 @@ fn disk_of(alloc: Global, log: &[u8], commits: &[u8], values: &[u8]) -> Result<M
     files.push(Octets::from_slice(alloc, commits)?)?;
     files.push(Octets::from_slice(alloc, values)?)?;
     Ok(MemDisk::from_files(alloc, files, Vec::new(alloc))?)
-}
-
-// The header of `k=abc`, whose Alh is 95, in hex.
-const HEADER: &[u8] =
-    b"a 1 header 0000000000000000000000000000000000000000000000000000000000000095 {\"blRoot\":\"0000000000000000000000000000000000000000000000000000000000000000\",\"blTxId\":0,\"eh\":\"0000000000000000000000000000000000000000000000000000000000000092\",\"id\":1,\"md\":\"\",\"nentries\":1,\"prevAlh\":\"0000000000000000000000000000000000000000000000000000000000000000\",\"ts\":0,\"version\":1}\n";
-
-#[test]
-fn a_transaction_stays_from_run_to_run(rt: HostRuntime) -> Result<(), Fail> {
-    let disk = MemDisk::new(rt.alloc(), Vec::new(rt.alloc()))?;
-    let (status, written, disk) = run_over(&rt, b"a: set k=abc\n", disk)?;
-    assert_eq!(rt; status, Status::Ok);
-    assert_eq!(rt; written.as_slice(), b"a 1 tx 1\n".as_slice());
-    assert_eq!(rt; disk.time(), 9);
-    let (status, written, disk) = run_over(&rt, b"a: header 1\n", disk)?;
-    assert_eq!(rt; status, Status::Ok);
-    assert_eq!(rt; written.as_slice(), HEADER);
-    assert_eq!(rt; disk.time(), 10);
-    assert_eq!(rt; disk.file(2), b"abc".as_slice());
-    Ok(())
-}
-
-// What deletes a key and what no index shows are read off the records.
-#[test]
-fn keys_are_read_over_what_was_found(rt: HostRuntime) -> Result<(), Fail> {
-    let disk = MemDisk::new(rt.alloc(), Vec::new(rt.alloc()))?;
-    let script = b"a: set ~h=1 k=a\na: set k=b\na: del k\n";
-    let (status, _, disk) = run_over(&rt, script, disk)?;
-    assert_eq!(rt; status, Status::Ok);
-    let script =
-        b"a: get k\na: get k @2\na: history k\na: get h\na: set exists:k k=c\na: set missing:k since:k@3 k=c\na: scan 0x\n";
-    let report =
-        b"a 3 absent\na 3 value b tx 2\na 3 history 3 a@1 b@2 !@3\na 3 absent\na 3 missing k\na 4 tx 4\na 4 scan 1 k=c@4\n";
-    let (status, written, _) = run_over(&rt, script, disk)?;
-    assert_eq!(rt; status, Status::Ok);
-    assert_eq!(rt; written.as_slice(), report.as_slice());
-    Ok(())
 }
 
 // Opening makes the calls 1 to 3, and the `set` 4 to 9: the value log, the transaction log, the commit log, a
@@ -146,7 +63,7 @@ fn the_lines_before_a_fault_are_told(rt: HostRuntime) -> Result<(), Fail> {
     let mut calls = Vec::new(rt.alloc());
     calls.push(12)?;
     let disk = MemDisk::new(rt.alloc(), calls)?;
-    let (status, _) = run_with(&rt, "1", script, &mut sink, disk)?;
+    let (status, _) = run_with(&rt, &Sum, "1", 0, script, &mut sink, disk)?;
     assert_eq!(rt; status, Status::DiskFault);
     assert_eq!(rt; sink.room, 0);
     Ok(())
@@ -233,25 +150,5 @@ fn a_spoilt_value_is_told(rt: HostRuntime) -> Result<(), Fail> {
         damage_text(rt.alloc(), &numbers)?.as_slice(),
         b"1 9 1048576 2097153".as_slice()
     );
-    Ok(())
-}
-
-// Value i of transaction `id` goes to log (id + i) mod 2: that of the first transaction to log 1, those of the
-// second to the logs 0 and 1.
-#[test]
-fn values_go_round_the_logs(rt: HostRuntime) -> Result<(), Fail> {
-    let mut sink = Writing::new(Vec::new(rt.alloc()));
-    let disk = MemDisk::new(rt.alloc(), Vec::new(rt.alloc()))?;
-    let (status, disk) = run_with(
-        &rt,
-        "2",
-        b"a: set k=abc\na: set k=de i=fgh\n",
-        &mut sink,
-        disk,
-    )?;
-    assert_eq!(rt; status, Status::Ok);
-    assert_eq!(rt; disk.file(2), b"de".as_slice());
-    assert_eq!(rt; disk.file(3), b"abcfgh".as_slice());
-    assert!(rt; disk.file(4).is_empty());
     Ok(())
 }

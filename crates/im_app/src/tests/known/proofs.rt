@@ -1,7 +1,7 @@
 //! Reports of proofs, worked by hand under the sum of octets, and made with another program.
 
-use super::run;
 use crate::status::Status;
+use crate::tests::run;
 use im_digest::Sum;
 use std::alloc::Global;
 use std::process::Abort;
@@ -30,7 +30,7 @@ fn is_answered(
 }
 
 #[test]
-fn replies_behind_a_link(rt: HostRuntime) -> Result<(), Fail> {
+fn commands_are_answered_behind_a_link(rt: HostRuntime) -> Result<(), Fail> {
     let cases: [(&[u8], &[u8]); 12] = [
         (
             b"a: header 4",
@@ -56,7 +56,7 @@ fn replies_behind_a_link(rt: HostRuntime) -> Result<(), Fail> {
 
 // A proof of a transaction with itself has its Alh alone.
 #[test]
-fn prove_1_1(rt: HostRuntime) -> Result<(), Fail> {
+fn a_transaction_leads_to_itself(rt: HostRuntime) -> Result<(), Fail> {
     let reply =
         b"a 4 {\"dual\":{\"consistency\":[],\"inclusion\":[],\"lastInclusion\":[],\"linear\":[\"00000000000000000000000000000000000000000000000000000000000000a0\"],\"linearAdvance\":{\"inclusions\":[],\"terms\":[]},\"source\":{\"blRoot\":\"0000000000000000000000000000000000000000000000000000000000000000\",\"blTxId\":0,\"eh\":\"000000000000000000000000000000000000000000000000000000000000009d\",\"id\":1,\"md\":\"\",\"nentries\":1,\"prevAlh\":\"0000000000000000000000000000000000000000000000000000000000000000\",\"ts\":0,\"version\":1},\"target\":{\"blRoot\":\"0000000000000000000000000000000000000000000000000000000000000000\",\"blTxId\":0,\"eh\":\"000000000000000000000000000000000000000000000000000000000000009d\",\"id\":1,\"md\":\"\",\"nentries\":1,\"prevAlh\":\"0000000000000000000000000000000000000000000000000000000000000000\",\"ts\":0,\"version\":1},\"targetBlTxAlh\":\"0000000000000000000000000000000000000000000000000000000000000000\"},\"type\":\"dual\"}\n";
     assert!(rt; is_answered(&rt, b"a: prove 1 1", reply)?);
@@ -65,7 +65,7 @@ fn prove_1_1(rt: HostRuntime) -> Result<(), Fail> {
 
 // The source is below the tree's end: the chain goes from there, behind 42.
 #[test]
-fn prove_1_4(rt: HostRuntime) -> Result<(), Fail> {
+fn the_chain_starts_at_the_end_of_the_tree(rt: HostRuntime) -> Result<(), Fail> {
     let reply =
         b"a 4 {\"dual\":{\"consistency\":[],\"inclusion\":[\"0000000000000000000000000000000000000000000000000000000000000042\"],\"lastInclusion\":[\"00000000000000000000000000000000000000000000000000000000000000a0\"],\"linear\":[\"0000000000000000000000000000000000000000000000000000000000000042\",\"00000000000000000000000000000000000000000000000000000000000000a1\",\"0000000000000000000000000000000000000000000000000000000000000087\"],\"linearAdvance\":{\"inclusions\":[],\"terms\":[]},\"source\":{\"blRoot\":\"0000000000000000000000000000000000000000000000000000000000000000\",\"blTxId\":0,\"eh\":\"000000000000000000000000000000000000000000000000000000000000009d\",\"id\":1,\"md\":\"\",\"nentries\":1,\"prevAlh\":\"0000000000000000000000000000000000000000000000000000000000000000\",\"ts\":0,\"version\":1},\"target\":{\"blRoot\":\"00000000000000000000000000000000000000000000000000000000000000e3\",\"blTxId\":2,\"eh\":\"00000000000000000000000000000000000000000000000000000000000000a0\",\"id\":4,\"md\":\"\",\"nentries\":1,\"prevAlh\":\"00000000000000000000000000000000000000000000000000000000000000e6\",\"ts\":0,\"version\":1},\"targetBlTxAlh\":\"0000000000000000000000000000000000000000000000000000000000000042\"},\"type\":\"dual\"}\n";
     assert!(rt; is_answered(&rt, b"a: prove 1 4", reply)?);
@@ -74,7 +74,7 @@ fn prove_1_4(rt: HostRuntime) -> Result<(), Fail> {
 
 // Nothing is linked before the third: the chain alone leads there.
 #[test]
-fn prove_1_3(rt: HostRuntime) -> Result<(), Fail> {
+fn the_chain_alone_leads_where_no_tree_does(rt: HostRuntime) -> Result<(), Fail> {
     let reply =
         b"a 4 {\"dual\":{\"consistency\":[],\"inclusion\":[],\"lastInclusion\":[],\"linear\":[\"00000000000000000000000000000000000000000000000000000000000000a0\",\"00000000000000000000000000000000000000000000000000000000000000a0\",\"00000000000000000000000000000000000000000000000000000000000000a1\"],\"linearAdvance\":{\"inclusions\":[],\"terms\":[]},\"source\":{\"blRoot\":\"0000000000000000000000000000000000000000000000000000000000000000\",\"blTxId\":0,\"eh\":\"000000000000000000000000000000000000000000000000000000000000009d\",\"id\":1,\"md\":\"\",\"nentries\":1,\"prevAlh\":\"0000000000000000000000000000000000000000000000000000000000000000\",\"ts\":0,\"version\":1},\"target\":{\"blRoot\":\"0000000000000000000000000000000000000000000000000000000000000000\",\"blTxId\":0,\"eh\":\"000000000000000000000000000000000000000000000000000000000000009f\",\"id\":3,\"md\":\"\",\"nentries\":1,\"prevAlh\":\"0000000000000000000000000000000000000000000000000000000000000042\",\"ts\":0,\"version\":1},\"targetBlTxAlh\":\"0000000000000000000000000000000000000000000000000000000000000000\"},\"type\":\"dual\"}\n";
     assert!(rt; is_answered(&rt, b"a: prove 1 3", reply)?);
@@ -83,7 +83,7 @@ fn prove_1_3(rt: HostRuntime) -> Result<(), Fail> {
 
 // The source is the tree's last: the advance shows the first in the tree.
 #[test]
-fn prove_2_4(rt: HostRuntime) -> Result<(), Fail> {
+fn the_last_of_the_tree_shows_those_before_it(rt: HostRuntime) -> Result<(), Fail> {
     let reply =
         b"a 4 {\"dual\":{\"consistency\":[],\"inclusion\":[],\"lastInclusion\":[\"00000000000000000000000000000000000000000000000000000000000000a0\"],\"linear\":[\"0000000000000000000000000000000000000000000000000000000000000042\",\"00000000000000000000000000000000000000000000000000000000000000a1\",\"0000000000000000000000000000000000000000000000000000000000000087\"],\"linearAdvance\":{\"inclusions\":[[\"0000000000000000000000000000000000000000000000000000000000000042\"]],\"terms\":[\"00000000000000000000000000000000000000000000000000000000000000a0\",\"00000000000000000000000000000000000000000000000000000000000000a0\"]},\"source\":{\"blRoot\":\"0000000000000000000000000000000000000000000000000000000000000000\",\"blTxId\":0,\"eh\":\"000000000000000000000000000000000000000000000000000000000000009e\",\"id\":2,\"md\":\"\",\"nentries\":1,\"prevAlh\":\"00000000000000000000000000000000000000000000000000000000000000a0\",\"ts\":0,\"version\":1},\"target\":{\"blRoot\":\"00000000000000000000000000000000000000000000000000000000000000e3\",\"blTxId\":2,\"eh\":\"00000000000000000000000000000000000000000000000000000000000000a0\",\"id\":4,\"md\":\"\",\"nentries\":1,\"prevAlh\":\"00000000000000000000000000000000000000000000000000000000000000e6\",\"ts\":0,\"version\":1},\"targetBlTxAlh\":\"0000000000000000000000000000000000000000000000000000000000000042\"},\"type\":\"dual\"}\n";
     assert!(rt; is_answered(&rt, b"a: prove 2 4", reply)?);
@@ -91,7 +91,7 @@ fn prove_2_4(rt: HostRuntime) -> Result<(), Fail> {
 }
 
 #[test]
-fn nothing_to_show(rt: HostRuntime) -> Result<(), Fail> {
+fn an_empty_history_has_nothing_to_show(rt: HostRuntime) -> Result<(), Fail> {
     let script = b"a: state\na: prove 1 1\na: item 1 0\na: link 7\na: set k=1\na: item 1 1\n";
     let (status, report) = run(&rt, &Sum, script)?;
     assert_eq!(rt; status, Status::Ok);
@@ -103,7 +103,7 @@ fn nothing_to_show(rt: HostRuntime) -> Result<(), Fail> {
 
 // The entries' digests are 93, 95 and 97; the path of the third is the root of the others, 29.
 #[test]
-fn a_state_and_an_item_in_full(rt: HostRuntime) -> Result<(), Fail> {
+fn a_state_and_an_item_are_written_in_full(rt: HostRuntime) -> Result<(), Fail> {
     let (_, report) = run(&rt, &Sum, b"a: set a=1 b=2 c=3\na: state\na: item 1 2\n")?;
     let want =
         b"a 1 tx 1\na 1 {\"header\":{\"blRoot\":\"0000000000000000000000000000000000000000000000000000000000000000\",\"blTxId\":0,\"eh\":\"00000000000000000000000000000000000000000000000000000000000000c1\",\"id\":1,\"md\":\"\",\"nentries\":3,\"prevAlh\":\"0000000000000000000000000000000000000000000000000000000000000000\",\"ts\":0,\"version\":1},\"type\":\"state\"}\na 1 {\"dual\":{\"consistency\":[],\"inclusion\":[],\"lastInclusion\":[],\"linear\":[\"00000000000000000000000000000000000000000000000000000000000000c6\"],\"linearAdvance\":{\"inclusions\":[],\"terms\":[]},\"source\":{\"blRoot\":\"0000000000000000000000000000000000000000000000000000000000000000\",\"blTxId\":0,\"eh\":\"00000000000000000000000000000000000000000000000000000000000000c1\",\"id\":1,\"md\":\"\",\"nentries\":3,\"prevAlh\":\"0000000000000000000000000000000000000000000000000000000000000000\",\"ts\":0,\"version\":1},\"target\":{\"blRoot\":\"0000000000000000000000000000000000000000000000000000000000000000\",\"blTxId\":0,\"eh\":\"00000000000000000000000000000000000000000000000000000000000000c1\",\"id\":1,\"md\":\"\",\"nentries\":3,\"prevAlh\":\"0000000000000000000000000000000000000000000000000000000000000000\",\"ts\":0,\"version\":1},\"targetBlTxAlh\":\"0000000000000000000000000000000000000000000000000000000000000000\"},\"entry\":{\"key\":\"63\",\"md\":\"\",\"value\":\"33\"},\"index\":2,\"path\":[\"0000000000000000000000000000000000000000000000000000000000000029\"],\"type\":\"item\"}\n";

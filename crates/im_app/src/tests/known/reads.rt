@@ -1,7 +1,7 @@
 //! Writes under preconditions, deletions, and reads at a transaction, worked by hand under the sum of octets.
 
-use super::run;
 use crate::status::Status;
+use crate::tests::run;
 use im_digest::Sum;
 use std::alloc::Global;
 use std::process::Abort;

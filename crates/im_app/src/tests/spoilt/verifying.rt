@@ -1,8 +1,9 @@
 //! Sinks, sources and keepers that fail under `verify`.
 
-use super::exchange::verify_with;
-use super::{Blocks, Narrow, run};
+use super::{Blocks, Narrow};
 use crate::status::Status;
+use crate::tests::known::exchange::THREE;
+use crate::tests::{run, verify_with};
 use im_digest::Sum;
 use im_edge::fused_keeper::FusedKeeper;
 use im_edge::keeper::{Keeper, MemKeeper};
@@ -10,12 +11,10 @@ use im_edge::sink::Writing;
 use im_edge::source::Reading;
 use std::test::Fail;
 
-const THREE: &[u8] = b"a: set a=1 b=2 c=3\na: state\na: item 1 2\n";
-
 // `ok 2 state 1` and its LF have 13 octets, `ok 3 item 1 2` and its LF 14. A message is kept before its line
 // is written.
 #[test]
-fn a_sink_that_fails(rt: HostRuntime) -> Result<(), Fail> {
+fn a_sink_that_fails_is_told(rt: HostRuntime) -> Result<(), Fail> {
     let cases = [
         (0, Status::WriteFault, 1),
         (12, Status::WriteFault, 1),
@@ -38,7 +37,7 @@ fn a_sink_that_fails(rt: HostRuntime) -> Result<(), Fail> {
 // The keeper is asked for its lines, and then for each accepted message; a call that fails ends the run, with
 // what was told before it.
 #[test]
-fn a_keeper_that_fails(rt: HostRuntime) -> Result<(), Fail> {
+fn a_keeper_that_fails_ends_the_run(rt: HostRuntime) -> Result<(), Fail> {
     let cases: [(u64, Status, &[u8]); 4] = [
         (0, Status::KeeperFault, b""),
         (1, Status::KeeperFault, b""),
@@ -58,7 +57,7 @@ fn a_keeper_that_fails(rt: HostRuntime) -> Result<(), Fail> {
 }
 
 #[test]
-fn a_source_that_fails_or_is_too_long(rt: HostRuntime) -> Result<(), Fail> {
+fn a_source_that_fails_or_is_too_long_is_told(rt: HostRuntime) -> Result<(), Fail> {
     let cases = [(3, true, Status::ReadFault), (1 << 32, false, Status::Long)];
     for (left, fails, want) in cases {
         let mut source = Blocks {

@@ -1,29 +1,55 @@
-//! What a run wrote is accepted by the client that it is for, line by line.
+//! Lines of a report that were changed on their way to the client.
 
-use super::exchange::{place_of, replaced, verify};
-use super::run;
 use crate::status::Status;
+use crate::tests::known::accepted::{ASKED, ON_THE_WAY, verdict_of};
+use crate::tests::known::exchange::{ANCHORED, THREE};
+use crate::tests::{place_of, replaced, run, verify};
 use im_digest::{Hash32, Sha, Sum};
-use im_edge::keeper::MemKeeper;
+use im_edge::keeper::{Keeper, MemKeeper};
 use std::alloc::Global;
 use std::process::Abort;
 use std::test::Fail;
 
-// Six transactions, of which two are linked before the fifth, and what a client asks for on its way.
-const ASKED: &[u8] =
-    b"a: set k=1\na: set k=2\na: set k=ab\na: state\na: item 3 0\na: set k=4\na: link 2\na: set k=5\na: advance 3 5\na: set k=6\na: advance 5 6\na: item 3 0\n";
-
-// What the client says of the lines before the last.
-const ON_THE_WAY: &[u8] = b"ok 4 state 3\nok 5 item 3 0\nok 9 advance 3 5\nok 11 advance 5 6\n";
-
-// What `verify` of a new client writes for a stream, and how it ends.
-fn verdict_of<H: Hash32 + Sync>(
-    rt: &(impl Abort + Alloc<A = Global>),
-    hash: &H,
-    stream: &[u8],
-) -> Result<(Status, Vec<u8>), Fail> {
+// The root still agrees under the sum, for ff and 1 make 0: the length alone refuses it.
+#[test]
+fn a_path_with_one_term_too_many_is_refused(rt: HostRuntime) -> Result<(), Fail> {
+    let (_, report) = run(&rt, &Sum, THREE)?;
+    let spoilt = replaced(
+        rt.alloc(),
+        report.as_slice(),
+        b"0029\"]",
+        b"]",
+        b"0029\",\"00000000000000000000000000000000000000000000000000000000000000ff\"",
+    )?;
     let mut keeper = MemKeeper::new(rt.alloc());
-    verify(rt, hash, &mut keeper, stream)
+    let (status, written) = verify(&rt, &Sum, &mut keeper, spoilt.as_slice())?;
+    assert_eq!(rt; status, Status::Refused);
+    assert_eq!(rt;
+        written.as_slice(),
+        b"ok 2 state 1\nrefused 3 path-length 1 2\n".as_slice()
+    );
+    assert_eq!(rt; keeper.lines(rt.alloc())?.len(), 1);
+    Ok(())
+}
+
+#[test]
+fn an_advance_without_its_anchor_is_refused(rt: HostRuntime) -> Result<(), Fail> {
+    let (_, report) = run(&rt, &Sum, ANCHORED)?;
+    let spoilt = replaced(
+        rt.alloc(),
+        report.as_slice(),
+        b"\"anchor\":",
+        b",\"dual\":",
+        b"\"anchor\":null",
+    )?;
+    let mut keeper = MemKeeper::new(rt.alloc());
+    let (status, written) = verify(&rt, &Sum, &mut keeper, spoilt.as_slice())?;
+    assert_eq!(rt; status, Status::Refused);
+    assert_eq!(rt;
+        written.as_slice(),
+        b"ok 12 state 10\nrefused 16 anchor-missing\nrefused 17 target-id 10 12\n".as_slice()
+    );
+    Ok(())
 }
 
 // The report with `ba` for `ab` in the last line.
@@ -44,30 +70,6 @@ fn exchanged<H: Hash32 + Sync>(
     )?;
     out.extend_from_slice(line.as_slice())?;
     Ok(out)
-}
-
-#[test]
-fn each_message_is_accepted_under_the_sum(rt: HostRuntime) -> Result<(), Fail> {
-    let (status, report) = run(&rt, &Sum, ASKED)?;
-    assert_eq!(rt; status, Status::Ok);
-    let (status, written) = verdict_of(&rt, &Sum, report.as_slice())?;
-    assert_eq!(rt; status, Status::Ok);
-    let mut want = Vec::from_slice(rt.alloc(), ON_THE_WAY)?;
-    want.extend_from_slice(b"ok 12 item 3 0\n")?;
-    assert_eq!(rt; written.as_slice(), want.as_slice());
-    Ok(())
-}
-
-#[test]
-fn each_message_is_accepted_under_sha_256(rt: HostRuntime) -> Result<(), Fail> {
-    let (status, report) = run(&rt, &Sha, ASKED)?;
-    assert_eq!(rt; status, Status::Ok);
-    let (status, written) = verdict_of(&rt, &Sha, report.as_slice())?;
-    assert_eq!(rt; status, Status::Ok);
-    let mut want = Vec::from_slice(rt.alloc(), ON_THE_WAY)?;
-    want.extend_from_slice(b"ok 12 item 3 0\n")?;
-    assert_eq!(rt; written.as_slice(), want.as_slice());
-    Ok(())
 }
 
 // `ab` and `ba` have one sum, c3, so each digest above them is the same. A client that keeps its state alone
