@@ -1,5 +1,5 @@
 -- What a call takes from a source, and what it does to the count of its failures.
-use Rattle.std.specs.Prelude.{◌≡◌, ℕ, ◌<◌, ◌≤◌, List, [], length, take, Option, IfSome, Result, Ok, Err}
+use Rattle.std.specs.Prelude.{◌≡◌, ℕ, ◌<◌, ◌≤◌, ◌+◌, List, [], length, take, Option, IfSome, Result, Ok, Err}
 use Rattle.std.specs.Io.KnownBytes.{Consumes, Keeps}
 use Rattle.im_edge.specs.Counts.{Rose}
 use Rattle.im_edge.specs.declared.source.Taken.{Taken}
@@ -13,15 +13,15 @@ Takes (Took n) buffer before after = (1 ≤ n) × (n ≤ length buffer) × Consu
 Takes End buffer before after = Keeps before after × (0 < length buffer → IfSome before (λ xs. xs ≡ []))
 Takes Failed buffer before after = Keeps before after
 
--- what a take does to the count: it rises at `Failed` alone
+-- what a take does to the count: it rises at `Failed` alone, and then by one
 abbrev pub TakeCause : Taken → ℕ → ℕ → Type 0
 TakeCause (Took n) before now = now ≡ before
 TakeCause End before now = now ≡ before
-TakeCause Failed before now = (before ≤ now) × Rose before now
+TakeCause Failed before now = (before ≤ now) × Rose before now × (now ≤ before + 1)
 
--- some front part of what was left is taken
-abbrev pub TakesPart : Option (List ℕ) → Option (List ℕ) → Type 0
-TakesPart before after = (taken : List ℕ) × Consumes before after taken
+-- a front part of what was left is taken, of at most so many octets
+abbrev pub TakesAtMost : ℕ → Option (List ℕ) → Option (List ℕ) → Type 0
+TakesAtMost most before after = (taken : List ℕ) × (length taken ≤ most) × Consumes before after taken
 
 -- reading that didn't fail left the count as it was
 abbrev pub SameUnlessFailed : {T : Type 0} → Result T ReadError → ℕ → ℕ → Type 0

@@ -49,14 +49,18 @@ pub struct TickingClock {
 }
 
 impl Clock for TickingClock {
-    ghost use Rattle.std.specs.Prelude.{None};
+    ghost use Rattle.std.specs.Prelude.{◌≡◌, ◌+◌, ◌-◌, ◌^◌, min, pos, None};
     ghost use Rattle.im_edge.specs.Clocks.{ticks_told};
 
     ghost constant = { λ _. None };
 
     ghost given = { λ clock. ticks_told clock.asked };
 
-    fn now(&mut self) -> i64 {
+    fn now(&mut self) -> i64
+        ensures given { AddsTimes (ticks_told self.old.asked) (ticks_told self.new.asked) (result ∷ []) }
+        ensures counted { self.new.asked ≡ min (self.old.asked + 1) (2 ^ 32 - 1) }
+        ensures tick { result ≡ pos self.new.asked }
+    {
         self.asked = self.asked.saturating_add(1);
         i64::from(self.asked)
     }

@@ -1,4 +1,6 @@
-ghost use Rattle.std.specs.Prelude.{◌≡◌, ◌+◌, ◌-◌, ◌↔◌, IsTrue};
+ghost use Rattle.std.specs.Prelude.{◌≡◌, ◌<◌, ◌+◌, ◌-◌, ◌↔◌, ◌++◌, ◌∷◌, [], IfOk, IfSome, OnOk, OnErr, IsTrue, Err};
+ghost use Rattle.std.specs.Option.{option_map};
+ghost use Rattle.im_edge.specs.Keepers.{KeepCause};
 
 use crate::keeper::{Keeper, KeeperError, counted};
 use im_octet::octets::Octets;
@@ -36,14 +38,28 @@ impl<K: Keeper> Keeper for FusedKeeper<K> {
 
     ghost faults = { λ keeper. K.faults keeper.inner + keeper.failures };
 
-    fn lines(&mut self, alloc: Global) -> Result<Vec<Octets>, KeeperError> {
+    fn lines(&mut self, alloc: Global) -> Result<Vec<Octets>, KeeperError>
+        ensures lines { IfOk result (λ lines. IfSome (K.kept self.old.inner) (λ xs. lines.items ≡ xs)) }
+        ensures kept { K.kept self.new.inner ≡ K.kept self.old.inner }
+        ensures cause { KeepCause (K.faults self.old.inner + self.old.failures) (K.faults self.new.inner + self.new.failures) result }
+        ensures used { self.new.calls_left ≡ self.old.calls_left - 1 }
+        ensures blown { self.old.calls_left ≡ 0 → (result ≡ Err KeeperError.Failed) × (self.new.inner ≡ self.old.inner) }
+        ensures own { 0 < self.old.calls_left → self.new.failures ≡ self.old.failures }
+    {
         if is_blown(&mut self.calls_left) {
             return counted(&mut self.failures, Err(KeeperError::Failed));
         }
         self.inner.lines(alloc)
     }
 
-    fn append(&mut self, line: &[u8]) -> Result<(), KeeperError> {
+    fn append(&mut self, line: &[u8]) -> Result<(), KeeperError>
+        ensures ok { OnOk result (K.kept self.new.inner ≡ option_map (λ xs. xs ++ line.now ∷ []) (K.kept self.old.inner)) }
+        ensures err { OnErr result (K.kept self.new.inner ≡ K.kept self.old.inner) }
+        ensures cause { KeepCause (K.faults self.old.inner + self.old.failures) (K.faults self.new.inner + self.new.failures) result }
+        ensures used { self.new.calls_left ≡ self.old.calls_left - 1 }
+        ensures blown { self.old.calls_left ≡ 0 → (result ≡ Err KeeperError.Failed) × (self.new.inner ≡ self.old.inner) }
+        ensures own { 0 < self.old.calls_left → self.new.failures ≡ self.old.failures }
+    {
         if is_blown(&mut self.calls_left) {
             return counted(&mut self.failures, Err(KeeperError::Failed));
         }

@@ -1,4 +1,4 @@
-ghost use Rattle.std.specs.Prelude.{◌≡◌, ℕ, ◌≤◌, List, OnOk, OnErr, Option};
+ghost use Rattle.std.specs.Prelude.{◌≡◌, ℕ, ◌<◌, ◌≤◌, ◌+◌, List, length, take, OnOk, OnErr, Option};
 ghost use Rattle.std.specs.Io.KnownBytes.{Appends};
 ghost use Rattle.im_edge.specs.Counts.{Rose};
 ghost use Rattle.im_edge.specs.Sinks.{Gives, GiveCause, AddsPart};
@@ -47,8 +47,10 @@ pub struct WriteFault;
 pub fn write_all<K: Sink>(sink: &mut K, text: &[u8]) -> Result<(), WriteFault>
     ensures whole { OnOk result (Appends (K.written sink.old) (K.written sink.new) text.now) }
     ensures part { AddsPart text.now (K.written sink.old) (K.written sink.new) }
+    ensures unfinished { OnErr result ((n : ℕ) × (n < length text.now) × Appends (K.written sink.old) (K.written sink.new) (take n text.now)) }
 
     ensures failed { OnErr result (Rose (K.faults sink.old) (K.faults sink.new)) }
+    ensures once { K.faults sink.new ≤ K.faults sink.old + 1 }
     ensures later { K.faults sink.old ≤ K.faults sink.new }
     ensures same { OnOk result (K.faults sink.new ≡ K.faults sink.old) }
 {

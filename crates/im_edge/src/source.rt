@@ -1,6 +1,6 @@
-ghost use Rattle.std.specs.Prelude.{◌≡◌, ◌≤◌, ◌<◌, ℕ, List, [], length, IfOk, OnOk, IfSome, IsErrOf, Option};
+ghost use Rattle.std.specs.Prelude.{◌≡◌, ◌≤◌, ◌<◌, ◌+◌, ℕ, List, [], length, IfOk, OnOk, IfSome, IsErrOf, Option};
 ghost use Rattle.im_edge.specs.Counts.{Rose};
-ghost use Rattle.im_edge.specs.Sources.{Takes, TakesPart, TakeCause, SameUnlessFailed};
+ghost use Rattle.im_edge.specs.Sources.{Takes, TakesAtMost, TakeCause, SameUnlessFailed};
 
 use std::alloc::{AllocError, Global};
 use std::io::Read;
@@ -72,9 +72,10 @@ pub fn read_all<S: Source>(alloc: Global, source: &mut S, most: usize) -> Result
     ensures emptied { OnOk result (IfSome (S.left source.old) (λ _. S.left source.new ≡ Some [])) }
     ensures within { IfOk result (λ octets. length octets.items ≤ most) }
     ensures long { IsErrOf result ReadError.Long → IfSome (S.left source.old) (λ xs. most < length xs) }
-    ensures part { TakesPart (S.left source.old) (S.left source.new) }
+    ensures part { TakesAtMost (most + 4096) (S.left source.old) (S.left source.new) }
 
     ensures failed { IsErrOf result ReadError.Failed → Rose (S.faults source.old) (S.faults source.new) }
+    ensures once { S.faults source.new ≤ S.faults source.old + 1 }
     ensures later { S.faults source.old ≤ S.faults source.new }
     ensures same { SameUnlessFailed result (S.faults source.old) (S.faults source.new) }
 {

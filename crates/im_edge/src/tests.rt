@@ -5,6 +5,8 @@ use crate::gate::{Gate, OpenGate, Point};
 use crate::keeper::{Keeper, KeeperError, MemKeeper};
 use crate::sink::{Given, Sink, WriteFault, Writing, write_all};
 use crate::source::{ReadError, Reading, Source, Taken, read_all};
+use std::alloc::Global;
+use std::fs::Files;
 use std::io::{ErrorKind, Read, Write};
 use std::test::Fail;
 use std::{fs, io};
@@ -110,15 +112,26 @@ fn a_sink_in_memory(rt: HostRuntime) -> Result<(), Fail> {
     Ok(())
 }
 
+// Whether a keeper has these lines, and no others.
+fn has_lines<K: Keeper>(
+    alloc: Global,
+    keeper: &mut K,
+    want: &[&[u8]],
+) -> Result<bool, KeeperError> {
+    let lines = keeper.lines(alloc)?;
+    let mut same = lines.len() == want.len();
+    for (line, text) in lines.iter().zip(want) {
+        same &= line.as_slice() == *text;
+    }
+    Ok(same)
+}
+
 #[test]
 fn lines_that_are_kept(rt: HostRuntime) -> Result<(), Fail> {
     let mut keeper = MemKeeper::new(rt.alloc());
     keeper.append(b"one")?;
     keeper.append(b"two")?;
-    let lines = keeper.lines(rt.alloc())?;
-    assert_eq!(rt; lines.len(), 2);
-    assert_eq!(rt; lines[0].as_slice(), b"one".as_slice());
-    assert_eq!(rt; lines[1].as_slice(), b"two".as_slice());
+    assert!(rt; has_lines(rt.alloc(), &mut keeper, &[b"one", b"two"])?);
     Ok(())
 }
 
@@ -134,35 +147,56 @@ fn a_keeper_that_fails_at_its_third_call(rt: HostRuntime) -> Result<(), Fail> {
     Ok(())
 }
 
-const FOLDER: &str = "im_edge_test";
+// Makes a folder anew, with nothing in it.
+fn make_folder(rt: &(impl Files + Alloc), folder: &str) -> io::Result<()> {
+    let _ = fs::remove_dir_all(rt, folder);
+    fs::create_dir(rt, folder)
+}
 
-const FILE: &str = "im_edge_test/kept.txt";
+#[test]
+fn a_file_that_is_not_there_has_no_line(rt: HostRuntime) -> Result<(), Fail> {
+    make_folder(&rt, "im_edge_no_file")?;
+    let mut keeper = FileKeeper::new(&rt, rt.alloc(), "im_edge_no_file/kept.txt");
+    assert!(rt; has_lines(rt.alloc(), &mut keeper, &[])?);
+    assert_eq!(rt; keeper.failures, 0);
+    assert!(rt; !fs::exists(&rt, "im_edge_no_file/kept.txt")?);
+    fs::remove_dir_all(&rt, "im_edge_no_file")?;
+    Ok(())
+}
 
 #[test]
 fn lines_in_a_file(rt: HostRuntime) -> Result<(), Fail> {
-    let _ = fs::remove_dir_all(&rt, FOLDER);
-    fs::create_dir(&rt, FOLDER)?;
-    let mut keeper = FileKeeper::new(&rt, rt.alloc(), FILE);
-    assert_eq!(rt; keeper.lines(rt.alloc())?.len(), 0);
-    assert!(rt; !fs::exists(&rt, FILE)?);
+    make_folder(&rt, "im_edge_file")?;
+    let mut keeper = FileKeeper::new(&rt, rt.alloc(), "im_edge_file/kept.txt");
     keeper.append(b"one")?;
     keeper.append(b"two")?;
-    assert_eq!(rt; fs::read(&rt, FILE)?.as_slice(), b"one\ntwo\n".as_slice());
-    let lines = keeper.lines(rt.alloc())?;
-    assert_eq!(rt; lines.len(), 2);
-    assert_eq!(rt; lines[0].as_slice(), b"one".as_slice());
-    assert_eq!(rt; lines[1].as_slice(), b"two".as_slice());
-    fs::write(&rt, FILE, b"\nthree".as_slice())?;
-    let lines = keeper.lines(rt.alloc())?;
-    assert_eq!(rt; lines.len(), 2);
-    assert_eq!(rt; lines[0].as_slice(), b"".as_slice());
-    assert_eq!(rt; lines[1].as_slice(), b"three".as_slice());
+    assert!(rt; has_lines(rt.alloc(), &mut keeper, &[b"one", b"two"])?);
     assert_eq!(rt; keeper.failures, 0);
-    let mut folder = FileKeeper::new(&rt, rt.alloc(), FOLDER);
+    assert!(rt; fs::read(&rt, "im_edge_file/kept.txt")?.as_slice() == b"one\ntwo\n".as_slice());
+    fs::remove_dir_all(&rt, "im_edge_file")?;
+    Ok(())
+}
+
+#[test]
+fn lines_of_a_file_that_was_written_over(rt: HostRuntime) -> Result<(), Fail> {
+    make_folder(&rt, "im_edge_written")?;
+    let mut keeper = FileKeeper::new(&rt, rt.alloc(), "im_edge_written/kept.txt");
+    keeper.append(b"one")?;
+    fs::write(&rt, "im_edge_written/kept.txt", b"\nthree".as_slice())?;
+    assert!(rt; has_lines(rt.alloc(), &mut keeper, &[b"", b"three"])?);
+    assert_eq!(rt; keeper.failures, 0);
+    fs::remove_dir_all(&rt, "im_edge_written")?;
+    Ok(())
+}
+
+#[test]
+fn a_folder_is_no_file(rt: HostRuntime) -> Result<(), Fail> {
+    make_folder(&rt, "im_edge_folder")?;
+    let mut folder = FileKeeper::new(&rt, rt.alloc(), "im_edge_folder");
     assert!(rt; matches!(folder.lines(rt.alloc()), Err(KeeperError::Failed)));
     assert_eq!(rt; folder.append(b"one"), Err(KeeperError::Failed));
     assert_eq!(rt; folder.failures, 2);
-    fs::remove_dir_all(&rt, FOLDER)?;
+    fs::remove_dir_all(&rt, "im_edge_folder")?;
     Ok(())
 }
 
