@@ -12,4 +12,6 @@ pub mod laws;
 pub mod memory;
 pub mod no_disk;
 #[cfg(test)]
+mod sync_tests;
+#[cfg(test)]
 mod tests;
