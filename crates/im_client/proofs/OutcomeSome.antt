@@ -9,6 +9,7 @@ use Rattle.serde_json.specs.Data.{Data}
 use Rattle.serde_json.specs.Read.{read}
 use Rattle.im_cuts.specs.Cuts.{IsCut, Lacks}
 use Rattle.im_cuts.specs.Words.{is_word}
+use Rattle.im_cuts.proofs.DecideLemmas.{CutOrNone, cut-tells, truth}
 use Rattle.im_digest.specs.Digests.{Hash}
 use Rattle.im_model.specs.declared.headers.Header.{Header}
 use Rattle.im_mtree.specs.Checks.{first_fail}
@@ -23,25 +24,6 @@ use Rattle.im_client.specs.declared.faults.LineFault.{LineFault}
 use Rattle.im_client.specs.declared.faults.LineFault.TheVariants.{Syntax}
 use Rattle.im_client.specs.declared.outcomes.Outcome.{Outcome}
 use Rattle.im_client.specs.declared.outcomes.Outcome.TheVariants.{Passed, Accepted, Refused}
-
--- a test is passed or not
-truth : (b : Bool) → (b ≡ true) ⊎ (b ≡ false)
-truth true = inl refl
-truth false = inr refl
-
--- a text is cut at the first mark, or has none
-abbrev CutOrNone : ℕ → List ℕ → Type 0
-CutOrNone mark text = ((front : List ℕ) × (back : List ℕ) × IsCut mark text front back) ⊎ Lacks mark text
-
-cut-more : (mark o : ℕ) (text : List ℕ) → (((o == mark) ≡ true) × (o ≡ mark)) ⊎ (((o == mark) ≡ false) × (o ≢ mark)) → CutOrNone mark text → CutOrNone mark (o ∷ text)
-cut-more mark o text (inl same) rest = inl ([], text, (refl, ap (λ (p : ℕ). p ∷ text) same.1))
-cut-more mark o text (inr other) (inl c) =
-    inl (o ∷ c.0, c.1, (and_from _ _ (not_from_false _ other.0) c.2.0, ap (λ (t : List ℕ). o ∷ t) c.2.1))
-cut-more mark o text (inr other) (inr lacks) = inr (and_from _ _ (not_from_false _ other.0) lacks)
-
-cut-tells : (mark : ℕ) (text : List ℕ) → CutOrNone mark text
-cut-tells mark [] = inr refl
-cut-tells mark (o ∷ text) = cut-more mark o text (eqb_tells o mark) (cut-tells mark text)
 
 -- a line is a reply, or none
 abbrev ReplyOrNone : List ℕ → Type 0

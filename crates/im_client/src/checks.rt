@@ -56,7 +56,7 @@ pub fn check_message<H: Hash32>(
 }
 
 // Whether a state is well formed, and the kept one where one is kept.
-#[tactic(auto, using(im_proof::proofs::CheckLemmas::fail_both, im_proof::proofs::CheckLemmas::fail_append))]
+#[tactic(auto, using(im_mtree::proofs::CheckLemmas::fail_both, im_mtree::proofs::CheckLemmas::fail_append))]
 fn check_state<H: Hash32>(hash: &H, kept: Option<&Header>, header: &Header) -> Result<(), LineFault>
     ensures { result ≡ first_fail (state_checks (H.digest hash.now) (option_copied kept.entry) header.now) }
 {
@@ -148,7 +148,7 @@ fn check_advance_line<H: Hash32>(
 }
 
 // Whether the dual proof of an advance holds, and its anchor is as is due.
-#[tactic(auto, using(im_proof::proofs::CheckLemmas::fail_both, im_proof::proofs::CheckLemmas::fail_append))]
+#[tactic(auto, using(im_mtree::proofs::CheckLemmas::fail_both, im_mtree::proofs::CheckLemmas::fail_append))]
 fn check_anchored<H: Hash32>(
     hash: &H,
     dual: &DualProof,
@@ -185,7 +185,7 @@ fn check_anchor<H: Hash32>(
 }
 
 // Whether an anchor leads from the end of the target's tree to the source, and holds.
-#[tactic(auto, using(im_proof::proofs::CheckLemmas::fail_both, im_proof::proofs::CheckLemmas::fail_append))]
+#[tactic(auto, using(im_mtree::proofs::CheckLemmas::fail_both, im_mtree::proofs::CheckLemmas::fail_append))]
 fn check_due_anchor<H: Hash32>(
     hash: &H,
     dual: &DualProof,
@@ -243,7 +243,7 @@ fn check_anchor_dual<H: Hash32>(hash: &H, anchor: &DualProof) -> Result<(), Line
 }
 
 // Whether a dual proof leads to the kept state, and an entry is in its source's transaction.
-#[tactic(auto, using(im_proof::proofs::CheckLemmas::fail_both, im_proof::proofs::CheckLemmas::fail_append))]
+#[tactic(auto, using(im_mtree::proofs::CheckLemmas::fail_both, im_mtree::proofs::CheckLemmas::fail_append))]
 fn check_item_line<H: Hash32>(
     hash: &H,
     kept: &Header,

@@ -1,4 +1,5 @@
 pub mod CutLemmas
+pub mod DecideLemmas
 pub mod FindsLemmas
 pub mod LineLemmas
 pub mod WordLemmas

@@ -8,7 +8,7 @@ use Rattle.im_mtree.specs.Inclusion.{inclusion}
 use Rattle.im_proof.specs.Built.{path_of, paths_from}
 use Rattle.im_proof.specs.declared.faults.DualFault.{DualFault}
 use Rattle.im_proof.specs.ChainChecks.{path_checks_of, path_checks_from}
-use Rattle.im_proof.proofs.CheckLemmas.{fail_first}
+use Rattle.im_mtree.proofs.CheckLemmas.{fail_first}
 
 -- where the path at place i fails, the paths from i on fail so
 pub path_fails : (hash : Hash) (size : ℕ) (root : List ℕ) (k : ℕ) (alh : List ℕ) (inners : List (List ℕ)) (paths : List (List (List ℕ))) (i : ℕ) (path : List (List ℕ)) (fault : DualFault)

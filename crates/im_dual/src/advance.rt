@@ -66,7 +66,7 @@ fn terms_due(a: u64, e: u64) -> u64
 
 // Whether the Alh of transaction k, and those that the inner digests lead to but for the last, are in the
 // tree, and the last is the one told.
-#[tactic(auto, using(im_proof::proofs::CheckLemmas::fail_both, im_proof::proofs::CheckLemmas::fail_append))]
+#[tactic(auto, using(im_mtree::proofs::CheckLemmas::fail_both, im_mtree::proofs::CheckLemmas::fail_append))]
 fn check_walk<H: Hash32>(
     hash: &H,
     k: u64,

@@ -20,7 +20,7 @@ use im_proof::proofs::DualProof;
 /// # Errors
 ///
 /// The first check that fails, with what was wanted and what was found.
-#[tactic(auto, using(im_proof::proofs::CheckLemmas::fail_both, im_proof::proofs::CheckLemmas::fail_append))]
+#[tactic(auto, using(im_mtree::proofs::CheckLemmas::fail_both, im_mtree::proofs::CheckLemmas::fail_append))]
 pub fn check<H: Hash32>(hash: &H, proof: &DualProof) -> Result<(), DualFault>
     ensures { result ≡ first_fail (dual_checks (H.digest hash.now) proof.now) }
 {
@@ -32,7 +32,7 @@ pub fn check<H: Hash32>(hash: &H, proof: &DualProof) -> Result<(), DualFault>
 }
 
 // Both trees, where the source has this Alh.
-#[tactic(auto, using(im_proof::proofs::CheckLemmas::fail_both, im_proof::proofs::CheckLemmas::fail_append), unfolding(im_proof::specs::Duals::tree_checks))]
+#[tactic(auto, using(im_mtree::proofs::CheckLemmas::fail_both, im_mtree::proofs::CheckLemmas::fail_append), unfolding(im_proof::specs::Duals::tree_checks))]
 fn check_trees<H: Hash32>(hash: &H, proof: &DualProof, source_alh: &D32) -> Result<(), DualFault>
     requires { 1 ≤ proof.now.source.id }
     ensures { result ≡ first_fail (tree_checks (H.digest hash.now) proof.now source_alh.now) }
@@ -80,7 +80,7 @@ fn check_bl(s: u64, size: u64, alh: &D32, told: &D32) -> Result<(), DualFault>
 }
 
 // The chain and the advance, where source and target have these Alh.
-#[tactic(auto, using(im_proof::proofs::CheckLemmas::fail_both, im_proof::proofs::CheckLemmas::fail_append), unfolding(im_proof::specs::Duals::chain_checks))]
+#[tactic(auto, using(im_mtree::proofs::CheckLemmas::fail_both, im_mtree::proofs::CheckLemmas::fail_append), unfolding(im_proof::specs::Duals::chain_checks))]
 fn check_chains<H: Hash32>(
     hash: &H,
     proof: &DualProof,

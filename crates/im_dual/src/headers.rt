@@ -46,7 +46,7 @@ pub fn check_header(header: &Header) -> Result<(), HeaderFault>
 /// # Errors
 ///
 /// The first check that fails: of the source's header, of the target's, of their numbers, of their trees.
-#[tactic(auto, using(im_proof::proofs::CheckLemmas::fail_both, im_proof::proofs::CheckLemmas::fail_append), unfolding(im_proof::specs::Duals::both_headers_checks))]
+#[tactic(auto, using(im_mtree::proofs::CheckLemmas::fail_both, im_mtree::proofs::CheckLemmas::fail_append), unfolding(im_proof::specs::Duals::both_headers_checks))]
 pub fn check_headers(source: &Header, target: &Header) -> Result<(), DualFault>
     ensures first { result ≡ first_fail (both_headers_checks source.now target.now) }
     ensures source { IfOk result (λ u. source.now.bl_tx_id < source.now.id) }

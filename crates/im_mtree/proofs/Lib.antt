@@ -1,3 +1,4 @@
+pub mod CheckLemmas
 pub mod InclusionLemmas
 pub mod JoinLemmas
 pub mod SideLemmas

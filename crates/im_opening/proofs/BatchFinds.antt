@@ -7,7 +7,7 @@ use Rattle.im_disk.specs.Disk.{Files}
 use Rattle.im_format.specs.Damages.{Reached, batch_checks, behind, records_checks}
 use Rattle.im_format.specs.declared.damages.Damage.{Damage}
 use Rattle.im_mtree.specs.Checks.{Check, first_fail}
-use Rattle.im_proof.proofs.CheckLemmas.{fail_append}
+use Rattle.im_mtree.proofs.CheckLemmas.{fail_append}
 use Rattle.im_opening.specs.Answers.{Tells}
 use Rattle.im_opening.specs.Parts.{end_checks, mark_checks}
 use Rattle.im_opening.specs.declared.errors.OpenError.{OpenError}

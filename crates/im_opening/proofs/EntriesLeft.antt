@@ -12,7 +12,7 @@ use Rattle.im_format.specs.declared.damages.Damage.{Damage}
 use Rattle.im_format.specs.declared.references.ValueRef.{ValueRef}
 use Rattle.im_model.specs.declared.entries.Entry.{Entry}
 use Rattle.im_mtree.specs.Checks.{first_fail}
-use Rattle.im_proof.proofs.CheckLemmas.{fail_append, fail_first}
+use Rattle.im_mtree.proofs.CheckLemmas.{fail_append, fail_first}
 use Rattle.im_opening.specs.Answers.{Tells}
 use Rattle.im_opening.specs.Parts.{AreEntriesAt, IsEntryAt, entry_checks}
 use Rattle.im_opening.specs.declared.errors.OpenError.{OpenError}

@@ -4,7 +4,7 @@ use Rattle.std.specs.Prelude.{IfSome, IsErrAnd}
 use Rattle.im_disk.specs.Disk.{Told}
 use Rattle.im_mtree.specs.Checks.{Check, first_fail}
 use Rattle.im_format.specs.declared.damages.Damage.{Damage}
-use Rattle.im_proof.proofs.CheckLemmas.{then_check, fail_append, fail_both, fail_first}
+use Rattle.im_mtree.proofs.CheckLemmas.{then_check, fail_append, fail_both, fail_first}
 use Rattle.im_opening.specs.Answers.{HasOpenCause, Judges, Tells}
 use Rattle.im_opening.specs.declared.errors.OpenError.{OpenError}
 use Rattle.im_opening.specs.declared.errors.OpenError.TheVariants.{DiskFault, Damaged, Memory}

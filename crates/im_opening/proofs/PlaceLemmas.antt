@@ -22,15 +22,15 @@ use Rattle.im_standing.proofs.PassLemmas.{all-pass, pass-left, pass-right}
 use Rattle.im_opening.specs.Opening.{AreGrouped}
 
 -- an entry that passes its checks
-pub slot-ends : (log lens : List ℕ) (id : ℕ) (keys : List (List ℕ)) (at : ℕ) → first_fail (slot_checks_by log lens id keys (slot_at log at)) ≡ Ok tt
+pub slot-ends : (log lengths : List ℕ) (id : ℕ) (keys : List (List ℕ)) (at : ℕ) → first_fail (slot_checks_by log lengths id keys (slot_at log at)) ≡ Ok tt
     → (slot_at log at).end ≡ at + 49 + length (slot_at log at).md + length (slot_at log at).key
 unfolding slot_at
-slot-ends log lens id keys at ok =
+slot-ends log lengths id keys at ok =
     let slot = slot_at log at in
-    let by = ref_part log lens id (slot.start + 4 + slot.md_len + slot.key_len) in
+    let by = ref_part log lengths id (slot.start + 4 + slot.md_len + slot.key_len) in
     let md_checks = slot_md_checks log slot in
     let key_checks = slot_key_checks log keys slot in
-    let all = all-pass (slot_checks_by log lens id keys slot) ok in
+    let all = all-pass (slot_checks_by log lengths id keys slot) ok in
     let m = pass-left md_checks (key_checks ++ by) all in
     let k = pass-left key_checks by (pass-right md_checks (key_checks ++ by) all) in
     let md_within : at + 2 + slot.md_len ≤ length log = leb-true (at + 2 + slot.md_len) (length log) m.1.1.0 in

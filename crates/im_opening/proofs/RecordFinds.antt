@@ -10,7 +10,7 @@ use Rattle.im_model.specs.History.{next_header}
 use Rattle.im_model.specs.declared.headers.Header.{Header}
 use Rattle.im_model.specs.declared.transactions.Transaction.{Transaction}
 use Rattle.im_mtree.specs.Checks.{Check, first_fail}
-use Rattle.im_proof.proofs.CheckLemmas.{fail_append}
+use Rattle.im_mtree.proofs.CheckLemmas.{fail_append}
 use Rattle.im_opening.specs.Answers.{Tells}
 use Rattle.im_opening.specs.Parts.{transaction_checks}
 use Rattle.im_opening.specs.declared.errors.OpenError.{OpenError}

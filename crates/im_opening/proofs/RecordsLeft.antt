@@ -8,7 +8,7 @@ use Rattle.im_format.specs.Reading.{record_end}
 use Rattle.im_format.specs.declared.records.Record.{Record}
 use Rattle.im_mtree.specs.Checks.{first_fail}
 use Rattle.im_record.specs.Back.{record_in}
-use Rattle.im_proof.proofs.CheckLemmas.{fail_append}
+use Rattle.im_mtree.proofs.CheckLemmas.{fail_append}
 use Rattle.im_opening.specs.Answers.{Tells}
 use Rattle.im_opening.specs.Parts.{records_in}
 use Rattle.im_opening.specs.declared.errors.OpenError.{OpenError}

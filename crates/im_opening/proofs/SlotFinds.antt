@@ -10,7 +10,7 @@ use Rattle.im_record.specs.Slots as Read
 use Rattle.im_record.specs.Slots.{HaveLengths, ref_part, slot_checks_by}
 use Rattle.im_record.specs.declared.errors.ReadError.{ReadError}
 use Rattle.im_record.specs.declared.errors.ReadError.TheVariants.{Damaged, Memory}
-use Rattle.im_proof.proofs.CheckLemmas.{fail_append, fail_first}
+use Rattle.im_mtree.proofs.CheckLemmas.{fail_append, fail_first}
 use Rattle.im_opening.specs.Answers.{Tells, of_record}
 use Rattle.im_opening.specs.Parts.{Shows, digest_check, entry_checks}
 use Rattle.im_opening.specs.declared.errors.OpenError.{OpenError}
@@ -53,62 +53,62 @@ size-same log id slot m n same = elim (cases_Bool (nat_le slot.ref.log 3)) [
   | inr fails ↦ find-stop (front log slot) (number_check slot) (back log id slot m) fails ∙ sym (find-stop (front log slot) (number_check slot) (back log id slot n) fails)
 ]
 
-by-lens : (log lens : List ℕ) (id at : ℕ) → (let slot = slot_at log at in
-    ref_part log lens id (slot.start + 4 + slot.md_len + slot.key_len) ≡ all log id slot (get_or lens slot.ref.log 0))
+by-lengths : (log lengths : List ℕ) (id at : ℕ) → (let slot = slot_at log at in
+    ref_part log lengths id (slot.start + 4 + slot.md_len + slot.key_len) ≡ all log id slot (get_or lengths slot.ref.log 0))
 unfolding slot_at
-by-lens log lens id at = refl
+by-lengths log lengths id at = refl
 
 by-image : (image : Files) (id : ℕ) (slot : Slot) → slot_ref_checks image id slot ≡ all (image 0) id slot (length (image (2 + slot.ref.log)))
 by-image image id slot = refl
 
 -- where the value logs have these lengths
-pub slot-finds : (image : Files) (lens : List ℕ) (id : ℕ) (keys : List (List ℕ)) (at : ℕ) → HaveLengths image lens
-    → first_fail (slot_checks_by (image 0) lens id keys (slot_at (image 0) at)) ≡ first_fail (slot_checks image id keys (slot_at (image 0) at))
-slot-finds image lens id keys at same =
+pub slot-finds : (image : Files) (lengths : List ℕ) (id : ℕ) (keys : List (List ℕ)) (at : ℕ) → HaveLengths image lengths
+    → first_fail (slot_checks_by (image 0) lengths id keys (slot_at (image 0) at)) ≡ first_fail (slot_checks image id keys (slot_at (image 0) at))
+slot-finds image lengths id keys at same =
     let slot = slot_at (image 0) at in
     let md = slot_md_checks (image 0) slot in
     let key = slot_key_checks (image 0) keys slot in
-    let by = ref_part (image 0) lens id (slot.start + 4 + slot.md_len + slot.key_len) in
+    let by = ref_part (image 0) lengths id (slot.start + 4 + slot.md_len + slot.key_len) in
     find-same md (key ++ by) (key ++ slot_ref_checks image id slot) (find-same key by (slot_ref_checks image id slot) (
-    ap first_fail (by-lens (image 0) lens id at)
-    ∙ size-same (image 0) id slot (get_or lens slot.ref.log 0) (length (image (2 + slot.ref.log))) (λ le. sym (same slot.ref.log le))
+    ap first_fail (by-lengths (image 0) lengths id at)
+    ∙ size-same (image 0) id slot (get_or lengths slot.ref.log 0) (length (image (2 + slot.ref.log))) (λ le. sym (same slot.ref.log le))
     ∙ ap first_fail (sym (by-image image id slot))
     ))
 
 -- the key is none of those before
-pub key-fresh : (log lens : List ℕ) (id : ℕ) (keys : List (List ℕ)) (slot : Slot)
-    → first_fail (slot_checks_by log lens id keys slot) ≡ Ok tt → index_of slot.key keys ≡ length keys
-key-fresh log lens id keys slot ok =
-    let by = ref_part log lens id (slot.start + 4 + slot.md_len + slot.key_len) in
+pub key-fresh : (log lengths : List ℕ) (id : ℕ) (keys : List (List ℕ)) (slot : Slot)
+    → first_fail (slot_checks_by log lengths id keys slot) ≡ Ok tt → index_of slot.key keys ≡ length keys
+key-fresh log lengths id keys slot ok =
+    let by = ref_part log lengths id (slot.start + 4 + slot.md_len + slot.key_len) in
     let key = slot_key_checks log keys slot in
-    let h = pass-left key by (pass-right (slot_md_checks log slot) (key ++ by) (all-pass (slot_checks_by log lens id keys slot) ok)) in
+    let h = pass-left key by (pass-right (slot_md_checks log slot) (key ++ by) (all-pass (slot_checks_by log lengths id keys slot) ok)) in
     eqb-true _ _ h.1.1.1.1.0
 
 -- where the image has this transaction log
-pub slot-fails : (hash : Hash) (image : Files) (log lens : List ℕ) (id : ℕ) (keys : List (List ℕ)) (at : ℕ) (e : ReadError) → Shows image log lens
-    → Read.Tells (slot_checks_by log lens id keys (slot_at log at)) e → Tells (entry_checks hash image id keys at) (of_record e)
-slot-fails hash image log lens id keys at (Damaged d) shows bad =
+pub slot-fails : (hash : Hash) (image : Files) (log lengths : List ℕ) (id : ℕ) (keys : List (List ℕ)) (at : ℕ) (e : ReadError) → Shows image log lengths
+    → Read.Tells (slot_checks_by log lengths id keys (slot_at log at)) e → Tells (entry_checks hash image id keys at) (of_record e)
+slot-fails hash image log lengths id keys at (Damaged d) shows bad =
     let slot = slot_at (image 0) at in
-    let P : List ℕ → Type 0 = λ l. first_fail (slot_checks_by l lens id keys (slot_at l at)) ≡ Err d in
+    let P : List ℕ → Type 0 = λ l. first_fail (slot_checks_by l lengths id keys (slot_at l at)) ≡ Err d in
     fail_first (slot_checks image id keys slot) (value_check hash image slot ∷ []) d
-    (sym (slot-finds image lens id keys at shows.lens_are) ∙ subst P shows.log_is bad)
-slot-fails hash image log lens id keys at Memory shows bad = tt
+    (sym (slot-finds image lengths id keys at shows.lengths_are) ∙ subst P shows.log_is bad)
+slot-fails hash image log lengths id keys at Memory shows bad = tt
 
 -- and where the entry's fields hold: what is found of the value
-pub value-finds : (hash : Hash) (image : Files) (log lens : List ℕ) (id : ℕ) (keys : List (List ℕ)) (at : ℕ) (ref : ValueRef) → Shows image log lens
-    → first_fail (slot_checks_by log lens id keys (slot_at log at)) ≡ Ok tt → ref ≡ (slot_at log at).ref
+pub value-finds : (hash : Hash) (image : Files) (log lengths : List ℕ) (id : ℕ) (keys : List (List ℕ)) (at : ℕ) (ref : ValueRef) → Shows image log lengths
+    → first_fail (slot_checks_by log lengths id keys (slot_at log at)) ≡ Ok tt → ref ≡ (slot_at log at).ref
     → first_fail (entry_checks hash image id keys at) ≡ first_fail (digest_check hash image ref ∷ [])
-value-finds hash image log lens id keys at ref shows fine is =
+value-finds hash image log lengths id keys at ref shows fine is =
     let slot = slot_at (image 0) at in
-    let P : List ℕ → Type 0 = λ l. first_fail (slot_checks_by l lens id keys (slot_at l at)) ≡ Ok tt in
+    let P : List ℕ → Type 0 = λ l. first_fail (slot_checks_by l lengths id keys (slot_at l at)) ≡ Ok tt in
     let Q : List ℕ → Type 0 = λ l. ref ≡ (slot_at l at).ref in
     fail_append (slot_checks image id keys slot) (value_check hash image slot ∷ [])
-    (sym (slot-finds image lens id keys at shows.lens_are) ∙ subst P shows.log_is fine)
+    (sym (slot-finds image lengths id keys at shows.lengths_are) ∙ subst P shows.log_is fine)
     ∙ ap (λ (r : ValueRef). first_fail (digest_check hash image r ∷ [])) (sym (subst Q shows.log_is is))
 
-pub value-fails : (hash : Hash) (image : Files) (log lens : List ℕ) (id : ℕ) (keys : List (List ℕ)) (at : ℕ) (ref : ValueRef) → Shows image log lens
-    → first_fail (slot_checks_by log lens id keys (slot_at log at)) ≡ Ok tt → ref ≡ (slot_at log at).ref
+pub value-fails : (hash : Hash) (image : Files) (log lengths : List ℕ) (id : ℕ) (keys : List (List ℕ)) (at : ℕ) (ref : ValueRef) → Shows image log lengths
+    → first_fail (slot_checks_by log lengths id keys (slot_at log at)) ≡ Ok tt → ref ≡ (slot_at log at).ref
     → (e : OpenError) → Tells (digest_check hash image ref ∷ []) e → Tells (entry_checks hash image id keys at) e
-value-fails hash image log lens id keys at ref shows fine is Open.DiskFault h = tt
-value-fails hash image log lens id keys at ref shows fine is (Open.Damaged d) h = value-finds hash image log lens id keys at ref shows fine is ∙ h
-value-fails hash image log lens id keys at ref shows fine is Open.Memory h = tt
+value-fails hash image log lengths id keys at ref shows fine is Open.DiskFault h = tt
+value-fails hash image log lengths id keys at ref shows fine is (Open.Damaged d) h = value-finds hash image log lengths id keys at ref shows fine is ∙ h
+value-fails hash image log lengths id keys at ref shows fine is Open.Memory h = tt

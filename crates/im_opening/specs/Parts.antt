@@ -15,9 +15,9 @@ use Rattle.im_record.specs.Back.{record_in}
 use Rattle.im_record.specs.Slots.{HaveLengths}
 
 -- the image has this transaction log, and value logs of these lengths
-pub record Shows (image : Files) (log lens : List ℕ) : Type 0 where
+pub record Shows (image : Files) (log lengths : List ℕ) : Type 0 where
   pub log_is : log ≡ image 0
-  pub lens_are : HaveLengths image lens
+  pub lengths_are : HaveLengths image lengths
 
 -- the check of the value that a reference shows
 abbrev pub digest_check : Hash → Files → ValueRef → Check Damage

@@ -57,7 +57,7 @@ pub(crate) fn read_batch<D: Disk, H: Hash32>(
     gate: u64,
     progress: &mut Progress,
 ) -> Result<(), OpenError>
-    requires shows { IfSome (D.told disk.old) (λ t. Shows (seen t) source.now.log.now source.now.lens) }
+    requires shows { IfSome (D.told disk.old) (λ t. Shows (seen t) source.now.log.now source.now.lengths) }
     requires mark { IfSome (D.told disk.old) (λ t. mark.now ≡ mark_at (seen t 1) gate) }
     requires gate { gate < 2 ^ 63 }
     requires place { progress.old.place ≤ length source.now.log.now }

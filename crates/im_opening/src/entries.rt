@@ -50,7 +50,7 @@ fn read_entry<'a, D: Disk, H: Hash32>(
     at: u64,
     keys: &mut Keys<'a>,
 ) -> Result<EntryRead, OpenError>
-    requires shows { IfSome (D.told disk.old) (λ t. Shows (seen t) source.now.log.now source.now.lens) }
+    requires shows { IfSome (D.told disk.old) (λ t. Shows (seen t) source.now.log.now source.now.lengths) }
     requires place { at ≤ length source.now.log.now }
     requires some { 1 ≤ id }
     requires few { id < 2 ^ 42 }
@@ -68,7 +68,7 @@ fn read_entry<'a, D: Disk, H: Hash32>(
     ensures told { D.told disk.new ≡ D.told disk.old }
     ensures cause { HasOpenCause (D.faults disk.old) (D.faults disk.new) result }
 {
-    let slot = read_slot(source.log, at, id, &source.lens, keys)?;
+    let slot = read_slot(source.log, at, id, &source.lengths, keys)?;
     let octets = read_value(alloc, hash, disk, &slot.value)?;
     let md = Octets::from_slice(alloc, slot.md)?;
     let key = Octets::from_slice(alloc, slot.key)?;
@@ -95,7 +95,7 @@ pub(crate) fn read_entries<D: Disk, H: Hash32>(
     at: u64,
     count: u32,
 ) -> Result<EntriesRead, OpenError>
-    requires shows { IfSome (D.told disk.old) (λ t. Shows (seen t) source.now.log.now source.now.lens) }
+    requires shows { IfSome (D.told disk.old) (λ t. Shows (seen t) source.now.log.now source.now.lengths) }
     requires place { at ≤ length source.now.log.now }
     requires some { 1 ≤ id }
     requires few { id < 2 ^ 42 }

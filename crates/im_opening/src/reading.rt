@@ -62,7 +62,7 @@ fn read_batches<D: Disk, H: Hash32>(
     commits: &[u8],
     source: &Source,
 ) -> Result<BatchesRead, OpenError>
-    requires shows { IfSome (D.told disk.old) (λ t. Shows (seen t) source.now.log.now source.now.lens) }
+    requires shows { IfSome (D.told disk.old) (λ t. Shows (seen t) source.now.log.now source.now.lengths) }
     requires commits { IfSome (D.told disk.old) (λ t. commits.now ≡ seen t 1) }
     ensures fits { IfOk result (λ read. Fits (H.digest hash.now) read.progress) }
     ensures whole { IfOk result (λ read. IsWhole (H.digest hash.now) read.progress) }
@@ -110,8 +110,8 @@ fn read_batches<D: Disk, H: Hash32>(
 }
 
 // The lengths of the value logs.
-fn lengths<D: Disk>(disk: &mut D) -> Result<[u64; 4], DiskError>
-    ensures lens { (t : Told) → D.told disk.old ≡ Some t → IfOk result (HaveLengths (seen t)) }
+fn log_lengths<D: Disk>(disk: &mut D) -> Result<[u64; 4], DiskError>
+    ensures lengths { (t : Told) → D.told disk.old ≡ Some t → IfOk result (HaveLengths (seen t)) }
     ensures told { D.told disk.new ≡ D.told disk.old }
     ensures cause { HasCause (D.faults disk.old) (D.faults disk.new) result }
 {
@@ -144,8 +144,8 @@ fn read_logs<D: Disk, H: Hash32>(
     ensures told { D.told disk.new ≡ D.told disk.old }
     ensures cause { HasOpenCause (D.faults disk.old) (D.faults disk.new) result }
 {
-    let lens = lengths(disk)?;
-    let source = Source { log, lens };
+    let lengths = log_lengths(disk)?;
+    let source = Source { log, lengths };
     let read = read_batches(alloc, hash, disk, commits, &source)?;
     let BatchesRead {
         progress,

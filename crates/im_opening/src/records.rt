@@ -96,7 +96,7 @@ pub(crate) fn read_record<D: Disk, H: Hash32>(
     source: &Source,
     progress: &mut Progress,
 ) -> Result<(), OpenError>
-    requires shows { IfSome (D.told disk.old) (λ t. Shows (seen t) source.now.log.now source.now.lens) }
+    requires shows { IfSome (D.told disk.old) (λ t. Shows (seen t) source.now.log.now source.now.lengths) }
     requires place { progress.old.place ≤ length source.now.log.now }
     requires few { length progress.old.alhs.items < 1048576 }
     requires fits { Fits (H.digest hash.now) progress.old }
@@ -148,7 +148,7 @@ pub(crate) fn read_records<D: Disk, H: Hash32>(
     count: u64,
     progress: &mut Progress,
 ) -> Result<(), OpenError>
-    requires shows { IfSome (D.told disk.old) (λ t. Shows (seen t) source.now.log.now source.now.lens) }
+    requires shows { IfSome (D.told disk.old) (λ t. Shows (seen t) source.now.log.now source.now.lengths) }
     requires place { progress.old.place ≤ length source.now.log.now }
     requires few { length progress.old.alhs.items + count ≤ 1048576 }
     requires fits { Fits (H.digest hash.now) progress.old }

@@ -4,5 +4,5 @@ pub struct Source<'a> {
     /// The octets of the transaction log.
     pub log: &'a [u8],
     /// The lengths of the value logs 0 to 3, in octets.
-    pub lens: [u64; 4],
+    pub lengths: [u64; 4],
 }

@@ -40,7 +40,7 @@ pub(crate) fn read_transaction<D: Disk, H: Hash32>(
     at: u64,
     least_bl: u64,
 ) -> Result<TransactionRead, OpenError>
-    requires shows { IfSome (D.told disk.old) (λ t. Shows (seen t) source.now.log.now source.now.lens) }
+    requires shows { IfSome (D.told disk.old) (λ t. Shows (seen t) source.now.log.now source.now.lengths) }
     requires place { at ≤ length source.now.log.now }
     requires some { 1 ≤ id }
     requires few { id ≤ 1048576 }

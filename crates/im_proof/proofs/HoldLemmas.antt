@@ -3,7 +3,7 @@ use Rattle.std.proofs.Common.{◌≡◌, ℕ, Bool, true, false, List, [], ◌�
 use Rattle.std.specs.Prelude.{bytes_eq}
 use Rattle.std.proofs.lemmas.Slice.Eq.{bytes_eq-Decides}
 use Rattle.im_mtree.specs.Checks.{Check, first_fail}
-use Rattle.im_proof.proofs.CheckLemmas.{fail_append}
+use Rattle.im_mtree.proofs.CheckLemmas.{fail_append}
 
 -- equal octets are found equal
 pub bytes-same : (a b : List ℕ) → a ≡ b → bytes_eq a b ≡ true

@@ -1,3 +1,2 @@
-pub mod CheckLemmas
 pub mod HeaderLemmas
 pub mod HoldLemmas

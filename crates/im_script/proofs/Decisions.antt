@@ -8,6 +8,7 @@ use Rattle.hex.specs.declared.error.FromHexError.{FromHexError}
 use Rattle.im_cuts.specs.Cuts.{IsCut, Lacks}
 use Rattle.im_cuts.specs.Words.{IsNumber, is_word, number_value}
 use Rattle.im_cuts.proofs.CutLemmas.{append-same, heads-differ}
+use Rattle.im_cuts.proofs.DecideLemmas.{CutOrNone, cut-tells, truth}
 use Rattle.im_cuts.proofs.WordLemmas.{number-unique}
 use Rattle.im_talk.specs.Fields.{IsOctets, is_bare}
 use Rattle.im_script.specs.Arguments.{IsFirstField, IsIndex}
@@ -25,24 +26,6 @@ decided-else P Q some none (inr h) = none h
 pub decided-by : {X Y : Type 0} (P : X → Type 0) (Q : Y → Type 0) → ((x : X) → P x → Decided Q) → (((x : X) → P x → ⊥) → (y : Y) → Q y → ⊥) → Decided P → Decided Q
 decided-by P Q some none (inl h) = some h.0 h.1
 decided-by P Q some none (inr h) = inr (none h)
-
--- a test is passed or not
-pub truth : (b : Bool) → (b ≡ true) ⊎ (b ≡ false)
-truth true = inl refl
-truth false = inr refl
-
-abbrev CutOrNone : ℕ → List ℕ → Type 0
-CutOrNone mark text = ((front : List ℕ) × (back : List ℕ) × IsCut mark text front back) ⊎ Lacks mark text
-
-cut-more : (mark o : ℕ) (text : List ℕ) → (((o == mark) ≡ true) × (o ≡ mark)) ⊎ (((o == mark) ≡ false) × (o ≢ mark)) → CutOrNone mark text → CutOrNone mark (o ∷ text)
-cut-more mark o text (inl same) rest = inl ([], text, (refl, ap (λ (p : ℕ). p ∷ text) same.1))
-cut-more mark o text (inr other) (inl c) =
-    inl (o ∷ c.0, c.1, (and_from _ _ (not_from_false _ other.0) c.2.0, ap (λ (t : List ℕ). o ∷ t) c.2.1))
-cut-more mark o text (inr other) (inr lacks) = inr (and_from _ _ (not_from_false _ other.0) lacks)
-
-cut-tells : (mark : ℕ) (text : List ℕ) → CutOrNone mark text
-cut-tells mark [] = inr refl
-cut-tells mark (o ∷ text) = cut-more mark o text (eqb_tells o mark) (cut-tells mark text)
 
 -- a text is cut at the first mark, or has none
 pub by-cut : {Y : Type 0} (Q : Y → Type 0) (mark : ℕ) (text : List ℕ) → ((front back : List ℕ) → IsCut mark text front back → Decided Q) → (Lacks mark text → (y : Y) → Q y → ⊥) → Decided Q

@@ -17,7 +17,8 @@ use Rattle.im_script.specs.declared.commands.Line.{Line}
 use Rattle.im_script.specs.Script.{deletion, AreNumbers, IsAt, IsCommand, IsLine, IsLookup, IsPassedOver, IsScript, MayFollow, Say, Stop, StopsAfter}
 use Rattle.im_script.specs.Arguments.{IsSet, IsDelete, IsGet, IsScanCommand, IsHistoryCommand, IsHeader, IsIndex, IsState, IsProve, IsAdvance, IsItemCommand, IsLink}
 use Rattle.im_script.proofs.CommandLemmas.{advance-no-numbers, found-set, found-delete, found-get, found-scan, found-history, found-header, found-state, found-prove, found-advance, found-item, found-link, prove-no-numbers}
-use Rattle.im_script.proofs.Decisions.{Decided, after-decided, by-cut, decided-by, decided-else, first-field, index-decided, number-decided, octets-decided, truth}
+use Rattle.im_cuts.proofs.DecideLemmas.{truth}
+use Rattle.im_script.proofs.Decisions.{Decided, after-decided, by-cut, decided-by, decided-else, first-field, index-decided, number-decided, octets-decided}
 use Rattle.im_script.proofs.FieldsDecided.{AsksBoth, asked-decided}
 use Rattle.im_script.proofs.LineLemmas.{line-bad-command, line-bad-session, line-no-space}
 use Rattle.im_script.proofs.LookupLemmas.{lookup-bad-at, lookup-bad-octets}

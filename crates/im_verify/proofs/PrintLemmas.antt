@@ -26,10 +26,8 @@ use Rattle.im_wire.specs.Fits.{IsMessage}
 use Rattle.im_wire.specs.Messages.{HasMessage}
 use Rattle.im_wire.specs.Texts.{advance_proof_data, anchor_data, digest_lists_data, digests_data, dual_proof_data, entry_data, header_data, hex_data, message_data, text}
 use Rattle.im_wire.specs.Tokens.{tokens_of}
-use Rattle.im_wire.proofs.FieldAgain.{digests-plain}
-use Rattle.im_wire.proofs.MessageAgain.{message-is-read}
+use Rattle.im_wire.proofs.MessageAgain.{message-is-read, message-plain}
 use Rattle.im_wire.proofs.ReadAgain.{ArePlain, ArePlainMembers, IsPlain, IsPlainNumber}
-use Rattle.im_wire.proofs.RecordAgain.{anchor-plain, dual_proof-plain, entry-plain, header-plain}
 use Rattle.im_wire.proofs.TokenLemmas.{print_is}
 
 ascii-of : (xs : List ℕ) → are_ascii xs ≡ true → IsAscii xs
@@ -169,12 +167,6 @@ message-texts (Dual p) = (refl, dual_proof-texts p, (refl, IsUtf8-are_ascii (cod
 message-texts (Advance p a) = (refl, anchor-texts a, (refl, dual_proof-texts p, (refl, IsUtf8-are_ascii (codes "advance") refl, tt)))
 message-texts (Item p e i ds) =
     (refl, dual_proof-texts p, (refl, entry-texts e, (refl, tt, (refl, digests-texts ds, (refl, IsUtf8-are_ascii (codes "item") refl, tt)))))
-
-message-plain : (m : Message) → IsMessage m → IsPlain (message_data m)
-message-plain (State h) fits = (refl, (header-plain h fits, (tt, tt)))
-message-plain (Dual p) fits = (refl, (dual_proof-plain p fits, (tt, tt)))
-message-plain (Advance p a) fits = (refl, (anchor-plain a fits.1, (dual_proof-plain p fits.0, (tt, tt))))
-message-plain (Item p e i ds) fits = (refl, (dual_proof-plain p fits.0, (entry-plain e, (omega (arith, fits.2), (digests-plain ds, (tt, tt))))))
 
 -- the text of a message says the message
 pub text-again : (m : Message) → IsMessage m → HasMessage (text m) m

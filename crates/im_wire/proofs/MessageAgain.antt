@@ -25,7 +25,8 @@ message-again (Advance p a) fits = rw (anchor-again a fits.1, dual_proof-again p
 message-again (Item p e i ds) fits =
     rw (dual_proof-again p fits.0, entry-again e fits.1, number-again (2 ^ 32) i fits.2, digests-again ds fits.3) refl
 
-message-plain : (m : Message) → IsMessage m → IsPlain (message_data m)
+-- a message has no number of floating point
+pub message-plain : (m : Message) → IsMessage m → IsPlain (message_data m)
 message-plain (State h) fits = (refl, (header-plain h fits, (tt, tt)))
 message-plain (Dual p) fits = (refl, (dual_proof-plain p fits, (tt, tt)))
 message-plain (Advance p a) fits = (refl, (anchor-plain a fits.1, (dual_proof-plain p fits.0, (tt, tt))))

@@ -24,30 +24,30 @@ pub returns-in_err-slot-clause-first : goal.returns-in_err-slot-clause-first
 returns-in_err-slot-clause-first g c t is =
     let image = seen t in
     let log = c.args.source.now.log.now in
-    let lens = c.args.source.now.lens in
-    let shows = at-told (λ t. Shows (seen t) log lens) (g.D.Disk.told c.args.disk.now) t c.requires.shows is in
+    let lengths = c.args.source.now.lengths in
+    let shows = at-told (λ t. Shows (seen t) log lengths) (g.D.Disk.told c.args.disk.now) t c.requires.shows is in
     judge-err _ _ (of_record c.in_err-slot.field-0.0) c.from_residual.ensures.1
-    (slot-fails (g.H.Hash32.digest c.args.hash.now) image log lens c.args.id c.args.keys.now c.args.at c.in_err-slot.field-0.0 shows c.in_err-slot.ensures.first)
+    (slot-fails (g.H.Hash32.digest c.args.hash.now) image log lengths c.args.id c.args.keys.now c.args.at c.in_err-slot.field-0.0 shows c.in_err-slot.ensures.first)
 
 pub returns-in_err-octets-clause-first : goal.returns-in_err-octets-clause-first
 returns-in_err-octets-clause-first g c t is =
     let image = seen t in
     let log = c.args.source.now.log.now in
-    let lens = c.args.source.now.lens in
-    let shows = at-told (λ t. Shows (seen t) log lens) (g.D.Disk.told c.args.disk.now) t c.requires.shows is in
+    let lengths = c.args.source.now.lengths in
+    let shows = at-told (λ t. Shows (seen t) log lengths) (g.D.Disk.told c.args.disk.now) t c.requires.shows is in
     judge-err _ _ c.in_err-octets.field-0.0 c.from_residual-in_err-octets.ensures.1
-    (value-fails (g.H.Hash32.digest c.args.hash.now) image log lens c.args.id c.args.keys.now c.args.at c.in_ok-slot.slot.value shows
+    (value-fails (g.H.Hash32.digest c.args.hash.now) image log lengths c.args.id c.args.keys.now c.args.at c.in_ok-slot.slot.value shows
     c.in_ok-slot.ensures.first c.in_ok-slot.ensures.slot.value c.in_err-octets.field-0.0 (c.in_err-octets.ensures.first t is).is)
 
 pub returns-clause-first : goal.returns-clause-first
 returns-clause-first g c t is =
     let image = seen t in
     let log = c.args.source.now.log.now in
-    let lens = c.args.source.now.lens in
-    let shows = at-told (λ t. Shows (seen t) log lens) (g.D.Disk.told c.args.disk.now) t c.requires.shows is in
+    let lengths = c.args.source.now.lengths in
+    let shows = at-told (λ t. Shows (seen t) log lengths) (g.D.Disk.told c.args.disk.now) t c.requires.shows is in
     record {
       is =
-          value-finds (g.H.Hash32.digest c.args.hash.now) image log lens c.args.id c.args.keys.now c.args.at c.in_ok-slot.slot.value shows
+          value-finds (g.H.Hash32.digest c.args.hash.now) image log lengths c.args.id c.args.keys.now c.args.at c.in_ok-slot.slot.value shows
           c.in_ok-slot.ensures.first c.in_ok-slot.ensures.slot.value ∙ (c.in_ok-octets.ensures.first t is).is;
     }
 
@@ -56,13 +56,13 @@ returns-clause-fresh g c =
     let log = c.args.source.now.log.now in
     let is = c.new-2.ensures ∙ c.in_ok-key.ensures ∙ c.in_ok-slot.ensures.slot.key in
     subst (λ (k : List ℕ). index_of k c.args.keys.now ≡ length c.args.keys.now) (sym is)
-    (key-fresh log c.args.source.now.lens c.args.id c.args.keys.now (slot_at log c.args.at) c.in_ok-slot.ensures.first)
+    (key-fresh log c.args.source.now.lengths c.args.id c.args.keys.now (slot_at log c.args.at) c.in_ok-slot.ensures.first)
 
 pub returns-clause-read : goal.returns-clause-read
 returns-clause-read g c t is =
     let image = seen t in
     let log = c.args.source.now.log.now in
-    let shows = at-told (λ t. Shows (seen t) log c.args.source.now.lens) (g.D.Disk.told c.args.disk.now) t c.requires.shows is in
+    let shows = at-told (λ t. Shows (seen t) log c.args.source.now.lengths) (g.D.Disk.told c.args.disk.now) t c.requires.shows is in
     let slot = slot_at (image 0) c.args.at in
     let there = c.in_ok-slot.ensures.slot in
     let md = subst (λ (l : List ℕ). c.in_ok-slot.slot.md.now ≡ (slot_at l c.args.at).md) shows.log_is there.md in
@@ -90,7 +90,7 @@ returns-clause-whole g c =
     let size : length ref.hval ≡ 32 = ap length c.in_ok-octets.ensures.digest ∙ g.met.H.Hash32.size c.args.hash.now c.in_ok-octets.octets.items in
     omega (
       arith,
-      slot-ends log c.args.source.now.lens c.args.id c.args.keys.now c.args.at c.in_ok-slot.ensures.first,
+      slot-ends log c.args.source.now.lengths c.args.id c.args.keys.now c.args.at c.in_ok-slot.ensures.first,
       there.end,
       ap length md,
       ap length key,

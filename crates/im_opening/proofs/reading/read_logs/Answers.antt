@@ -41,7 +41,7 @@ returns-clause-ends g c =
 pub returns-clause-read : goal.returns-clause-read
 returns-clause-read g c t is =
     let hash = g.H.Hash32.digest c.args.hash.now in
-    let told = c.in_ok-lens.ensures.told ∙ is in
+    let told = c.in_ok-lengths.ensures.told ∙ is in
     let ens = c.in_ok-read.ensures in
     let read = c.in_ok-read.read in
     let batches = ens.read t told in

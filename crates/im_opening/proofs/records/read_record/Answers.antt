@@ -36,7 +36,7 @@ returns-in_err-place-clause-first g c t is =
     let same : c.len.result ≡ length p.alhs.items = omega (arith, c.len.ensures, p.alhs.ok) in
     let d = c.in_err-place.field-0.0 in
     let log = c.args.source.now.log.now in
-    let shows = at-told (λ t. Shows (seen t) log c.args.source.now.lens) (g.D.Disk.told c.args.disk.now) t c.requires.shows is in
+    let shows = at-told (λ t. Shows (seen t) log c.args.source.now.lengths) (g.D.Disk.told c.args.disk.now) t c.requires.shows is in
     let there = c.in_ok-read.ensures.read t is in
     let made = digest-made hash (seen t) (reached_of p) log c.in_ok-read.read.end c.alh-digest.result c.next_header-header.result c.in_ok-read.read.tx
     shows.log_is there.end_is c.alh-digest.ensures c.next_header-header.ensures there.tx_is
@@ -52,7 +52,7 @@ returns-clause-first g c t is =
     let p = c.args.progress.now in
     let same : c.len.result ≡ length p.alhs.items = omega (arith, c.len.ensures, p.alhs.ok) in
     let log = c.args.source.now.log.now in
-    let shows = at-told (λ t. Shows (seen t) log c.args.source.now.lens) (g.D.Disk.told c.args.disk.now) t c.requires.shows is in
+    let shows = at-told (λ t. Shows (seen t) log c.args.source.now.lengths) (g.D.Disk.told c.args.disk.now) t c.requires.shows is in
     let there = c.in_ok-read.ensures.read t is in
     let made = digest-made hash (seen t) (reached_of p) log c.in_ok-read.read.end c.alh-digest.result c.next_header-header.result c.in_ok-read.read.tx
     shows.log_is there.end_is c.alh-digest.ensures c.next_header-header.ensures there.tx_is
