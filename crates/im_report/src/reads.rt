@@ -1,4 +1,4 @@
-ghost use Rattle.std.specs.Prelude.{◌≡◌, ◌≢◌, ◌++◌, codes, option_copied, IfOk, OnOk};
+ghost use Rattle.std.specs.Prelude.{ℕ, List, ◌≡◌, ◌≢◌, ◌++◌, codes, option_copied, IfOk, OnOk, OnErr};
 ghost use Rattle.std.specs.Fmt.{decimal};
 ghost use Rattle.im_report.specs.Reads.{history_reply, octets_text, place_reply, scan_reply, scanned_text, value_reply, version_text};
 
@@ -9,7 +9,7 @@ use im_versions::versions::Version;
 use std::alloc::{AllocError, Global};
 
 /// Adds a text, and then octets as they are printed: as they are where they are a bare word, else as `0x`
-/// and lower-case hex. Where memory ran out a part may have been added.
+/// and lower-case hex. Where memory ran out a part may have been added, and what stood before it stays.
 #[tactic(auto, unfolding(crate::specs::Reads::octets_text))]
 pub fn push_octets(
     alloc: Global,
@@ -17,7 +17,8 @@ pub fn push_octets(
     text: &[u8],
     octets: &[u8],
 ) -> Result<(), AllocError>
-    ensures { OnOk result (out.new.items ≡ out.old.items ++ text.now ++ octets_text octets.now) }
+    ensures whole { OnOk result (out.new.items ≡ out.old.items ++ text.now ++ octets_text octets.now) }
+    ensures part { OnErr result ((part : List ℕ) × (out.new.items ≡ out.old.items ++ part)) }
 {
     out.extend_from_slice(text)?;
     if is_bare(octets) {
@@ -77,7 +78,8 @@ pub fn value_text(alloc: Global, version: Option<&Version>) -> Result<Vec<u8>, A
 // Adds a live key of a scan: ` K=V@<m>`.
 #[tactic(auto, unfolding(crate::specs::Reads::scanned_text))]
 fn push_scanned(alloc: Global, out: &mut Vec<u8>, version: &Version) -> Result<(), AllocError>
-    ensures { OnOk result (out.new.items ≡ out.old.items ++ scanned_text version.now) }
+    ensures whole { OnOk result (out.new.items ≡ out.old.items ++ scanned_text version.now) }
+    ensures part { OnErr result ((part : List ℕ) × (out.new.items ≡ out.old.items ++ part)) }
 {
     push_octets(alloc, out, b" ", version.key.as_slice())?;
     push_octets(alloc, out, b"=", version.value.as_slice())?;
@@ -100,7 +102,8 @@ pub fn scan_text(alloc: Global, shown: &[Version]) -> Result<Vec<u8>, AllocError
 // Adds a version of a history: ` V@<m>`, or ` !@<m>` for a deletion.
 #[tactic(auto, unfolding(crate::specs::Reads::version_text))]
 fn push_version(alloc: Global, out: &mut Vec<u8>, version: &Version) -> Result<(), AllocError>
-    ensures { OnOk result (out.new.items ≡ out.old.items ++ version_text version.now) }
+    ensures whole { OnOk result (out.new.items ≡ out.old.items ++ version_text version.now) }
+    ensures part { OnErr result ((part : List ℕ) × (out.new.items ≡ out.old.items ++ part)) }
 {
     if version.deleted {
         out.extend_from_slice(b" !")?;

@@ -1,4 +1,4 @@
-ghost use Rattle.std.specs.Prelude.{◌≡◌, ◌++◌, IfOk, OnOk};
+ghost use Rattle.std.specs.Prelude.{ℕ, List, ◌≡◌, ◌++◌, IfOk, OnOk, OnErr};
 ghost use Rattle.std.specs.Fmt.{decimal, signed_decimal};
 ghost use Rattle.hex.specs.Hex.{encode_lower};
 ghost use Rattle.im_talk.specs.Texts.{header_front, header_middle, header_back, header_text};
@@ -13,7 +13,8 @@ pub fn push_hex(
     text: &[u8],
     octets: &[u8],
 ) -> Result<(), AllocError>
-    ensures { OnOk result (out.new.items ≡ out.old.items ++ text.now ++ encode_lower octets.now) }
+    ensures whole { OnOk result (out.new.items ≡ out.old.items ++ text.now ++ encode_lower octets.now) }
+    ensures part { OnErr result ((part : List ℕ) × (out.new.items ≡ out.old.items ++ part)) }
 {
     out.extend_from_slice(text)?;
     out.extend_from_slice(hex::encode(alloc, octets)?.as_bytes())
@@ -21,7 +22,8 @@ pub fn push_hex(
 
 /// Adds a text, and then a number in decimal. Where memory is refused a part may have been added.
 pub fn push_number(alloc: Global, out: &mut Vec<u8>, text: &[u8], n: u64) -> Result<(), AllocError>
-    ensures { OnOk result (out.new.items ≡ out.old.items ++ text.now ++ decimal n) }
+    ensures whole { OnOk result (out.new.items ≡ out.old.items ++ text.now ++ decimal n) }
+    ensures part { OnErr result ((part : List ℕ) × (out.new.items ≡ out.old.items ++ part)) }
 {
     out.extend_from_slice(text)?;
     out.extend_from_slice(n.to_string(alloc)?.as_bytes())
@@ -29,7 +31,8 @@ pub fn push_number(alloc: Global, out: &mut Vec<u8>, text: &[u8], n: u64) -> Res
 
 // Adds a text, and then a signed number in decimal.
 fn push_signed(alloc: Global, out: &mut Vec<u8>, text: &[u8], n: i64) -> Result<(), AllocError>
-    ensures { OnOk result (out.new.items ≡ out.old.items ++ text.now ++ signed_decimal n) }
+    ensures whole { OnOk result (out.new.items ≡ out.old.items ++ text.now ++ signed_decimal n) }
+    ensures part { OnErr result ((part : List ℕ) × (out.new.items ≡ out.old.items ++ part)) }
 {
     out.extend_from_slice(text)?;
     out.extend_from_slice(n.to_string(alloc)?.as_bytes())
