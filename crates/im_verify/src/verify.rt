@@ -1,5 +1,6 @@
 ghost use Rattle.std.specs.Prelude.{◌≡◌, ◌⊎◌, ℕ, ◌+◌, ◌<◌, ◌≤◌, [], length, IfSome, Some};
 ghost use Rattle.im_edge.specs.Counts.{Rose};
+ghost use Rattle.im_edge.specs.Sources.{TakesAtMost};
 ghost use Rattle.im_verify.specs.Ends.{HasFate};
 ghost use Rattle.im_verify.specs.Judged.{StopsKept};
 ghost use Rattle.im_verify.specs.Runs.{BreaksInto, BreaksOff, Verifies};
@@ -103,6 +104,9 @@ pub fn verify<H: Hash32, S: Source, K: Sink, P: Keeper>(
         IfSome (S.left source.old) (λ stream. length stream ≤ 67108864) }
     ensures emptied { (result ≡ Ended.ReadFault → ⊥) → (result ≡ Ended.Long → ⊥) → (result ≡ Ended.Memory → ⊥) →
         IfSome (S.left source.old) (λ _. S.left source.new ≡ Some []) }
+
+    // At every end a front part of the stream was taken, at most one take (4096 octets) past the limit.
+    ensures part { TakesAtMost 67112960 (S.left source.old) (S.left source.new) }
 
     // A fault comes only where its count rose, and no count rises otherwise.
     ensures read { result ≡ Ended.ReadFault → Rose (S.faults source.old) (S.faults source.new) }
