@@ -1,4 +1,4 @@
-ghost use Rattle.std.specs.Prelude.{◌≡◌, ◌≤◌, ◌∷◌, [], ℕ, length, IfOk, IfSome};
+ghost use Rattle.std.specs.Prelude.{◌≡◌, ◌≤◌, ◌<◌, ◌+◌, ◌∷◌, [], ℕ, length, IfOk, IfSome, OnOk};
 ghost use Rattle.im_disk.specs.Recorded.{unchanged};
 ghost use Rattle.im_journal.specs.Holding.{IsResting};
 ghost use Rattle.im_journal.specs.Sample.{no_ends};
@@ -53,6 +53,21 @@ fn over_blank<D: Disk, H: Hash32>(alloc: Global, _hash: &H, disk: D, logs: u8) -
     KeptLedger::over(journal, Ledger::new(alloc), logs)
 }
 
+// A ledger of no transactions over a disk with a closed gate, of which these changing calls fail.
+fn blank<H: Hash32>(
+    alloc: Global,
+    hash: &H,
+    failing: Vec<u64>,
+    logs: u8,
+) -> Result<KeptLedger<MemDisk>, AllocError>
+    requires { (1 ≤ logs) × (logs ≤ 4) }
+    ensures kept { IfOk result (IsKept ⟦<MemDisk as Disk>⟧.told (H.digest hash.now)) }
+    ensures none { IfOk result (λ ledger. (length ledger.held.transactions ≡ 0) × (ledger.held.tree ≡ [])) }
+{
+    let disk = fresh(alloc, failing)?;
+    Ok(over_blank(alloc, hash, disk, logs))
+}
+
 // The transaction of `set k=` and this value, at the time 0, over no tree.
 fn transaction(alloc: Global, value: &[u8]) -> Result<Transaction, AllocError>
     requires { length value.now ≤ 4096 }
@@ -70,6 +85,26 @@ fn transaction(alloc: Global, value: &[u8]) -> Result<Transaction, AllocError>
     })
 }
 
+// Commits the transaction of `set k=` and this value.
+fn commit<D: Disk, H: Hash32>(
+    alloc: Global,
+    hash: &H,
+    ledger: &mut KeptLedger<D>,
+    value: &[u8],
+) -> Result<(), CommitError>
+    requires value { length value.now ≤ 4096 }
+    requires kept { IsKept D.told (H.digest hash.now) ledger.old }
+    requires room { length ledger.old.held.transactions < 1048576 }
+    requires over { ledger.old.held.tree ≡ [] }
+    ensures kept { OnOk result (IsKept D.told (H.digest hash.now) ledger.new) }
+    ensures grown { OnOk result (length ledger.new.held.transactions ≡ length ledger.old.held.transactions + 1) }
+    ensures over { OnOk result (ledger.new.held.tree ≡ []) }
+{
+    let tx = transaction(alloc, value)?;
+    ledger.commit(alloc, hash, tx)?;
+    Ok(())
+}
+
 // The digest under the sum of octets that add up to this.
 fn sum_is(total: u8) -> D32 {
     let mut digest = [0; 32];
@@ -80,9 +115,8 @@ fn sum_is(total: u8) -> D32 {
 #[test]
 fn a_transaction_is_written_as_its_octets(rt: HostRuntime) -> Result<(), Fail> {
     let alloc = rt.alloc();
-    let disk = fresh(alloc, Vec::new(alloc))?;
-    let mut ledger = over_blank(alloc, &Sum, disk, 1);
-    ledger.commit(alloc, &Sum, transaction(alloc, b"abc")?)?;
+    let mut ledger = blank(alloc, &Sum, Vec::new(alloc), 1)?;
+    commit(alloc, &Sum, &mut ledger, b"abc")?;
     images_stand(&ledger);
     ledger.link(&Sum, 1)?;
     assert_eq!(rt; ledger.ledger().count(), 1);
@@ -98,9 +132,8 @@ fn a_transaction_is_written_as_its_octets(rt: HostRuntime) -> Result<(), Fail> {
 #[test]
 fn a_gate_that_fails_is_a_fault(rt: HostRuntime) -> Result<(), Fail> {
     let alloc = rt.alloc();
-    let disk = fresh(alloc, vec![in alloc; 5]?)?;
-    let mut ledger = over_blank(alloc, &Sum, disk, 1);
-    let result = ledger.commit(alloc, &Sum, transaction(alloc, b"abc")?);
+    let mut ledger = blank(alloc, &Sum, vec![in alloc; 5]?, 1)?;
+    let result = commit(alloc, &Sum, &mut ledger, b"abc");
     assert_eq!(rt; result, Err(CommitError::DiskFault));
     let (journal, ledger) = ledger.into_parts();
     assert_eq!(rt; ledger.count(), 0);
@@ -115,10 +148,9 @@ fn a_gate_that_fails_is_a_fault(rt: HostRuntime) -> Result<(), Fail> {
 #[test]
 fn values_go_round_the_logs(rt: HostRuntime) -> Result<(), Fail> {
     let alloc = rt.alloc();
-    let disk = fresh(alloc, Vec::new(alloc))?;
-    let mut ledger = over_blank(alloc, &Sum, disk, 2);
-    ledger.commit(alloc, &Sum, transaction(alloc, b"abc")?)?;
-    ledger.commit(alloc, &Sum, transaction(alloc, b"de")?)?;
+    let mut ledger = blank(alloc, &Sum, Vec::new(alloc), 2)?;
+    commit(alloc, &Sum, &mut ledger, b"abc")?;
+    commit(alloc, &Sum, &mut ledger, b"de")?;
     let disk = ledger.into_disk();
     assert_eq!(rt; disk.file(2), b"de".as_slice());
     assert_eq!(rt; disk.file(3), b"abc".as_slice());
