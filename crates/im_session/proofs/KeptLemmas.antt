@@ -1,6 +1,6 @@
 -- What a command that touches no disk leaves, and what a placed transaction does.
-use Rattle.std.proofs.Common.{◌≡◌, ◌∙◌, ℕ, ℤ, List, [], ◌∷◌, ◌++◌, refl, sym, subst, inl, inr}
-use Rattle.std.specs.Prelude.{map, Option, None, IfOk, Result, Ok, Err, IsErrOf}
+use Rattle.std.proofs.Common.{◌≡◌, ◌∙◌, ℕ, ℤ, List, [], ◌∷◌, ◌++◌, refl, sym, subst, ap, inl, inr}
+use Rattle.std.specs.Prelude.{map, Option, None, IfOk, Result, Ok, Err, IsErrAnd, IsErrOf}
 use Rattle.im_digest.specs.Digests.{Hash}
 use Rattle.im_disk.specs.Disk.{Files, Told}
 use Rattle.im_disk.specs.Moments.{Leaves}
@@ -39,22 +39,25 @@ module _ {D : Type 0} (told : D → Option Told) (hash : Hash) (k : KeptHistory 
       subst P (sym journal) (still (StandsBetween hash k.held.transactions now.held.transactions) (λ image h. inl h))
 
   -- and placed nothing
-  pub nothing-placed : (constant : Option ℤ) (times : Option (List ℤ)) (command : Command) (journal : Kept D) → journal ≡ k.journal
-      → MayPlace hash constant command k.held.transactions (told k.journal.disk) (told journal.disk) times times
-  nothing-placed constant times command journal same = record {
+  pub nothing-placed : {T : Type 0} (constant : Option ℤ) (times : Option (List ℤ)) (command : Command) (journal : Kept D) (result : Result T CommitError) → journal ≡ k.journal
+      → (IsErrOf result DiskFault → ⊥) → MayPlace told hash constant command k journal times times result
+  nothing-placed constant times command journal result same never = record {
     left = [];
     left_is = inl refl;
     asked = asked-none times;
     moments =
         let P : Kept D → Type 0 = λ j. Leaves (StandsWith hash k.held.transactions []) (told k.journal.disk) (told j.disk) in
         subst P (sym same) (still (StandsWith hash k.held.transactions []) (λ image h. inl h));
+    calls = inl (refl, ap (λ (j : Kept D). told j.disk) same, never);
   }
 
 -- a `set` was to place one transaction
-pub one-placed : (hash : Hash) (constant : Option ℤ) (pres : List Pre) (drafts : List Draft) (entries : List Entry) (history : List Transaction) (before now : Option Told) (times_before times_now : Option (List ℤ))
-    → place_refusal history pres ≡ None → AreFree drafts → AreEntries drafts → entries ≡ map entry_of drafts → MayPlaceOne hash constant entries history before now times_before times_now
-    → MayPlace hash constant (Set pres drafts) history before now times_before times_now
-one-placed hash constant pres drafts entries history before now times_before times_now admitted free are same p = record {
+pub one-placed : {D T : Type 0} (told : D → Option Told) (hash : Hash) (constant : Option ℤ) (pres : List Pre) (drafts : List Draft) (entries : List Entry) (k : KeptHistory D) (journal : Kept D)
+    (times_before times_now : Option (List ℤ)) (result : Result T CommitError)
+    → place_refusal k.held.transactions pres ≡ None → AreFree drafts → AreEntries drafts → entries ≡ map entry_of drafts
+    → MayPlaceOne told hash constant entries k journal times_before times_now result
+    → MayPlace told hash constant (Set pres drafts) k journal times_before times_now result
+one-placed told hash constant pres drafts entries k journal times_before times_now result admitted free are same p = record {
   left = p.tx ∷ [];
   left_is = inr (record {
     reaches = record { pres = pres; drafts = drafts; asks = refl; free = free; are = are; admitted = admitted };
@@ -65,6 +68,7 @@ one-placed hash constant pres drafts entries history before now times_before tim
   });
   asked = p.asked;
   moments = p.moments;
+  calls = inr (p.tx, refl, p.calls);
 }
 
 -- what it placed was placed
@@ -99,3 +103,11 @@ never-fault result is fault = cc
 -- the error that was answered is this one
 pub error-is : (error why wanted : CommitError) → IsErrOf {T = Unit {0}} {E = CommitError} (Err error) why → why ≡ wanted → IsErrOf {T = Unit {0}} {E = CommitError} (Err error) wanted
 error-is error why wanted is same = cc
+
+pub error-same : (error why : CommitError) → IsErrOf {T = Unit {0}} {E = CommitError} (Err error) why → error ≡ why
+error-same error why is = cc
+
+-- memory that ran out is no failed call
+pub memory-alone : {U : Type 0} (result : Result U CommitError) → IsErrAnd result (λ e. e ≡ Memory) → IsErrOf result DiskFault → ⊥
+memory-alone (Ok x) is fault = absurd is
+memory-alone (Err f) is fault = cc

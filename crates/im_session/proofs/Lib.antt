@@ -1,4 +1,5 @@
 pub mod AgainLemmas
+pub mod CallLemmas
 pub mod KeptLemmas
 pub mod PutLemmas
 pub mod ReadLemmas

@@ -2,14 +2,14 @@
 use Rattle.std.proofs.Common.{◌≡◌, ◌∙◌, ◌+◌, ℕ, List, [], ◌∷◌, ◌++◌, length, map, take, refl, sym, ap, subst, arith, append-nil, append_assoc, length-append}
 use Rattle.std.proofs.Math.Seq.{take-length}
 use Rattle.std.proofs.lemmas.List.{map-append}
-use Rattle.std.specs.Prelude.{Option, IfSome}
+use Rattle.std.specs.Prelude.{Option, IfSome, Ok}
 use Rattle.im_digest.specs.Digests.{Hash}
 use Rattle.im_disk.specs.Disk.{Files, Told, seen}
 use Rattle.im_disk.proofs.Leaving.{if_told}
 use Rattle.im_model.specs.declared.transactions.Transaction.{Transaction}
 use Rattle.im_format.specs.Batches.{gate_of, joined, spans_of}
 use Rattle.im_format.specs.Places.{AreAppended, ArePut, refs_of}
-use Rattle.im_format.specs.Standing.{Stands}
+use Rattle.im_format.specs.Standing.{HasBatches, Stands}
 use Rattle.im_format.specs.declared.records.Record.{Record}
 use Rattle.im_format.specs.declared.references.ValueRef.{ValueRef}
 use Rattle.im_journal.specs.Holding.{AreFirst, IsResting}
@@ -20,8 +20,10 @@ use Rattle.im_journal.proofs.Limits.{first_number}
 use Rattle.im_journal.proofs.Mids.{first_at}
 use Rattle.im_journal.proofs.Prefixes.{refs_more}
 use Rattle.im_journal.proofs.Turns.{stands, stands_batches}
+use Rattle.im_ledger.specs.Commits.{CommitMakes}
 use Rattle.im_ledger.specs.Histories.{HasCommitted, IsKept, KeptHistory}
 use Rattle.im_session.specs.Put.{ArePutBehind, IsKeptPut, StandsPut}
+use Rattle.im_session.proofs.CallLemmas.{calls-grown, told-none}
 
 -- the values of one transaction more
 put-more : (w id : ℕ) (before : List ValueRef) (rs : List Record) (r : Record) → ArePut w id before rs → AreAppended w (id + length rs) 0 (before ++ refs_of rs) r.refs → ArePut w id before (rs ++ r ∷ [])
@@ -80,19 +82,33 @@ module _ {D : Type 0} (told : D → Option Told) (hash : Hash) (k : KeptHistory 
   size : (batches : List (List Record)) → IsAtRest told hash k.held.transactions batches k.journal → length (joined batches) ≡ length k.held.transactions
   size batches rests = first_number hash k.held.transactions batches k.journal.durable k.journal.ends rests.first ∙ kept.all
 
-  -- nothing is put behind what was found
-  pub put-first : IsKeptPut told hash k.logs (length k.held.transactions) k
+  -- what reads give has the batches of the journal
+  batches-shown : IfSome (told k.journal.disk) (λ t. HasBatches (seen t) kept.batches)
+  batches-shown =
+      if_told (IsResting kept.batches k.journal.ends) (λ t. HasBatches (seen t) kept.batches)
+      (λ t h.
+      let there = batches-stand hash k.held.transactions kept.batches k.journal.durable k.journal.ends kept.rests.first (seen t) h.here in
+      let P : List (List Record) → Type 0 = λ b. HasBatches (seen t) b in
+      subst P there.1 there.0.there)
+      (told k.journal.disk) kept.rests.resting
+
+  -- nothing is put behind what was found, and no call was made
+  pub put-first : IsKeptPut told hash k.logs (length k.held.transactions) (told k.journal.disk) k
   put-first = record {
     batches = kept.batches;
     rests = kept.rests;
     put = record { first = kept.batches; rest = []; batches_are = sym (append-nil kept.batches); found_are = size kept.batches kept.rests; put = tt };
     over = refl;
+    held = batches-shown;
+    calls = told-none (told k.journal.disk);
   }
 
   -- a transaction was committed
-  pub put-grown : (w n : ℕ) (now : KeptHistory D) (tx : Transaction) → now.held.transactions ≡ k.held.transactions ++ tx ∷ [] → now.logs ≡ k.logs
-      → (p : IsKeptPut told hash w n k) → HasCommitted told hash now.held.transactions p.batches k.logs tx now.journal → IsKeptPut told hash w n now
-  put-grown w n now tx grown logs p c =
+  pub put-grown : {T : Type 0} (w n : ℕ) (first : Option Told) (now : KeptHistory D) (tx : Transaction) (x : T) → now.held.transactions ≡ k.held.transactions ++ tx ∷ [] → now.logs ≡ k.logs
+      → (p : IsKeptPut told hash w n first k) → HasCommitted told hash now.held.transactions p.batches k.logs tx now.journal → CommitMakes told hash tx k now.journal (Ok x)
+      → IsKeptPut told hash w n first now
+  unfolding behind-next
+  put-grown w n first now tx x grown logs p c makes =
       let one : List Transaction = tx ∷ [] in
       let number : length now.held.transactions ≡ length (joined p.batches) + 1 = omega (arith, ap length grown, length-append k.held.transactions one, size p.batches p.rests) in
       let P : ℕ → Type 0 = λ m. AreAppended w m 0 (refs_of (joined p.batches)) c.written.refs in
@@ -102,11 +118,13 @@ module _ {D : Type 0} (told : D → Option Told) (hash : Hash) (k : KeptHistory 
         rests = c.rests;
         put = behind-next w n p.batches c.written p.put (subst P number (subst Q p.over c.put));
         over = logs ∙ p.over;
+        held = p.held;
+        calls = calls-grown told hash k kept w n first p now tx x grown c makes;
       }
 
   -- what reads give stands with these batches
-  pub put-shown : (w n : ℕ) → IsKeptPut told hash w n k → IfSome (told k.journal.disk) (λ t. StandsPut hash w n k.held.transactions (seen t))
-  put-shown w n p =
+  pub put-shown : (w n : ℕ) (first : Option Told) → IsKeptPut told hash w n first k → IfSome (told k.journal.disk) (λ t. StandsPut hash w n k.held.transactions (seen t))
+  put-shown w n first p =
       let whole : take k.journal.durable k.held.transactions ≡ k.held.transactions =
       ap (λ (m : ℕ). take m k.held.transactions) kept.all ∙ take-length k.held.transactions in
       if_told (IsResting p.batches k.journal.ends) (λ t. StandsPut hash w n k.held.transactions (seen t))
@@ -118,9 +136,16 @@ module _ {D : Type 0} (told : D → Option Told) (hash : Hash) (k : KeptHistory 
       (told k.journal.disk) p.rests.resting
 
 -- a command that touched no disk, and left the history
-pub put-same : {D : Type 0} (told : D → Option Told) (hash : Hash) (w n : ℕ) (before now : KeptHistory D) → now.journal ≡ before.journal
-    → now.held.transactions ≡ before.held.transactions → now.logs ≡ before.logs → IsKeptPut told hash w n before → IsKeptPut told hash w n now
-put-same {D} told hash w n before now journal same logs p =
+pub put-same : {D : Type 0} (told : D → Option Told) (hash : Hash) (w n : ℕ) (first : Option Told) (before now : KeptHistory D) → now.journal ≡ before.journal
+    → now.held.transactions ≡ before.held.transactions → now.logs ≡ before.logs → IsKeptPut told hash w n first before → IsKeptPut told hash w n first now
+put-same {D} told hash w n first before now journal same logs p =
     let P : Kept D → Type 0 = λ j. IsAtRest told hash before.held.transactions p.batches j in
     let Q : List Transaction → Type 0 = λ txs. IsAtRest told hash txs p.batches now.journal in
-    record { batches = p.batches; rests = subst Q (sym same) (subst P (sym journal) p.rests); put = p.put; over = logs ∙ p.over }
+    record {
+      batches = p.batches;
+      rests = subst Q (sym same) (subst P (sym journal) p.rests);
+      put = p.put;
+      over = logs ∙ p.over;
+      held = p.held;
+      calls = ap (λ (j : Kept D). told j.disk) journal ∙ p.calls;
+    }

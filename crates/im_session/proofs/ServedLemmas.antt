@@ -1,6 +1,6 @@
 -- What a session has answered so far, over the history that it found.
 use Rattle.std.proofs.Common.{◌≡◌, ◌<◌, ◌≤◌, ◌+◌, ◌-◌, ◌∙◌, ℕ, ℤ, suc, List, [], ◌∷◌, ◌++◌, length, refl, sym, ap, subst, inl, inr, arith, get_or, length-append, append-nil, drop-cons}
-use Rattle.std.specs.Prelude.{map, take, drop, All, Option, IfSome}
+use Rattle.std.specs.Prelude.{map, take, drop, All, Option, IfSome, Ok, Err}
 use Rattle.std.specs.List.{range_with_len}
 use Rattle.std.proofs.Math.Seq.{take-length, drop-length}
 use Rattle.std.proofs.lemmas.List.{drop-append-le, length-take, take-append-le}
@@ -10,6 +10,8 @@ use Rattle.im_disk.specs.Disk.{Files, Told as DiskTold, seen}
 use Rattle.im_disk.specs.Moments.{Leaves, LeavesNow}
 use Rattle.im_disk.proofs.Leaving.{leaves_both, leaves_nothing, leaves_weaker}
 use Rattle.im_format.specs.Standing.{Stands}
+use Rattle.im_journal.specs.Kept.{Kept}
+use Rattle.im_ledger.specs.Histories.{KeptHistory}
 use Rattle.im_ledger.specs.Ledgers.{Held}
 use Rattle.im_ledger.specs.declared.errors.CommitError.{CommitError}
 use Rattle.im_ledger.specs.declared.errors.CommitError.TheVariants.{DiskFault, Memory}
@@ -19,6 +21,7 @@ use Rattle.im_report.specs.Report.{Report}
 use Rattle.im_report.proofs.ReportLemmas.{Standing}
 use Rattle.im_script.specs.declared.commands.Command.{Command}
 use Rattle.im_script.specs.declared.commands.Line.{Line}
+use Rattle.im_session.specs.Made.{MakesCalls}
 use Rattle.im_session.specs.Moves.{MayPlace, StandsBetween}
 use Rattle.im_session.specs.Put.{StandsPut}
 use Rattle.im_session.specs.Served.{IsLeft, IsWhy, ReachesDisk, Serves, ServesAll, ServesFront, StandsFrom, StandsWith}
@@ -111,12 +114,17 @@ timed-next hash constant line least before after old new most t timed =
     subst P (sym same) (All-append (HasTime constant) (drop least before.transactions) t.answers.more timed t.answers.timed)
 
 -- a line got no reply
-pub serves-stopped : (hash : Hash) (constant : Option ℤ) (found history : List Transaction) (lines done : List Line) (line : Line) (before mid now : Option DiskTold) (times_before times_mid times_now : Option (List ℤ)) (octets : List ℕ) (size : ℕ)
+pub serves-stopped : {D : Type 0} (told : D → Option DiskTold) (hash : Hash) (constant : Option ℤ) (logs : ℕ) (found : List Transaction) (k : KeptHistory D) (journal : Kept D) (lines done : List Line) (line : Line) (before : Option DiskTold)
+    (times_before times_mid times_now : Option (List ℤ)) (octets : List ℕ) (size : ℕ) (why : CommitError)
     → done ≡ take (length done) lines → length done < length lines → line ≡ get_or lines (length done) line
-    → Standing hash found history done octets size → Told hash history done octets → All (HasTime constant) (drop (length found) history)
-    → AskedFor (drop (length found) history) times_before times_mid
-    → Leaves (StandsFrom hash (length found) history) before mid → MayPlace hash constant line.command history mid now times_mid times_now → Serves hash constant found lines before now times_before times_now octets
-serves-stopped hash constant found history lines done line before mid now times_before times_mid times_now octets size front less here standing told timed asked so_far m =
+    → Standing hash found k.held.transactions done octets size → Told hash k.held.transactions done octets → All (HasTime constant) (drop (length found) k.held.transactions)
+    → AskedFor (drop (length found) k.held.transactions) times_before times_mid
+    → Leaves (StandsFrom hash (length found) k.held.transactions) before (told k.journal.disk)
+    → (m : MayPlace {T = Unit {0}} told hash constant line.command k journal times_mid times_now (Err why))
+    → MakesCalls hash logs (length found) k.held.transactions m.left before (told journal.disk) (Err why)
+    → Serves hash constant logs found lines before (told journal.disk) times_before times_now octets (Err why)
+serves-stopped told hash constant logs found k journal lines done line before times_before times_mid times_now octets size why front less here standing answered timed asked so_far m calls =
+    let history : List Transaction = k.held.transactions in
     let P : List Line → Type 0 = λ ls. Standing hash found history ls octets size in
     let Q : List Line → Type 0 = λ ls. Told hash history ls octets in
     let R : List Line → Type 0 = λ ls. IsLeft constant history ls m.left in
@@ -127,13 +135,14 @@ serves-stopped hash constant found history lines done line before mid now times_
       within = omega arith;
       history = history;
       report = report;
-      again = report-again hash found history (take (length done) lines) octets (subst Q front told) report;
+      again = report-again hash found history (take (length done) lines) octets (subst Q front answered) report;
       timed = timed;
       left = m.left;
       left_is = subst R (sym (drop-cons lines (length done) line less)) (subst I here m.left_is);
       asked = asked-both times_before times_mid times_now (drop (length found) history) m.left asked m.asked;
       images = m.moments.1;
-      moments = moments-left hash (length found) history m.left before mid now (found-within hash found history done octets size standing) so_far m.moments;
+      moments = moments-left hash (length found) history m.left before (told k.journal.disk) (told journal.disk) (found-within hash found history done octets size standing) so_far m.moments;
+      calls = calls;
     }
 
 -- what is known where the disk failed, and nothing where memory ran out
@@ -142,17 +151,21 @@ is-why DiskFault history command reaches = reaches refl
 is-why Memory history command reaches = tt
 
 -- and it is the next line that got no reply
-pub front-stopped : (hash : Hash) (constant : Option ℤ) (found history : List Transaction) (lines done : List Line) (line : Line) (before mid now : Option DiskTold) (times_before times_mid times_now : Option (List ℤ)) (octets : List ℕ) (size : ℕ) (why : CommitError)
+pub front-stopped : {D : Type 0} (told : D → Option DiskTold) (hash : Hash) (constant : Option ℤ) (logs : ℕ) (found : List Transaction) (k : KeptHistory D) (journal : Kept D) (lines done : List Line) (line : Line) (before : Option DiskTold)
+    (times_before times_mid times_now : Option (List ℤ)) (octets : List ℕ) (size : ℕ) (why : CommitError)
     → done ≡ take (length done) lines → length done < length lines → line ≡ get_or lines (length done) line
-    → Standing hash found history done octets size → Told hash history done octets → All (HasTime constant) (drop (length found) history)
-    → AskedFor (drop (length found) history) times_before times_mid
-    → Leaves (StandsFrom hash (length found) history) before mid → MayPlace hash constant line.command history mid now times_mid times_now → IsWhy why history line.command
-    → ServesFront hash constant found lines before now times_before times_now octets why
+    → Standing hash found k.held.transactions done octets size → Told hash k.held.transactions done octets → All (HasTime constant) (drop (length found) k.held.transactions)
+    → AskedFor (drop (length found) k.held.transactions) times_before times_mid
+    → Leaves (StandsFrom hash (length found) k.held.transactions) before (told k.journal.disk)
+    → (m : MayPlace {T = Unit {0}} told hash constant line.command k journal times_mid times_now (Err why))
+    → MakesCalls hash logs (length found) k.held.transactions m.left before (told journal.disk) (Err why)
+    → IsWhy why k.held.transactions line.command
+    → ServesFront hash constant logs found lines before (told journal.disk) times_before times_now octets why
 unfolding serves-stopped
-front-stopped hash constant found history lines done line before mid now times_before times_mid times_now octets size why front less here standing told timed asked so_far m because =
+front-stopped told hash constant logs found k journal lines done line before times_before times_mid times_now octets size why front less here standing answered timed asked so_far m calls because =
     let rest : List Line = drop (suc (length done)) lines in
     record {
-      serves = serves-stopped hash constant found history lines done line before mid now times_before times_mid times_now octets size front less here standing told timed asked so_far m;
+      serves = serves-stopped told hash constant logs found k journal lines done line before times_before times_mid times_now octets size why front less here standing answered timed asked so_far m calls;
       stops = record {
         line = line;
         rest = rest;
@@ -166,8 +179,9 @@ pub serves-ended : (hash : Hash) (constant : Option ℤ) (logs : ℕ) (found his
     → done ≡ lines → Standing hash found history done octets size → Told hash history done octets → All (HasTime constant) (drop (length found) history)
     → AskedFor (drop (length found) history) times_before times_now
     → Leaves (StandsFrom hash (length found) history) before now → LeavesNow (λ image. Stands hash image history) now → IfSome now (λ t. StandsPut hash logs (length found) history (seen t))
+    → MakesCalls hash logs (length found) history [] before now (Ok tt)
     → ServesAll hash constant logs found lines before now times_before times_now octets
-serves-ended hash constant logs found history lines done before now times_before times_now octets size whole standing told timed asked so_far images here =
+serves-ended hash constant logs found history lines done before now times_before times_now octets size whole standing told timed asked so_far images here calls =
     let P : List Line → Type 0 = λ ls. Standing hash found history ls octets size in
     let Q : List Line → Type 0 = λ ls. Told hash history ls octets in
     let R : List Line → Type 0 = λ ls. IsLeft constant history ls [] in
@@ -188,6 +202,7 @@ serves-ended hash constant logs found history lines done before now times_before
         asked = asked-ended (drop (length found) history) times_before times_now asked;
         images = (leaves_weaker S (StandsWith hash history []) (λ image h. inl h) now now (leaves_nothing S now, images)).1;
         moments = subst M (sym (append-nil history)) so_far;
+        calls = calls;
       };
       all = refl;
       here = here;

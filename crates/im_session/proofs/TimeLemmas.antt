@@ -1,5 +1,5 @@
 -- Which transactions the clock was asked for.
-use Rattle.std.proofs.Common.{◌≡◌, ◌≤◌, ℕ, ℤ, List, [], ◌∷◌, ◌++◌, length, refl, sym, ap, subst, ◌∙◌, arith, map, append-nil, drop, Option}
+use Rattle.std.proofs.Common.{◌≡◌, ◌≤◌, ℕ, ℤ, List, [], ◌++◌, length, sym, ap, subst, ◌∙◌, arith, map, append-nil, drop, Option}
 use Rattle.std.proofs.Math.Seq.{drop-length}
 use Rattle.std.proofs.lemmas.List.{drop-append-le, map-append}
 use Rattle.im_edge.specs.Clocks.{AddsTimes}

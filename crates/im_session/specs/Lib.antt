@@ -1,3 +1,5 @@
+pub mod Calls
+pub mod Made
 pub mod Moves
 pub mod Put
 pub mod Served

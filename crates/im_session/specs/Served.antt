@@ -1,5 +1,5 @@
 -- What a session made of the lines of a script, and what it left on the disk.
-use Rattle.std.specs.Prelude.{◌≡◌, ◌⊎◌, ℤ, ℕ, ◌≤◌, List, [], ◌∷◌, ◌++◌, length, map, take, drop, All, Option, None, IfSome}
+use Rattle.std.specs.Prelude.{◌≡◌, ◌⊎◌, ℤ, ℕ, ◌≤◌, List, [], ◌∷◌, ◌++◌, length, map, take, drop, All, Option, None, IfSome, Result, Ok, Err}
 use Rattle.im_digest.specs.Digests.{Hash}
 use Rattle.im_disk.specs.Disk.{Files, Told, seen}
 use Rattle.im_disk.specs.Moments.{Leaves, LeavesNow}
@@ -16,6 +16,7 @@ use Rattle.im_report.specs.Report.{Report}
 use Rattle.im_accept.specs.Taken.{AreReadBack, HaveSessions}
 use Rattle.im_ledger.specs.declared.errors.CommitError.{CommitError}
 use Rattle.im_ledger.specs.declared.errors.CommitError.TheVariants.{DiskFault, Memory}
+use Rattle.im_session.specs.Made.{MakesCalls}
 use Rattle.im_session.specs.Put.{StandsPut}
 use Rattle.im_session.specs.Turns.{AskedFor, HasTime}
 
@@ -62,7 +63,9 @@ IsLeft constant history (line ∷ lines) left = IsLeftBy constant history line.c
 -- history, or for it with what the next line placed, which got no reply; and each image of each moment stood for the
 -- first transactions of these, those that were found among them. The clock was asked once for each transaction that was
 -- placed, and for that of the next line, in order, and for nothing else: each has the time that was given for it.
-pub record Serves (hash : Hash) (constant : Option ℤ) (found : List Transaction) (lines : List Line) (before now : Option Told) (times_before times_now : Option (List ℤ)) (octets : List ℕ) : Type 0 where
+-- The disk got the calls of these transactions, each in a batch of its own, its values put over so many value logs, and of
+-- that of the next line as far as they came before the session ended, in order, and no other call.
+pub record Serves (hash : Hash) (constant : Option ℤ) (logs : ℕ) (found : List Transaction) (lines : List Line) (before now : Option Told) (times_before times_now : Option (List ℤ)) (octets : List ℕ) (end : Result (Unit {0}) CommitError) : Type 0 where
   pub count : ℕ
   pub within : count ≤ length lines
   pub history : List Transaction
@@ -74,6 +77,7 @@ pub record Serves (hash : Hash) (constant : Option ℤ) (found : List Transactio
   pub asked : AskedFor (drop (length found) history ++ left) times_before times_now
   pub images : LeavesNow (StandsWith hash history left) now
   pub moments : Leaves (StandsFrom hash (length found) (history ++ left)) before now
+  pub calls : MakesCalls hash logs (length found) history left before now end
 
 -- why a command behind this history got no reply: the disk fails only at one that reaches it, and memory may run
 -- out at any
@@ -89,13 +93,13 @@ pub record StopsAt (why : CommitError) (history : List Transaction) (lines : Lis
   pub because : IsWhy why history line.command
 
 -- the lines before the first one without a reply were answered
-pub record ServesFront (hash : Hash) (constant : Option ℤ) (found : List Transaction) (lines : List Line) (before now : Option Told) (times_before times_now : Option (List ℤ)) (octets : List ℕ) (why : CommitError) : Type 0 where
-  pub serves : Serves hash constant found lines before now times_before times_now octets
+pub record ServesFront (hash : Hash) (constant : Option ℤ) (logs : ℕ) (found : List Transaction) (lines : List Line) (before now : Option Told) (times_before times_now : Option (List ℤ)) (octets : List ℕ) (why : CommitError) : Type 0 where
+  pub serves : Serves hash constant logs found lines before now times_before times_now octets (Err why)
   pub stops : StopsAt why serves.history (drop serves.count lines)
 
 -- all lines were answered, and what reads give stands for the history too, where each transaction behind those that
 -- were found stands in a batch of its own, its values put over so many value logs
 pub record ServesAll (hash : Hash) (constant : Option ℤ) (logs : ℕ) (found : List Transaction) (lines : List Line) (before now : Option Told) (times_before times_now : Option (List ℤ)) (octets : List ℕ) : Type 0 where
-  pub serves : Serves hash constant found lines before now times_before times_now octets
+  pub serves : Serves hash constant logs found lines before now times_before times_now octets (Ok tt)
   pub all : serves.count ≡ length lines
   pub here : IfSome now (λ t. StandsPut hash logs (length found) serves.history (seen t))

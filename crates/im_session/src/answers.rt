@@ -1,6 +1,7 @@
 ghost use Rattle.std.specs.Prelude.{◌≡◌, ◌<◌, ℤ, ℕ, List, [], ◌∷◌, drop, length, map, FitsSigned, IfOk, IsErrOf, OnOk, Option, None};
 ghost use Rattle.std.specs.Int.{w64};
 ghost use Rattle.im_digest.specs.Digests.{Hash};
+ghost use Rattle.im_disk.specs.Disk.{Told};
 ghost use Rattle.im_disk.specs.Grown.{Grows};
 ghost use Rattle.im_disk.specs.Moments.{Leaves};
 ghost use Rattle.im_edge.specs.Clocks.{AddsTimes};
@@ -64,9 +65,9 @@ fn place<D: Disk, H: Hash32, C: Clock>(
     ensures placed { IfOk result (λ reply. Placed (H.digest hash.now) (C.constant clock.old) entries kept.old.held kept.new.held reply.items) }
     ensures kept { OnOk result (IsKept D.told (H.digest hash.now) kept.new) }
     ensures times { OnOk result (AskedFor (drop (length kept.old.held.transactions) kept.new.held.transactions) (C.given clock.old) (C.given clock.new)) }
-    ensures put { (w n : ℕ) → IsKeptPut D.told (H.digest hash.now) w n kept.old → OnOk result (IsKeptPut D.told (H.digest hash.now) w n kept.new) }
+    ensures put { (w n : ℕ) (first : Option Told) → IsKeptPut D.told (H.digest hash.now) w n first kept.old → OnOk result (IsKeptPut D.told (H.digest hash.now) w n first kept.new) }
     ensures moments { OnOk result (Leaves (StandsBetween (H.digest hash.now) kept.old.held.transactions kept.new.held.transactions) (D.told kept.old.journal.disk) (D.told kept.new.journal.disk)) }
-    ensures left { MayPlaceOne (H.digest hash.now) (C.constant clock.old) entries kept.old.held.transactions (D.told kept.old.journal.disk) (D.told kept.new.journal.disk) (C.given clock.old) (C.given clock.new) }
+    ensures left { MayPlaceOne D.told (H.digest hash.now) (C.constant clock.old) entries kept.old kept.new.journal (C.given clock.old) (C.given clock.new) result }
     ensures grows { Grows (D.told kept.old.journal.disk) (D.told kept.new.journal.disk) }
     ensures cause { HasCommitCause (D.faults kept.old.journal.disk) (D.faults kept.new.journal.disk) result }
     ensures same { C.constant clock.new ≡ C.constant clock.old }
@@ -89,10 +90,10 @@ fn place_prepared<D: Disk, H: Hash32, C: Clock>(
         → Answers (H.digest hash.now) (C.constant clock.old) (Set prepared.pres drafts) kept.old.held kept.new.held reply.items) }
     ensures kept { OnOk result (IsKept D.told (H.digest hash.now) kept.new) }
     ensures times { OnOk result (AskedFor (drop (length kept.old.held.transactions) kept.new.held.transactions) (C.given clock.old) (C.given clock.new)) }
-    ensures put { (w n : ℕ) → IsKeptPut D.told (H.digest hash.now) w n kept.old → OnOk result (IsKeptPut D.told (H.digest hash.now) w n kept.new) }
+    ensures put { (w n : ℕ) (first : Option Told) → IsKeptPut D.told (H.digest hash.now) w n first kept.old → OnOk result (IsKeptPut D.told (H.digest hash.now) w n first kept.new) }
     ensures moments { OnOk result (Leaves (StandsBetween (H.digest hash.now) kept.old.held.transactions kept.new.held.transactions) (D.told kept.old.journal.disk) (D.told kept.new.journal.disk)) }
     ensures left { (drafts : List TheDraft) → AreFree drafts → AreEntries drafts → prepared.entries ≡ map entry_of drafts
-        → MayPlace (H.digest hash.now) (C.constant clock.old) (Set prepared.pres drafts) kept.old.held.transactions (D.told kept.old.journal.disk) (D.told kept.new.journal.disk) (C.given clock.old) (C.given clock.new) }
+        → MayPlace D.told (H.digest hash.now) (C.constant clock.old) (Set prepared.pres drafts) kept.old kept.new.journal (C.given clock.old) (C.given clock.new) result }
     ensures grows { Grows (D.told kept.old.journal.disk) (D.told kept.new.journal.disk) }
     ensures cause { HasCommitCause (D.faults kept.old.journal.disk) (D.faults kept.new.journal.disk) result }
     ensures why { IsErrOf result DiskFault → place_refusal kept.old.held.transactions prepared.pres ≡ None }
@@ -119,9 +120,9 @@ pub(crate) fn answer_set<D: Disk, H: Hash32, C: Clock>(
     ensures answers { IfOk result (λ reply. Answers (H.digest hash.now) (C.constant clock.old) (Set pres.items drafts.items) kept.old.held kept.new.held reply.items) }
     ensures kept { OnOk result (IsKept D.told (H.digest hash.now) kept.new) }
     ensures times { OnOk result (AskedFor (drop (length kept.old.held.transactions) kept.new.held.transactions) (C.given clock.old) (C.given clock.new)) }
-    ensures put { (w n : ℕ) → IsKeptPut D.told (H.digest hash.now) w n kept.old → OnOk result (IsKeptPut D.told (H.digest hash.now) w n kept.new) }
+    ensures put { (w n : ℕ) (first : Option Told) → IsKeptPut D.told (H.digest hash.now) w n first kept.old → OnOk result (IsKeptPut D.told (H.digest hash.now) w n first kept.new) }
     ensures moments { OnOk result (Leaves (StandsBetween (H.digest hash.now) kept.old.held.transactions kept.new.held.transactions) (D.told kept.old.journal.disk) (D.told kept.new.journal.disk)) }
-    ensures left { MayPlace (H.digest hash.now) (C.constant clock.old) (Set pres.items drafts.items) kept.old.held.transactions (D.told kept.old.journal.disk) (D.told kept.new.journal.disk) (C.given clock.old) (C.given clock.new) }
+    ensures left { MayPlace D.told (H.digest hash.now) (C.constant clock.old) (Set pres.items drafts.items) kept.old kept.new.journal (C.given clock.old) (C.given clock.new) result }
     ensures grows { Grows (D.told kept.old.journal.disk) (D.told kept.new.journal.disk) }
     ensures cause { HasCommitCause (D.faults kept.old.journal.disk) (D.faults kept.new.journal.disk) result }
     ensures why { IsErrOf result DiskFault → ReachesDisk kept.old.held.transactions (Set pres.items drafts.items) }

@@ -1,4 +1,5 @@
 ghost use Rattle.std.specs.Prelude.{◌≡◌, ◌≤◌, ℤ, ℕ, drop, length, Option, IfOk, IsErrOf, OnOk, OnErr};
+ghost use Rattle.im_disk.specs.Disk.{Told};
 ghost use Rattle.im_disk.specs.Grown.{Grows};
 ghost use Rattle.im_disk.specs.Moments.{Leaves};
 ghost use Rattle.im_accept.specs.Messages.{IsReadBack};
@@ -103,9 +104,9 @@ fn answer<D: Disk, H: Hash32, C: Clock>(
     ensures kept { OnOk result (IsKept D.told (H.digest hash.now) kept.new) }
     ensures times { OnOk result (AskedFor (drop (length kept.old.held.transactions) kept.new.held.transactions) (C.given clock.old) (C.given clock.new)) }
     ensures within { OnOk result (IsIndexWithin index.new kept.new.held.transactions) }
-    ensures put { (w n : ℕ) → IsKeptPut D.told (H.digest hash.now) w n kept.old → OnOk result (IsKeptPut D.told (H.digest hash.now) w n kept.new) }
+    ensures put { (w n : ℕ) (first : Option Told) → IsKeptPut D.told (H.digest hash.now) w n first kept.old → OnOk result (IsKeptPut D.told (H.digest hash.now) w n first kept.new) }
     ensures moments { OnOk result (Leaves (StandsBetween (H.digest hash.now) kept.old.held.transactions kept.new.held.transactions) (D.told kept.old.journal.disk) (D.told kept.new.journal.disk)) }
-    ensures left { MayPlace (H.digest hash.now) (C.constant clock.old) command kept.old.held.transactions (D.told kept.old.journal.disk) (D.told kept.new.journal.disk) (C.given clock.old) (C.given clock.new) }
+    ensures left { MayPlace D.told (H.digest hash.now) (C.constant clock.old) command kept.old kept.new.journal (C.given clock.old) (C.given clock.new) result }
     ensures grows { Grows (D.told kept.old.journal.disk) (D.told kept.new.journal.disk) }
     ensures cause { HasCommitCause (D.faults kept.old.journal.disk) (D.faults kept.new.journal.disk) result }
     ensures why { IsErrOf result DiskFault → ReachesDisk kept.old.held.transactions command }
@@ -139,10 +140,10 @@ fn turn<D: Disk, H: Hash32, C: Clock>(
     ensures kept { OnOk result (IsKept D.told (H.digest hash.now) kept.new) }
     ensures times { OnOk result (AskedFor (drop (length kept.old.held.transactions) kept.new.held.transactions) (C.given clock.old) (C.given clock.new)) }
     ensures within { OnOk result (IsIndexWithin index.new kept.new.held.transactions) }
-    ensures put { (w n : ℕ) → IsKeptPut D.told (H.digest hash.now) w n kept.old → OnOk result (IsKeptPut D.told (H.digest hash.now) w n kept.new) }
+    ensures put { (w n : ℕ) (first : Option Told) → IsKeptPut D.told (H.digest hash.now) w n first kept.old → OnOk result (IsKeptPut D.told (H.digest hash.now) w n first kept.new) }
     ensures moments { OnOk result (Leaves (StandsBetween (H.digest hash.now) kept.old.held.transactions kept.new.held.transactions) (D.told kept.old.journal.disk) (D.told kept.new.journal.disk)) }
     ensures nothing { OnErr result (out.new.items ≡ out.old.items) }
-    ensures left { MayPlace (H.digest hash.now) (C.constant clock.old) line.command kept.old.held.transactions (D.told kept.old.journal.disk) (D.told kept.new.journal.disk) (C.given clock.old) (C.given clock.new) }
+    ensures left { MayPlace D.told (H.digest hash.now) (C.constant clock.old) line.command kept.old kept.new.journal (C.given clock.old) (C.given clock.new) result }
     ensures grows { Grows (D.told kept.old.journal.disk) (D.told kept.new.journal.disk) }
     ensures cause { HasCommitCause (D.faults kept.old.journal.disk) (D.faults kept.new.journal.disk) result }
     ensures why { IsErrOf result DiskFault → ReachesDisk kept.old.held.transactions line.command }
@@ -171,9 +172,10 @@ pub struct Served<D: Disk> {
 /// Answers the lines of a script in order by one session, from the history that a disk keeps on. Each
 /// transaction is durable before its line gets its reply, and each reply that is a message is read as the one
 /// that was asked for. On the disk each transaction stands in a batch of its own, its values put over the value
-/// logs by turns. The first line that isn't answered ends the session: the disk then holds the history with what
-/// that line was to place, or without it. The disk fails only at a `set` or `del` that reaches it; memory
-/// may run out at any line.
+/// logs by turns: for it the disk gets the writes of that batch, a sync, the octet at its gate, and a sync. The
+/// first line that isn't answered ends the session: the disk then holds the history with what that line was to
+/// place, or without it, and got a front part of its calls at most. No other call changes the disk. It fails only
+/// at a `set` or `del` that reaches it; memory may run out at any line.
 ///
 /// The index of keys is brought to the last transaction by each line that looks for one, and holds a copy of each
 /// key and value of the entries that aren't hidden. A `set` or `del` costs what `judge` and `commit` of the ledger
@@ -188,9 +190,9 @@ pub fn serve<D: Disk, H: Hash32, C: Clock>(
 ) -> Served<D>
     requires kept { IsKept D.told (H.digest hash.now) kept }
     requires filled { length kept.held.tree ≡ length kept.held.transactions }
-    ensures some { Serves (H.digest hash.now) (C.constant clock.old) kept.held.transactions lines.items (D.told kept.journal.disk) (D.told result.disk) (C.given clock.old) (C.given clock.new) result.out.items }
+    ensures some { Serves (H.digest hash.now) (C.constant clock.old) kept.logs kept.held.transactions lines.items (D.told kept.journal.disk) (D.told result.disk) (C.given clock.old) (C.given clock.new) result.out.items result.end }
     ensures all { OnOk result.end (ServesAll (H.digest hash.now) (C.constant clock.old) kept.logs kept.held.transactions lines.items (D.told kept.journal.disk) (D.told result.disk) (C.given clock.old) (C.given clock.new) result.out.items) }
-    ensures front { (why : Why) → result.end ≡ Err why → ServesFront (H.digest hash.now) (C.constant clock.old) kept.held.transactions lines.items (D.told kept.journal.disk) (D.told result.disk) (C.given clock.old) (C.given clock.new) result.out.items why }
+    ensures front { (why : Why) → result.end ≡ Err why → ServesFront (H.digest hash.now) (C.constant clock.old) kept.logs kept.held.transactions lines.items (D.told kept.journal.disk) (D.told result.disk) (C.given clock.old) (C.given clock.new) result.out.items why }
     ensures grows { Grows (D.told kept.journal.disk) (D.told result.disk) }
     ensures cause { HasCommitCause (D.faults kept.journal.disk) (D.faults result.disk) result.end }
     ensures same { C.constant clock.new ≡ C.constant clock.old }

@@ -1,4 +1,4 @@
-use Rattle.std.proofs.Common.{ℤ, ℕ, List, Option, Err, length, ap, inl, inr, refl, subst, sym, ◌∙◌}
+use Rattle.std.proofs.Common.{ℤ, ℕ, List, Option, Err, Ok, length, ap, inl, inr, refl, subst, sym, ◌∙◌}
 use Rattle.std.proofs.lemmas.Result.{err_from_is_err_and}
 use Rattle.im_accept.specs.Messages.{IsReadBack}
 use Rattle.im_digest.specs.Digests.{Hash}
@@ -9,7 +9,7 @@ use Rattle.im_ledger.specs.declared.errors.CommitError.TheVariants.{DiskFault}
 use Rattle.im_report.specs.Report.{IsAnswer}
 use Rattle.im_script.specs.declared.commands.Command.{Command}
 use Rattle.im_session.specs.Turns.{Answers, IsLooking}
-use Rattle.im_session.proofs.KeptLemmas.{between-same, memory-cause, never-err, never-fault, never-ok, nothing-placed, ok-cause}
+use Rattle.im_session.proofs.KeptLemmas.{between-same, memory-alone, memory-cause, never-err, never-fault, never-ok, nothing-placed, ok-cause}
 use Rattle.im_session.proofs.PutLemmas.{put-same}
 use Rattle.im_session.proofs.TimeLemmas.{asked-same}
 use Rattle.im_session.proofs.TurnLemmas.{looked-answers}
@@ -17,7 +17,8 @@ use Rattle.im_session.proofs.serve.answer.Goals as goal
 
 pub returns-in_err-answer_link-in-Link-clause-left : goal.returns-in_err-answer_link-in-Link-clause-left
 returns-in_err-answer_link-in-Link-clause-left g c =
-    nothing-placed g.D.Disk.told (g.H.Hash32.digest c.args.hash.now) c.args.kept.now c.requires.kept (g.C.Clock.constant c.args.clock.now) (g.C.Clock.given c.args.clock.now) c.args.command c.answer_link.new.kept.journal c.answer_link.ensures.journal
+    nothing-placed g.D.Disk.told (g.H.Hash32.digest c.args.hash.now) c.args.kept.now c.requires.kept (g.C.Clock.constant c.args.clock.now) (g.C.Clock.given c.args.clock.now) c.args.command c.answer_link.new.kept.journal
+    c.from_residual.result c.answer_link.ensures.journal (memory-alone c.from_residual.result c.from_residual.ensures.1)
 
 pub returns-in_ok-answer_link-in-Link-clause-moments : goal.returns-in_ok-answer_link-in-Link-clause-moments
 returns-in_ok-answer_link-in-Link-clause-moments g c =
@@ -25,16 +26,18 @@ returns-in_ok-answer_link-in-Link-clause-moments g c =
 
 pub returns-in_ok-answer_link-in-Link-clause-left : goal.returns-in_ok-answer_link-in-Link-clause-left
 returns-in_ok-answer_link-in-Link-clause-left g c =
-    nothing-placed g.D.Disk.told (g.H.Hash32.digest c.args.hash.now) c.args.kept.now c.requires.kept (g.C.Clock.constant c.args.clock.now) (g.C.Clock.given c.args.clock.now) c.args.command c.answer_link.new.kept.journal c.answer_link.ensures.journal
+    nothing-placed g.D.Disk.told (g.H.Hash32.digest c.args.hash.now) c.args.kept.now c.requires.kept (g.C.Clock.constant c.args.clock.now) (g.C.Clock.given c.args.clock.now) c.args.command c.answer_link.new.kept.journal
+    (Ok c.in_ok-answer_link-in-Link.field-0) c.answer_link.ensures.journal (never-err c.in_ok-answer_link-in-Link.field-0 DiskFault)
 
 pub returns-in_ok-answer_link-in-Link-clause-put : goal.returns-in_ok-answer_link-in-Link-clause-put
-returns-in_ok-answer_link-in-Link-clause-put g c w n p =
-    put-same g.D.Disk.told (g.H.Hash32.digest c.args.hash.now) w n c.args.kept.now c.answer_link.new.kept c.answer_link.ensures.journal c.in_ok-answer_link-in-Link.ensures.same c.answer_link.ensures.logs p
+returns-in_ok-answer_link-in-Link-clause-put g c w n first p =
+    put-same g.D.Disk.told (g.H.Hash32.digest c.args.hash.now) w n first c.args.kept.now c.answer_link.new.kept c.answer_link.ensures.journal c.in_ok-answer_link-in-Link.ensures.same c.answer_link.ensures.logs p
 
 pub returns-in_err-look-in-Get-clause-left : goal.returns-in_err-look-in-Get-clause-left
 returns-in_err-look-in-Get-clause-left g c =
     let kept : KeptHistory g.row.D.Denot = c.args.kept.now in
-    nothing-placed g.D.Disk.told (g.H.Hash32.digest c.args.hash.now) kept c.requires.kept (g.C.Clock.constant c.args.clock.now) (g.C.Clock.given c.args.clock.now) c.args.command kept.journal refl
+    nothing-placed g.D.Disk.told (g.H.Hash32.digest c.args.hash.now) kept c.requires.kept (g.C.Clock.constant c.args.clock.now) (g.C.Clock.given c.args.clock.now) c.args.command kept.journal
+    c.from_residual-in_err-look-in-Get.result refl (memory-alone c.from_residual-in_err-look-in-Get.result c.from_residual-in_err-look-in-Get.ensures.1)
 
 pub returns-in_ok-look-in-Get-clause-answers : goal.returns-in_ok-look-in-Get-clause-answers
 returns-in_ok-look-in-Get-clause-answers g c =
@@ -59,7 +62,8 @@ returns-in_ok-look-in-Get-clause-moments g c =
 pub returns-in_ok-look-in-Get-clause-left : goal.returns-in_ok-look-in-Get-clause-left
 returns-in_ok-look-in-Get-clause-left g c =
     let kept : KeptHistory g.row.D.Denot = c.args.kept.now in
-    nothing-placed g.D.Disk.told (g.H.Hash32.digest c.args.hash.now) kept c.requires.kept (g.C.Clock.constant c.args.clock.now) (g.C.Clock.given c.args.clock.now) c.args.command kept.journal refl
+    nothing-placed g.D.Disk.told (g.H.Hash32.digest c.args.hash.now) kept c.requires.kept (g.C.Clock.constant c.args.clock.now) (g.C.Clock.given c.args.clock.now) c.args.command kept.journal
+    (Ok c.in_ok-look-in-Get.field-0) refl (never-err c.in_ok-look-in-Get.field-0 DiskFault)
 
 pub returns-in_err-read-in_default : goal.returns-in_err-read-in_default
 returns-in_err-read-in_default g c =
@@ -72,9 +76,10 @@ returns-in_err-read-in_default g c =
       kept = never-ok _ given error.0 error.1;
       times = never-ok _ given error.0 error.1;
       within = never-ok _ given error.0 error.1;
-      put = λ w n p. never-ok _ given error.0 error.1;
+      put = λ w n first p. never-ok _ given error.0 error.1;
       moments = never-ok _ given error.0 error.1;
-      left = nothing-placed g.D.Disk.told (g.H.Hash32.digest c.args.hash.now) kept c.requires.kept (g.C.Clock.constant c.args.clock.now) (g.C.Clock.given c.args.clock.now) c.args.command kept.journal refl;
+      left = nothing-placed g.D.Disk.told (g.H.Hash32.digest c.args.hash.now) kept c.requires.kept (g.C.Clock.constant c.args.clock.now) (g.C.Clock.given c.args.clock.now) c.args.command kept.journal given refl
+          (memory-alone given c.from_residual-in_err-read-in_default.ensures.1);
       grows = grows_none (g.D.Disk.told kept.journal.disk);
       cause = memory-cause (g.D.Disk.faults kept.journal.disk) given (error.1 ∙ ap Err error.2);
       why = λ fault. absurd (never-fault given (error.1 ∙ ap Err error.2) fault);
@@ -96,9 +101,9 @@ returns-in_ok-read-in_default g c =
       kept = c.requires.kept;
       times = asked-same kept.held.transactions kept.held.transactions (g.C.Clock.given c.args.clock.now) refl;
       within = c.requires.within;
-      put = λ w n p. p;
+      put = λ w n first p. p;
       moments = between-same g.D.Disk.told hash kept c.requires.kept kept refl refl;
-      left = nothing-placed g.D.Disk.told hash kept c.requires.kept constant (g.C.Clock.given c.args.clock.now) c.args.command kept.journal refl;
+      left = nothing-placed g.D.Disk.told hash kept c.requires.kept constant (g.C.Clock.given c.args.clock.now) c.args.command kept.journal (Ok done.field-0) refl (never-err done.field-0 DiskFault);
       grows = grows_none (g.D.Disk.told kept.journal.disk);
       cause = ok-cause (g.D.Disk.faults kept.journal.disk) _;
       why = λ fault. absurd (never-err done.field-0 DiskFault fault);

@@ -1,4 +1,4 @@
-use Rattle.std.proofs.Common.{◌≡◌, ◌≤◌, ℤ, ℕ, List, [], All, Option, Ok, Err, refl, sym, subst, ◌∙◌, length, arith}
+use Rattle.std.proofs.Common.{◌≡◌, ◌≤◌, ℤ, ℕ, List, [], All, Option, Ok, Err, refl, sym, subst, ◌∙◌, length, arith, inl}
 use Rattle.std.proofs.Math.Seq.{drop-length}
 use Rattle.std.proofs.lemmas.Iterator.Adapters.{YieldsList-from_vec}
 use Rattle.std.proofs.lemmas.Iterator.Consumers.{YieldsList-end, YieldsList-so_far, YieldsList-turn}
@@ -9,16 +9,19 @@ use Rattle.im_disk.specs.Grown.{Grows}
 use Rattle.im_disk.proofs.Growing.{grows_both, grows_none}
 use Rattle.im_ledger.specs.Causes.{HasCommitCause}
 use Rattle.im_ledger.specs.Histories.{KeptHistory}
+use Rattle.im_ledger.specs.declared.errors.CommitError.{CommitError}
 use Rattle.im_ledger.specs.declared.errors.CommitError.TheVariants.{DiskFault}
 use Rattle.im_ledger.proofs.GrowLemmas.{kept-images}
 use Rattle.im_model.specs.declared.transactions.Transaction.{Transaction}
 use Rattle.im_script.specs.declared.commands.Line.{Line}
 use Rattle.im_report.proofs.ReportLemmas.{Standing}
+use Rattle.im_session.specs.Made.{MakesLast}
 use Rattle.im_session.specs.Moves.{MayPlace}
 use Rattle.im_session.specs.Served.{ReachesDisk, ServesAll, ServesFront}
 use Rattle.im_session.specs.Turns.{HasTime, Turn}
 use Rattle.im_session.proofs.AgainLemmas.{Told, Told-first, turn-told}
-use Rattle.im_session.proofs.KeptLemmas.{error-is, never-err, ok-cause}
+use Rattle.im_session.proofs.CallLemmas.{last-makes, makes-calls}
+use Rattle.im_session.proofs.KeptLemmas.{error-is, error-same, never-err, ok-cause}
 use Rattle.im_session.proofs.PutLemmas.{put-first, put-shown}
 use Rattle.im_session.proofs.ReadLemmas.{within-none}
 use Rattle.im_session.proofs.ServedLemmas.{found-standing, found-within, front-stopped, is-why, moments-first, moments-next, serves-ended, timed-next}
@@ -68,7 +71,7 @@ loop-line-preserved g c =
       told = turn-told hash clock c.loop-line.yielded line before.held after.held old new c.loop-line.invariant.told turn;
       kept = c.in_default.ensures.kept;
       within = c.in_default.ensures.within;
-      put = c.in_default.ensures.put c.args.kept.logs (length found) c.loop-line.invariant.put;
+      put = c.in_default.ensures.put c.args.kept.logs (length found) (g.D.Disk.told c.args.kept.journal.disk) c.loop-line.invariant.put;
       timed = timed-next hash first line (length found) before.held after.held old new most (subst P c.loop-line.invariant.same turn) c.loop-line.invariant.timed;
       asked = asked-next (length found) before.held.transactions after.held.transactions turn.answers.more (g.C.Clock.given c.args.clock.now) (g.C.Clock.given c.loop-line.clock)
           (g.C.Clock.given c.turn.new.clock) most turn.answers.grown c.loop-line.invariant.asked c.in_default.ensures.times;
@@ -90,7 +93,6 @@ returns-in-Err-clause-front g c why is =
     let before : KeptHistory g.row.D.Denot = c.loop-line.kept in
     let after : KeptHistory g.row.D.Denot = c.turn.new.kept in
     let start : Option DiskTold = g.D.Disk.told c.args.kept.journal.disk in
-    let mid : Option DiskTold = g.D.Disk.told before.journal.disk in
     let now : Option DiskTold = g.D.Disk.told after.journal.disk in
     let out : List ℕ = c.loop-line.out.items in
     let times_before : Option (List ℤ) = g.C.Clock.given c.args.clock.now in
@@ -100,13 +102,21 @@ returns-in-Err-clause-front g c why is =
     let all = YieldsList-from_vec {s = c.into_iter-line-iterator.result} lines gives.0 (gives.1 ∙ c.args.lines.ok.0) in
     let front = sym (map-id done) ∙ YieldsList-so_far all done c.loop-line.line-iterator c.loop-line.yielded_by in
     let here = YieldsList-turn all done c.loop-line.line-iterator c.loop-line.yielded_by c.next.result c.next.new.self line c.in-Some.is c.next.ensures.steps in
-    let P : Option ℤ → Type 0 = λ o. MayPlace hash o line.command before.held.transactions mid now times_mid times_now in
-    let O : List ℕ → Type 0 = λ o. ServesFront hash first found lines start now times_before times_now o why in
-    let E : g.row.D.Denot → Type 0 = λ d. ServesFront hash first found lines start (g.D.Disk.told d) times_before times_now c.turn.new.out.items why in
+    let logs : ℕ = c.args.kept.logs in
+    let P : Option ℤ → Type 0 = λ o. MayPlace {T = Unit {0}} g.D.Disk.told hash o line.command before after.journal times_mid times_now (Err c.in-Err.error) in
+    let W : CommitError → Type 0 = λ e. MayPlace {T = Unit {0}} g.D.Disk.told hash first line.command before after.journal times_mid times_now (Err e) in
+    let O : List ℕ → Type 0 = λ o. ServesFront hash first logs found lines start now times_before times_now o why in
+    let E : g.row.D.Denot → Type 0 = λ d. ServesFront hash first logs found lines start (g.D.Disk.told d) times_before times_now c.turn.new.out.items why in
+    let same : c.in-Err.error ≡ why = error-same c.in-Err.error why is in
+    let m : W why = subst W same (subst P c.loop-line.invariant.same c.in-Err.ensures.left) in
+    let kept = c.loop-line.invariant.kept in
+    let put = c.loop-line.invariant.put in
+    let calls = makes-calls g.D.Disk.told hash before kept logs (length found) start put m.left now (Err why)
+    (last-makes g.D.Disk.told hash before kept logs (length found) start put m.left after.journal why m.calls) tt in
     let fault : why ≡ DiskFault → ReachesDisk before.held.transactions line.command = λ w. c.in-Err.ensures.why (error-is c.in-Err.error why DiskFault is w) in
     subst E (sym c.into_disk.ensures) (subst O (sym c.in-Err.ensures.nothing)
-    (front-stopped hash first found before.held.transactions lines done line start mid now times_before times_mid times_now out (length before.held.tree) why front here.0 here.1
-    c.loop-line.invariant.standing c.loop-line.invariant.told c.loop-line.invariant.timed c.loop-line.invariant.asked c.loop-line.invariant.moments (subst P c.loop-line.invariant.same c.turn.ensures.left)
+    (front-stopped g.D.Disk.told hash first logs found before after.journal lines done line start times_before times_mid times_now out (length before.held.tree) why front here.0 here.1
+    c.loop-line.invariant.standing c.loop-line.invariant.told c.loop-line.invariant.timed c.loop-line.invariant.asked c.loop-line.invariant.moments m calls
     (is-why why before.held.transactions line.command fault)))
 
 pub returns-in-Err-clause-some : goal.returns-in-Err-clause-some
@@ -141,11 +151,15 @@ returns-clause-all g c =
     let times_before : Option (List ℤ) = g.C.Clock.given c.args.clock.now in
     let times_now : Option (List ℤ) = g.C.Clock.given c.loop-line.clock in
     let whole : c.loop-line.yielded ≡ lines = sym (map-id c.loop-line.yielded) ∙ end.0 in
+    let logs : ℕ = c.args.kept.logs in
+    let put = c.loop-line.invariant.put in
+    let last : MakesLast hash logs kept.held.transactions [] put.batches now now (Ok tt) = inl (refl, inl refl, λ fault. never-err tt DiskFault fault) in
+    let calls = makes-calls g.D.Disk.told hash kept c.loop-line.invariant.kept logs (length found) start put [] now (Ok tt) last refl in
     let E : g.row.D.Denot → Type 0 = λ d. ServesAll hash first c.args.kept.logs found lines start (g.D.Disk.told d) times_before times_now c.loop-line.out.items in
     subst E (sym c.into_disk-2.ensures)
     (serves-ended hash first c.args.kept.logs found kept.held.transactions lines c.loop-line.yielded start now times_before times_now c.loop-line.out.items (length kept.held.tree) whole
     c.loop-line.invariant.standing c.loop-line.invariant.told c.loop-line.invariant.timed c.loop-line.invariant.asked c.loop-line.invariant.moments
-    (kept-images g.D.Disk.told hash kept c.loop-line.invariant.kept) (put-shown g.D.Disk.told hash kept c.loop-line.invariant.kept c.args.kept.logs (length found) c.loop-line.invariant.put))
+    (kept-images g.D.Disk.told hash kept c.loop-line.invariant.kept) (put-shown g.D.Disk.told hash kept c.loop-line.invariant.kept logs (length found) start put) calls)
 
 pub returns-clause-front : goal.returns-clause-front
 returns-clause-front g c why is = absurd (never-err tt why is)

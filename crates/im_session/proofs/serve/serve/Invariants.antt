@@ -15,7 +15,7 @@ invariant-loop-line g l = record {
   told : Told (g.H.Hash32.digest l.hash) l.kept.held.transactions l.yielded l.out.items;
   kept : IsKept g.D.Disk.told (g.H.Hash32.digest l.hash) l.kept;
   within : IsIndexWithin l.index l.kept.held.transactions;
-  put : IsKeptPut g.D.Disk.told (g.H.Hash32.digest l.hash) l.fn.kept.logs (length l.fn.kept.held.transactions) l.kept;
+  put : IsKeptPut g.D.Disk.told (g.H.Hash32.digest l.hash) l.fn.kept.logs (length l.fn.kept.held.transactions) (g.D.Disk.told l.fn.kept.journal.disk) l.kept;
   timed : All (HasTime (g.C.Clock.constant l.fn.clock)) (drop (length l.fn.kept.held.transactions) l.kept.held.transactions);
   asked : AskedFor (drop (length l.fn.kept.held.transactions) l.kept.held.transactions) (g.C.Clock.given l.fn.clock) (g.C.Clock.given l.clock);
   moments : Leaves (StandsFrom (g.H.Hash32.digest l.hash) (length l.fn.kept.held.transactions) l.kept.held.transactions) (g.D.Disk.told l.fn.kept.journal.disk) (g.D.Disk.told l.kept.journal.disk);
