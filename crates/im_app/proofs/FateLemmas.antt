@@ -1,5 +1,5 @@
 -- What the source and the disk hold decides how a run ends.
-use Rattle.std.proofs.Common.{◌≡◌, ◌<◌, ◌≤◌, length, ℕ, ◌+◌, List, arith, ap, subst, ℤ, Option, Some, None, Err, IfSome, inl, inr, ◌⊎◌, refl}
+use Rattle.std.proofs.Common.{◌≡◌, ◌<◌, ◌≤◌, length, ℕ, ◌+◌, List, arith, ap, subst, Option, Some, None, Err, IfSome, inl, inr, ◌⊎◌, refl}
 use Rattle.im_digest.specs.Digests.{Hash}
 use Rattle.im_disk.specs.Disk.{Told, seen}
 use Rattle.im_format.specs.Damages.{image_checks}

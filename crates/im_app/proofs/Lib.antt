@@ -1,5 +1,6 @@
 pub mod FateLemmas
 pub mod FoundLemmas
+pub mod GateLemmas
 pub mod ReportLemmas
 pub mod RunLemmas
 pub mod VerdictLemmas

@@ -1,5 +1,5 @@
 -- What a session wrote for the lines of a script is a report whose messages clients take.
-use Rattle.std.proofs.Common.{◌≡◌, ◌≤◌, ◌+◌, ℤ, ℕ, List, [], ◌∷◌, ◌++◌, length, take, drop, map, refl, arith, ap, subst, sym, ◌∙◌, get_or, All, IfSome, Option, Some, None, length-append}
+use Rattle.std.proofs.Common.{◌≡◌, ◌≤◌, ◌+◌, ℤ, ℕ, List, ◌++◌, length, take, drop, arith, ap, subst, sym, ◌∙◌, IfSome, Option, Some, None, length-append, Result, Ok, Err}
 use Rattle.std.proofs.lemmas.List.{take-append-le, length-take}
 use Rattle.std.proofs.lemmas.List.Elements.{All-take}
 use Rattle.im_digest.specs.Digests.{Hash}
@@ -9,15 +9,17 @@ use Rattle.im_disk.specs.Moments.{Leaves}
 use Rattle.im_disk.specs.declared.calls.Call.TheVariants.{Synced}
 use Rattle.im_disk.proofs.Leaving.{leaves_both, leaves_weaker}
 use Rattle.im_disk.proofs.Growing.{grows_both}
-use Rattle.im_format.specs.Standing.{Stands}
+use Rattle.im_format.specs.Batches.{gate_of}
+use Rattle.im_format.specs.Standing.{HasBatches, Stands}
+use Rattle.im_format.specs.declared.records.Record.{Record}
 use Rattle.im_model.specs.declared.transactions.Transaction.{Transaction}
-use Rattle.im_report.specs.Report.{Report}
 use Rattle.im_talk.specs.Fields.{IsSession}
 use Rattle.im_script.specs.declared.commands.Line.{Line}
-use Rattle.im_accept.specs.Taken.{AreReadBack, HaveSessions}
+use Rattle.im_accept.specs.Taken.{HaveSessions}
 use Rattle.im_accept.proofs.CutLemmas.{report-texts, script-sessions}
 use Rattle.im_accept.proofs.TakenLemmas.{report-taken}
 use Rattle.im_ledger.specs.declared.errors.CommitError.{CommitError}
+use Rattle.im_opening.specs.Cut.{IsOpenedBy}
 use Rattle.im_session.specs.Served.{Serves, ServesAll, ServesFront, StandsFrom, StopsAt}
 use Rattle.im_app.specs.Runs.{IsGiven, IsReport, IsWhole}
 
@@ -65,10 +67,11 @@ pub record Opens (hash : Hash) (found : List Transaction) (before mid : Option T
   pub found_is : IfSome before (λ t. Stands hash (seen t) found)
   pub opened : IfSome before (λ t. Leaves (λ image. Stands hash image found) (Some (after Synced t)) mid)
   pub grew : IfSome before (λ t. Grows (Some (after Synced t)) mid)
+  pub gate : (batches : List (List Record)) → IfSome mid (λ t. HasBatches (seen t) batches) → IfSome before (λ t. IsOpenedBy (gate_of (length batches)) t mid)
 
-pub is-report : (hash : Hash) (constant : Option ℤ) (script octets : List ℕ) (lines : List Line) (found : List Transaction) (before mid now : Option Told) (times_before times_now : Option (List ℤ))
-    → IsGiven script lines → Opens hash found before mid → Grows mid now → Serves hash constant found lines mid now times_before times_now octets → IsReport hash constant script octets before now times_before times_now
-is-report hash constant script octets lines found before mid now times_before times_now given o served s =
+pub is-report : (hash : Hash) (constant : Option ℤ) (logs : ℕ) (script octets : List ℕ) (lines : List Line) (found : List Transaction) (before mid now : Option Told) (times_before times_now : Option (List ℤ)) (end : Result (Unit {0}) CommitError)
+    → IsGiven script lines → Opens hash found before mid → Grows mid now → Serves hash constant logs found lines mid now times_before times_now octets end → IsReport hash constant logs script octets before now times_before times_now end
+is-report hash constant logs script octets lines found before mid now times_before times_now end given o served s =
     let front : List Line = take s.count lines in
     let names : HaveSessions front = sessions-front lines s.count (script-sessions script lines given.read) in
     record {
@@ -89,27 +92,28 @@ is-report hash constant script octets lines found before mid now times_before ti
       images = s.images;
       moments = moments-both hash found s.history s.left before mid now s.report.begins o.opened s.moments;
       grows = grows-served before mid now o.grew served;
+      calls = record { opened = mid; session = s.calls; opening = o.gate s.calls.put.first s.calls.held };
     }
 
 pub is-whole : (hash : Hash) (constant : Option ℤ) (logs : ℕ) (script octets : List ℕ) (lines : List Line) (found : List Transaction) (before mid now : Option Told) (times_before times_now : Option (List ℤ))
     → IsGiven script lines → Opens hash found before mid → Grows mid now → ServesAll hash constant logs found lines mid now times_before times_now octets → IsWhole hash constant logs script octets before now times_before times_now
 unfolding is-report
 is-whole hash constant logs script octets lines found before mid now times_before times_now given o served s = record {
-  report = is-report hash constant script octets lines found before mid now times_before times_now given o served s.serves;
+  report = is-report hash constant logs script octets lines found before mid now times_before times_now (Ok tt) given o served s.serves;
   all = s.all;
   here = s.here;
 }
 
 -- a report of the lines before one that got no reply
-pub record IsFront (hash : Hash) (constant : Option ℤ) (why : CommitError) (script octets : List ℕ) (before now : Option Told) (times_before times_now : Option (List ℤ)) : Type 0 where
-  pub report : IsReport hash constant script octets before now times_before times_now
+pub record IsFront (hash : Hash) (constant : Option ℤ) (logs : ℕ) (why : CommitError) (script octets : List ℕ) (before now : Option Told) (times_before times_now : Option (List ℤ)) : Type 0 where
+  pub report : IsReport hash constant logs script octets before now times_before times_now (Err why)
   pub stops : StopsAt why report.history (drop report.count report.lines)
 
-pub is-front : (hash : Hash) (constant : Option ℤ) (why : CommitError) (script octets : List ℕ) (lines : List Line) (found : List Transaction) (before mid now : Option Told) (times_before times_now : Option (List ℤ))
-    → IsGiven script lines → Opens hash found before mid → Grows mid now → ServesFront hash constant found lines mid now times_before times_now octets why → IsFront hash constant why script octets before now times_before times_now
+pub is-front : (hash : Hash) (constant : Option ℤ) (logs : ℕ) (why : CommitError) (script octets : List ℕ) (lines : List Line) (found : List Transaction) (before mid now : Option Told) (times_before times_now : Option (List ℤ))
+    → IsGiven script lines → Opens hash found before mid → Grows mid now → ServesFront hash constant logs found lines mid now times_before times_now octets why → IsFront hash constant logs why script octets before now times_before times_now
 unfolding is-report
-is-front hash constant why script octets lines found before mid now times_before times_now given o served s = record {
-  report = is-report hash constant script octets lines found before mid now times_before times_now given o served s.serves;
+is-front hash constant logs why script octets lines found before mid now times_before times_now given o served s = record {
+  report = is-report hash constant logs script octets lines found before mid now times_before times_now (Err why) given o served s.serves;
   stops = s.stops;
 }
 

@@ -1,11 +1,10 @@
 -- How a run goes on from what opening, the session and the sink answered.
-use Rattle.std.proofs.Common.{◌≡◌, ℕ, ℤ, List, [], ◌++◌, length, refl, sym, ◌∙◌, subst, ap, Result, Ok, Err, OnOk, OnErr, Option, Some, None, IfSome, inl, inr, ◌⊎◌}
-use Rattle.std.specs.Io.KnownBytes.{Appends}
-use Rattle.im_edge.specs.Counts.{Rose}
-use Rattle.im_edge.specs.Sinks.{AddsPart}
+use Rattle.std.proofs.Common.{◌≡◌, ℕ, ℤ, List, [], refl, sym, ◌∙◌, subst, Result, Ok, Err, OnOk, OnErr, Option, Some, None, IfSome, inl, inr, ◌⊎◌, arith}
+use Rattle.std.proofs.KnownBytes.{Consumes-nil}
+use Rattle.im_edge.specs.Sources.{TakesAtMost}
 use Rattle.im_edge.specs.declared.sink.WriteFault.{WriteFault as TheFault}
 use Rattle.im_digest.specs.Digests.{Hash}
-use Rattle.im_disk.specs.Disk.{Told, after, seen}
+use Rattle.im_disk.specs.Disk.{Told}
 use Rattle.im_format.specs.declared.damages.Damage.{Damage}
 use Rattle.im_ledger.specs.declared.errors.CommitError.{CommitError}
 use Rattle.im_ledger.specs.declared.errors.CommitError.TheVariants as commit
@@ -14,7 +13,6 @@ use Rattle.im_opening.specs.declared.errors.OpenError.TheVariants as opened
 use Rattle.im_script.specs.declared.commands.Line.{Line}
 use Rattle.im_app.specs.Runs.{IsGiven, WritesFront}
 use Rattle.im_app.specs.Statuses.{status_behind, status_by, status_for}
-use Rattle.im_app.specs.declared.status.Status.{Status}
 use Rattle.im_app.specs.declared.status.Status.TheVariants as the
 
 -- what is said at Ok holds there
@@ -76,11 +74,11 @@ same-script None a b is e = tt
 same-script (Some octets) a b is e = is ∙ e
 
 -- what is said of a script that was given is said of the source that gave it
-pub front-told : (hash : Hash) (constant : Option ℤ) (why : CommitError) (left : Option (List ℕ)) (script : List ℕ) (before now : Option Told) (times_before times_now : Option (List ℤ)) (sink_before sink_now : Option (List ℕ)) (faults_before faults_now : ℕ)
+pub front-told : (hash : Hash) (constant : Option ℤ) (logs : ℕ) (why : CommitError) (left : Option (List ℕ)) (script : List ℕ) (before now : Option Told) (times_before times_now : Option (List ℤ)) (sink_before sink_now : Option (List ℕ)) (faults_before faults_now : ℕ)
     → IfSome left (λ octets. octets ≡ script)
-    → WritesFront hash constant why (Some script) before now times_before times_now sink_before sink_now faults_before faults_now
-    → WritesFront hash constant why left before now times_before times_now sink_before sink_now faults_before faults_now
-front-told hash constant why left script before now times_before times_now sink_before sink_now faults_before faults_now is w = record {
+    → WritesFront hash constant logs why (Some script) before now times_before times_now sink_before sink_now faults_before faults_now
+    → WritesFront hash constant logs why left before now times_before times_now sink_before sink_now faults_before faults_now
+front-told hash constant logs why left script before now times_before times_now sink_before sink_now faults_before faults_now is w = record {
   script = w.script;
   script_is = same-script left script w.script is w.script_is;
   octets = w.octets;
@@ -88,3 +86,7 @@ front-told hash constant why left script before now times_before times_now sink_
   stops = w.stops;
   wrote = w.wrote;
 }
+
+-- nothing was taken
+pub takes-none : (most : ℕ) (left : Option (List ℕ)) → TakesAtMost most left left
+takes-none most left = ([], omega arith, Consumes-nil left)

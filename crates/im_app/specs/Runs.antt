@@ -1,5 +1,5 @@
 -- What a run of a script does.
-use Rattle.std.specs.Prelude.{◌≡◌, ◌⊎◌, ℤ, ℕ, ◌≤◌, List, [], ◌++◌, length, map, take, drop, All, Option, Some, IfSome}
+use Rattle.std.specs.Prelude.{◌≡◌, ◌⊎◌, ℤ, ℕ, ◌≤◌, List, [], ◌++◌, length, map, take, drop, All, Option, Some, IfSome, Result, Ok, Err}
 use Rattle.std.specs.Io.KnownBytes.{Appends}
 use Rattle.im_cuts.specs.Lines.{AreTexts}
 use Rattle.im_edge.specs.Counts.{Rose}
@@ -9,6 +9,7 @@ use Rattle.im_disk.specs.Disk.{Files, Told, after, seen}
 use Rattle.im_disk.specs.Grown.{Grows}
 use Rattle.im_disk.specs.Moments.{Leaves, LeavesNow}
 use Rattle.im_disk.specs.declared.calls.Call.TheVariants.{Synced, Missed}
+use Rattle.im_format.specs.Batches.{gate_of}
 use Rattle.im_format.specs.Standing.{Stands}
 use Rattle.im_model.specs.declared.transactions.Transaction.{Transaction}
 use Rattle.im_report.specs.Report.{Report}
@@ -16,7 +17,8 @@ use Rattle.im_script.specs.Script.{IsScript}
 use Rattle.im_script.specs.declared.commands.Line.{Line}
 use Rattle.im_accept.specs.Taken.{line_text, AreTaken}
 use Rattle.im_ledger.specs.declared.errors.CommitError.{CommitError}
-use Rattle.im_opening.specs.Cut.{WasOpened}
+use Rattle.im_opening.specs.Cut.{IsOpenedBy, WasOpened}
+use Rattle.im_session.specs.Made.{MakesCalls}
 use Rattle.im_session.specs.Put.{StandsPut}
 use Rattle.im_session.specs.Served.{IsLeft, StandsFrom, StandsWith, StopsAt}
 use Rattle.im_session.specs.Turns.{AskedFor, HasTime}
@@ -26,6 +28,14 @@ pub record IsGiven (script : List ℕ) (lines : List Line) : Type 0 where
   pub short : length script ≤ 67108864
   pub read : IsScript script lines
 
+-- The changing calls that a run made, in order, and no other. Where the disk told something before, opening made a sync,
+-- and closed the gate behind the first of the session's batches where it was missing or cut off: a write and a sync more.
+-- From there on the session made those of its own batches, as far as they came before it ended.
+pub record MakesRun (hash : Hash) (logs n : ℕ) (history left : List Transaction) (before now : Option Told) (end : Result (Unit {0}) CommitError) : Type 0 where
+  pub opened : Option Told
+  pub session : MakesCalls hash logs n history left opened now end
+  pub opening : IfSome before (λ t. IsOpenedBy (gate_of (length session.put.first)) t opened)
+
 -- These octets are the report of a run on the first `count` lines of a script, at the clock's time where it tells
 -- one, from the history that the disk was found with to another that begins with it. Cut at each LF they are the
 -- answered lines. Each of these that is a message is accepted by every client that it is for: a state by one that
@@ -33,10 +43,12 @@ pub record IsGiven (script : List ℕ) (lines : List Line) : Type 0 where
 -- keeps its target. Behind an advance that client keeps its target. Every other line is passed over.
 -- Each image that a crash may leave of the disk now stands for the history, or for it with the one transaction
 -- of the next line, which got no reply. And at each moment since the first sync each image stood for the first
--- transactions of these, those that were found among them. The disk tells its calls as before, a sync that succeeded,
--- and others behind it. The clock was asked once for each transaction that was placed, and for that of the next line,
--- in order, and for nothing else: each has the time that was given for it, where the clock tells its times.
-pub record IsReport (hash : Hash) (constant : Option ℤ) (script octets : List ℕ) (before now : Option Told) (times_before times_now : Option (List ℤ)) : Type 0 where
+-- transactions of these, those that were found among them. The disk got a sync, the closing of the gate where it was
+-- missing, and for each transaction the writes of its batch, a sync, the octet at the gate, and a sync; for that of the
+-- next line as many of these as came before the run ended; and no other call that changes it. The clock was asked once
+-- for each transaction that was placed, and for that of the next line, in order, and for nothing else: each has the time
+-- that was given for it, where the clock tells its times.
+pub record IsReport (hash : Hash) (constant : Option ℤ) (logs : ℕ) (script octets : List ℕ) (before now : Option Told) (times_before times_now : Option (List ℤ)) (end : Result (Unit {0}) CommitError) : Type 0 where
   pub lines : List Line
   pub given : IsGiven script lines
   pub found : List Transaction
@@ -54,11 +66,12 @@ pub record IsReport (hash : Hash) (constant : Option ℤ) (script octets : List 
   pub images : LeavesNow (StandsWith hash history left) now
   pub moments : IfSome before (λ t. Leaves (StandsFrom hash (length found) (history ++ left)) (Some (after Synced t)) now)
   pub grows : IfSome before (λ t. Grows (Some (after Synced t)) now)
+  pub calls : MakesRun hash logs (length found) history left before now end
 
 -- all lines were answered, so that no transaction is without a reply, and what reads give stands for the history,
 -- where each transaction that was placed stands in a batch of its own, its values put over so many value logs
 pub record IsWhole (hash : Hash) (constant : Option ℤ) (logs : ℕ) (script octets : List ℕ) (before now : Option Told) (times_before times_now : Option (List ℤ)) : Type 0 where
-  pub report : IsReport hash constant script octets before now times_before times_now
+  pub report : IsReport hash constant logs script octets before now times_before times_now (Ok tt)
   pub all : report.count ≡ length report.lines
   pub here : IfSome now (λ t. StandsPut hash logs (length report.found) report.history (seen t))
 
@@ -80,11 +93,11 @@ pub record WritesPart (hash : Hash) (constant : Option ℤ) (logs : ℕ) (source
 
 -- The report of the lines before the first one without a reply was written, and nothing else; or a front part of it
 -- where the sink failed.
-pub record WritesFront (hash : Hash) (constant : Option ℤ) (why : CommitError) (source : Option (List ℕ)) (before now : Option Told) (times_before times_now : Option (List ℤ)) (sink_before sink_now : Option (List ℕ)) (faults_before faults_now : ℕ) : Type 0 where
+pub record WritesFront (hash : Hash) (constant : Option ℤ) (logs : ℕ) (why : CommitError) (source : Option (List ℕ)) (before now : Option Told) (times_before times_now : Option (List ℤ)) (sink_before sink_now : Option (List ℕ)) (faults_before faults_now : ℕ) : Type 0 where
   pub script : List ℕ
   pub script_is : IfSome source (λ octets. octets ≡ script)
   pub octets : List ℕ
-  pub report : IsReport hash constant script octets before now times_before times_now
+  pub report : IsReport hash constant logs script octets before now times_before times_now (Err why)
   pub stops : StopsAt why report.history (drop report.count report.lines)
   pub wrote : (Appends sink_before sink_now octets × (faults_now ≡ faults_before))
       ⊎ (AddsPart octets sink_before sink_now × Rose faults_before faults_now)

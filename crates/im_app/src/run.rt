@@ -4,6 +4,7 @@ ghost use Rattle.im_disk.specs.Disk.{Told, after, seen};
 ghost use Rattle.im_disk.specs.declared.calls.Call.TheVariants.{Synced};
 ghost use Rattle.im_disk.specs.Grown.{Grows};
 ghost use Rattle.im_edge.specs.Counts.{Rose};
+ghost use Rattle.im_edge.specs.Sources.{TakesAtMost};
 ghost use Rattle.im_format.specs.Damages.{image_checks};
 ghost use Rattle.im_format.specs.Standing.{Stands};
 ghost use Rattle.im_format.specs.declared.damages.Damage.{Damage};
@@ -45,6 +46,7 @@ pub(crate) struct Ran<D: Drop> {
 fn read_lines<S: Source>(alloc: Global, source: &mut S) -> Result<Vec<Line>, Status>
     ensures given { IfOk result (λ lines. (script : List ℕ) × IfSome (S.left source.old) (λ octets. octets ≡ script) × IsGiven script lines.items) }
     ensures emptied { OnOk result (IfSome (S.left source.old) (λ _. S.left source.new ≡ Some [])) }
+    ensures taken { TakesAtMost 67112960 (S.left source.old) (S.left source.new) }
     ensures ends { IfErr result EndsReading }
     ensures script { (k : ℕ) → IsErrOf result (Status.Script k) → IfSome (S.left source.old) (λ script.
         (length script ≤ 67108864) × ((n : ℕ) × (k ≡ n + 1) × StopsAfter script n)) }
@@ -108,7 +110,7 @@ fn run_lines<H: Hash32, K: Sink, D: Disk, C: Clock>(
         → WritesPart (H.digest hash.now) (C.constant clock.old) logs (Some script) (D.told disk) (D.told result.disk) (C.given clock.old) (C.given clock.new) (K.written sink.old) (K.written sink.new) }
     ensures front { (script : List ℕ) (why : Why) → IsGiven script lines.items → result.status ≡ status_for why
         → ((sink.new ≡ sink.old) × ((clock.new ≡ clock.old) × LeavesFound (H.digest hash.now) (D.told disk) (D.told result.disk)))
-        ⊎ WritesFront (H.digest hash.now) (C.constant clock.old) why (Some script) (D.told disk) (D.told result.disk) (C.given clock.old) (C.given clock.new)
+        ⊎ WritesFront (H.digest hash.now) (C.constant clock.old) logs why (Some script) (D.told disk) (D.told result.disk) (C.given clock.old) (C.given clock.new)
         (K.written sink.old) (K.written sink.new) (K.faults sink.old) (K.faults sink.new) }
     ensures damaged { (damage : Damage) → result.status ≡ Status.Damaged damage → IfSome (D.told disk) (λ t.
         (first_fail (image_checks (H.digest hash.now) (seen t)) ≡ Err damage) × (D.told result.disk ≡ Some (after Synced t))) }
@@ -161,9 +163,10 @@ pub(crate) fn run<H: Hash32, S: Source, K: Sink, D: Disk, C: Clock>(
         → WritesPart (H.digest hash.now) (C.constant clock.old) logs (S.left source.old) (D.told disk) (D.told result.disk) (C.given clock.old) (C.given clock.new) (K.written sink.old) (K.written sink.new) }
     ensures front { (why : Why) → result.status ≡ status_for why
         → ((sink.new ≡ sink.old) × ((clock.new ≡ clock.old) × LeavesFound (H.digest hash.now) (D.told disk) (D.told result.disk)))
-        ⊎ WritesFront (H.digest hash.now) (C.constant clock.old) why (S.left source.old) (D.told disk) (D.told result.disk) (C.given clock.old) (C.given clock.new)
+        ⊎ WritesFront (H.digest hash.now) (C.constant clock.old) logs why (S.left source.old) (D.told disk) (D.told result.disk) (C.given clock.old) (C.given clock.new)
         (K.written sink.old) (K.written sink.new) (K.faults sink.old) (K.faults sink.new) }
     ensures given { EndsGiven result.status → GivesScript (S.left source.old) (S.left source.new) }
+    ensures taken { TakesAtMost 67112960 (S.left source.old) (S.left source.new) }
     ensures untouched { IfSome (S.left source.old) (λ script. ((lines : List TheLine) → IsGiven script lines → ⊥)
         → (sink.new ≡ sink.old) × ((clock.new ≡ clock.old) × (result.disk ≡ disk))) }
     ensures ends { EndsRun result.status }

@@ -4,6 +4,7 @@ ghost use Rattle.im_disk.specs.Disk.{Told, after, seen};
 ghost use Rattle.im_disk.specs.declared.calls.Call.TheVariants.{Synced};
 ghost use Rattle.im_disk.specs.Grown.{Grows};
 ghost use Rattle.im_edge.specs.Counts.{Rose};
+ghost use Rattle.im_edge.specs.Sources.{TakesAtMost};
 ghost use Rattle.im_format.specs.Damages.{image_checks};
 ghost use Rattle.im_format.specs.Standing.{Stands};
 ghost use Rattle.im_format.specs.declared.damages.Damage.{Damage};
@@ -36,104 +37,6 @@ use im_edge::sink::Sink;
 use im_edge::source::Source;
 use im_words::{Asked, WordsError, read_words};
 use std::alloc::Global;
-
-// Does what the words ask for.
-fn carry_out<H: Hash32, S: Source, K: Sink, D: Disk, P: Keeper, C: Clock>(
-    alloc: Global,
-    words: &[String],
-    hash: &H,
-    source: &mut S,
-    sink: &mut K,
-    disk: D,
-    keeper: &mut P,
-    clock: &mut C,
-) -> Ran<D>
-    ensures report { (asks : AsksRun (map string_bytes words.now)) → result.status ≡ Status.Ok
-        → WritesReport (H.digest hash.now) (C.constant clock.old) asks.0 (S.left source.old) (D.told disk) (D.told result.disk) (C.given clock.old) (C.given clock.new) (K.written sink.old) (K.written sink.new) }
-    ensures part { (asks : AsksRun (map string_bytes words.now)) → result.status ≡ Status.WriteFault
-        → WritesPart (H.digest hash.now) (C.constant clock.old) asks.0 (S.left source.old) (D.told disk) (D.told result.disk) (C.given clock.old) (C.given clock.new) (K.written sink.old) (K.written sink.new) }
-    ensures front { (why : Why) → AsksRun (map string_bytes words.now) → result.status ≡ status_for why
-        → ((sink.new ≡ sink.old) × ((clock.new ≡ clock.old) × LeavesFound (H.digest hash.now) (D.told disk) (D.told result.disk)))
-        ⊎ WritesFront (H.digest hash.now) (C.constant clock.old) why (S.left source.old) (D.told disk) (D.told result.disk) (C.given clock.old) (C.given clock.new)
-        (K.written sink.old) (K.written sink.new) (K.faults sink.old) (K.faults sink.new) }
-    ensures given { AsksRun (map string_bytes words.now) → EndsGiven result.status → GivesScript (S.left source.old) (S.left source.new) }
-    ensures unread { AsksRun (map string_bytes words.now) → IfSome (S.left source.old) (λ script. ((lines : List Line) → IsGiven script lines → ⊥)
-        → (sink.new ≡ sink.old) × ((clock.new ≡ clock.old) × (result.disk ≡ disk))) }
-    ensures nothing { AsksRun (map string_bytes words.now) → (EndsReading result.status × (result.status ≡ Status.Memory → ⊥)) ⊎ ((d : Damage) × (result.status ≡ Status.Damaged d)) → sink.new ≡ sink.old }
-    ensures any_moment { (t : Told) (found : List Transaction) → D.told disk ≡ Some t → Stands (H.digest hash.now) (seen t) found
-        → KeepsFound (H.digest hash.now) found t (D.told result.disk) }
-    ensures unharmed { (t : Told) → D.told disk ≡ Some t → ((found : List Transaction) → Stands (H.digest hash.now) (seen t) found → ⊥)
-        → SyncsAtMost t (D.told result.disk) }
-    ensures grows { Grows (D.told disk) (D.told result.disk) }
-    ensures damaged { (damage : Damage) → result.status ≡ Status.Damaged damage → IfSome (D.told disk) (λ t.
-        (first_fail (image_checks (H.digest hash.now) (seen t)) ≡ Err damage) × (D.told result.disk ≡ Some (after Synced t))) }
-    ensures sound { (damage : Damage) (t : Told) (found : List Transaction) → D.told disk ≡ Some t → Stands (H.digest hash.now) (seen t) found
-        → result.status ≡ Status.Damaged damage → ⊥ }
-    ensures script { (k : ℕ) → result.status ≡ Status.Script k → IfSome (S.left source.old) (λ script.
-        (length script ≤ 67108864) × ((n : ℕ) × (k ≡ n + 1) × StopsAfter script n)) }
-    ensures accepted { AsksVerify (map string_bytes words.now) → result.status ≡ Status.Ok → IfSome (S.left source.old) (λ stream. IfSome (P.kept keeper.old) (λ kept.
-        Verifies (H.digest hash.now) stream kept ended.Ok (K.written sink.old) (K.written sink.new) (P.kept keeper.new))) }
-    ensures some_refused { AsksVerify (map string_bytes words.now) → result.status ≡ Status.Refused → IfSome (S.left source.old) (λ stream. IfSome (P.kept keeper.old) (λ kept.
-        Verifies (H.digest hash.now) stream kept ended.Refused (K.written sink.old) (K.written sink.new) (P.kept keeper.new))) }
-    ensures into { AsksVerify (map string_bytes words.now) → result.status ≡ Status.WriteFault → IfSome (S.left source.old) (λ stream. IfSome (P.kept keeper.old) (λ kept.
-        BreaksInto (H.digest hash.now) stream kept (K.written sink.old) (K.written sink.new) (P.kept keeper.new))) }
-    ensures off { AsksVerify (map string_bytes words.now) → (result.status ≡ Status.KeeperFault) ⊎ (result.status ≡ Status.Memory) →
-        ((K.written sink.new ≡ K.written sink.old) × (P.kept keeper.new ≡ P.kept keeper.old))
-        ⊎ IfSome (S.left source.old) (λ stream. IfSome (P.kept keeper.old) (λ kept.
-        BreaksOff (H.digest hash.now) stream kept (K.written sink.old) (K.written sink.new) (P.kept keeper.new))) }
-    ensures no_verdict { AsksVerify (map string_bytes words.now) → (result.status ≡ Status.ReadFault) ⊎ ((result.status ≡ Status.Long) ⊎ ((k : ℕ) × (result.status ≡ Status.Kept k))) →
-        (sink.new ≡ sink.old) × (P.kept keeper.new ≡ P.kept keeper.old) }
-    ensures kept { (k : ℕ) → result.status ≡ Status.Kept k → IfSome (P.kept keeper.old) (λ kept.
-        (n : ℕ) × (k ≡ n + 1) × StopsKept (H.digest hash.now) kept n) }
-    ensures emptied { (result.status ≡ Status.Ok) ⊎ ((result.status ≡ Status.WriteFault) ⊎ ((result.status ≡ Status.KeeperFault) ⊎ ((result.status ≡ Status.Refused) ⊎ ((k : ℕ) × (result.status ≡ Status.Kept k))))) →
-        IfSome (S.left source.old) (λ _. S.left source.new ≡ Some []) }
-    ensures long { result.status ≡ Status.Long → IfSome (S.left source.old) (λ octets. 67108864 < length octets) }
-    ensures usage { result.status ≡ Status.Usage → IsRefused (map string_bytes words.now) }
-    ensures form { (logs : ℕ) (link : Link) → IsForm (map string_bytes words.now) logs link → result.status ≡ Status.Usage → ⊥ }
-    ensures verify_form { IsVerifyForm (map string_bytes words.now) → result.status ≡ Status.Usage → ⊥ }
-    ensures refused { IsRefused (map string_bytes words.now) → (result.status ≡ Status.Usage) ⊎ (result.status ≡ Status.Memory) }
-    ensures untouched { IsRefused (map string_bytes words.now) → (source.new ≡ source.old) × ((sink.new ≡ sink.old) × ((keeper.new ≡ keeper.old) × ((result.disk ≡ disk) × (clock.new ≡ clock.old)))) }
-    ensures asked { (result.status ≡ Status.Usage → ⊥) → (result.status ≡ Status.Memory → ⊥) → AsksRun (map string_bytes words.now) ⊎ AsksVerify (map string_bytes words.now) }
-    ensures ends_run { AsksRun (map string_bytes words.now) → EndsRun result.status }
-    ensures ends_verify { AsksVerify (map string_bytes words.now) → EndsVerify result.status }
-    ensures read { result.status ≡ Status.ReadFault → Rose (S.faults source.old) (S.faults source.new) }
-    ensures write { result.status ≡ Status.WriteFault → Rose (K.faults sink.old) (K.faults sink.new) }
-    ensures device { result.status ≡ Status.DiskFault → Rose (D.faults disk) (D.faults result.disk) }
-    ensures keep { result.status ≡ Status.KeeperFault → Rose (P.faults keeper.old) (P.faults keeper.new) }
-    ensures source_count { (result.status ≡ Status.ReadFault → ⊥) → S.faults source.new ≡ S.faults source.old }
-    ensures sink_count { (result.status ≡ Status.WriteFault → ⊥) → (AsksRun (map string_bytes words.now) → (result.status ≡ Status.DiskFault → ⊥) × (result.status ≡ Status.Memory → ⊥))
-        → K.faults sink.new ≡ K.faults sink.old }
-    ensures disk_count { (result.status ≡ Status.DiskFault → ⊥) → D.faults result.disk ≡ D.faults disk }
-    ensures keeper_count { (result.status ≡ Status.KeeperFault → ⊥) → P.faults keeper.new ≡ P.faults keeper.old }
-    ensures complete { (IsRefused (map string_bytes words.now) → ⊥) → AsksRun (map string_bytes words.now)
-        → (Rose (S.faults source.old) (S.faults source.new) → ⊥) → (Rose (K.faults sink.old) (K.faults sink.new) → ⊥)
-        → (Rose (D.faults disk) (D.faults result.disk) → ⊥)
-        → IfSome (S.left source.old) (HasFate (H.digest hash.now) (D.told disk) result.status) }
-    ensures verdict { (IsRefused (map string_bytes words.now) → ⊥) → AsksVerify (map string_bytes words.now)
-        → (Rose (S.faults source.old) (S.faults source.new) → ⊥) → (Rose (K.faults sink.old) (K.faults sink.new) → ⊥)
-        → (Rose (P.faults keeper.old) (P.faults keeper.new) → ⊥)
-        → IfSome (S.left source.old) (λ stream. IfSome (P.kept keeper.old) (HasVerdict (H.digest hash.now) result.status stream)) }
-    ensures disk { AsksVerify (map string_bytes words.now) ⊎ (EndsReading result.status × (result.status ≡ Status.Memory → ⊥)) → result.disk ≡ disk }
-    ensures keeper { AsksRun (map string_bytes words.now) → keeper.new ≡ keeper.old }
-    ensures clock { C.constant clock.new ≡ C.constant clock.old }
-    ensures idle { AsksVerify (map string_bytes words.now) ⊎ ((EndsReading result.status × (result.status ≡ Status.Memory → ⊥)) ⊎ ((d : Damage) × (result.status ≡ Status.Damaged d))) → clock.new ≡ clock.old }
-{
-    match read_words(alloc, words) {
-        Ok(Asked::Run { logs, .. }) => run(alloc, hash, source, sink, disk, clock, logs),
-        Ok(Asked::Verify) => {
-            let status = verdict(alloc, hash, source, sink, keeper);
-            Ran { status, disk }
-        }
-        Err(WordsError::Usage) => Ran {
-            status: Status::Usage,
-            disk,
-        },
-        Err(WordsError::Memory) => Ran {
-            status: Status::Memory,
-            disk,
-        },
-    }
-}
 
 /// Runs the program on its words, of which the first is its name.
 ///
@@ -168,20 +71,23 @@ pub fn top<
     // reply, as `verify` reads them. Each line that is a message is accepted by every client that keeps the header it
     // is for, a state by one that keeps none too, and that client then keeps the header that the message leads to;
     // every other line is passed over. In the files each new transaction stands in a batch of its own, its values put
-    // over as many value logs as the words ask for. Each has the time that the clock gave for it: where the clock tells
-    // the times that it gave, it was asked once for each new transaction, in order, and for nothing else.
+    // over as many value logs as the words ask for. The disk got the opening's sync, the closing of the gate where it was
+    // missing, and for each new transaction the writes of its batch, a sync, the octet at the gate, and a sync; no other
+    // call that changes it. Each has the time that the clock gave for it: where the clock tells the times that it gave,
+    // it was asked once for each new transaction, in order, and for nothing else.
     ensures report { (asks : AsksRun (map string_bytes words.now)) → result.status ≡ Status.Ok
         → WritesReport (H.digest hash.now) (C.constant clock) asks.0 (S.left source.old) (D.told disk) (D.told result.disk) (C.given clock) (C.given result.clock) (K.written sink.old) (K.written sink.new) }
 
     // Where the sink failed, what was written is a front part of the report. Where the disk failed or memory ran out
     // at a line, the lines before it were answered and told, as far as the sink took them, and what the disk stands for
-    // has all of them; the clock was asked for that line's transaction too, if there was one. Else neither the sink nor
-    // the clock was touched. A source without a script of the grammar has neither sink, clock nor disk touched.
+    // has all of them; the clock was asked for that line's transaction too, if there was one, and the disk got a front
+    // part of its calls, and then the one that failed, if one did. Else neither the sink nor the clock was touched. A
+    // source without a script of the grammar has neither sink, clock nor disk touched.
     ensures part { (asks : AsksRun (map string_bytes words.now)) → result.status ≡ Status.WriteFault
         → WritesPart (H.digest hash.now) (C.constant clock) asks.0 (S.left source.old) (D.told disk) (D.told result.disk) (C.given clock) (C.given result.clock) (K.written sink.old) (K.written sink.new) }
-    ensures front { (why : Why) → AsksRun (map string_bytes words.now) → result.status ≡ status_for why
+    ensures front { (why : Why) (asks : AsksRun (map string_bytes words.now)) → result.status ≡ status_for why
         → ((sink.new ≡ sink.old) × ((result.clock ≡ clock) × LeavesFound (H.digest hash.now) (D.told disk) (D.told result.disk)))
-        ⊎ WritesFront (H.digest hash.now) (C.constant clock) why (S.left source.old) (D.told disk) (D.told result.disk) (C.given clock) (C.given result.clock)
+        ⊎ WritesFront (H.digest hash.now) (C.constant clock) asks.0 why (S.left source.old) (D.told disk) (D.told result.disk) (C.given clock) (C.given result.clock)
         (K.written sink.old) (K.written sink.new) (K.faults sink.old) (K.faults sink.new) }
     ensures given { AsksRun (map string_bytes words.now) → EndsGiven result.status → GivesScript (S.left source.old) (S.left source.new) }
     ensures unread { AsksRun (map string_bytes words.now) → IfSome (S.left source.old) (λ script. ((lines : List Line) → IsGiven script lines → ⊥)
@@ -235,6 +141,9 @@ pub fn top<
         IfSome (S.left source.old) (λ _. S.left source.new ≡ Some []) }
     ensures long { result.status ≡ Status.Long → IfSome (S.left source.old) (λ octets. 67108864 < length octets) }
 
+    // At every end a front part of the source was taken, at most one take (4096 octets) past the limit.
+    ensures taken { TakesAtMost 67112960 (S.left source.old) (S.left source.new) }
+
     // The words are at fault just where `clap` refuses them, and then nothing is touched. Those of the forms
     // `NAME run [--logs 1..4] [--link auto|manual]`, the options in any order, and `NAME verify` never are: the first
     // ask for a run with the number of logs and the link that they write, the second for `verify`.
@@ -286,12 +195,32 @@ pub fn top<
     ensures idle { AsksVerify (map string_bytes words.now) ⊎ ((EndsReading result.status × (result.status ≡ Status.Memory → ⊥)) ⊎ ((d : Damage) × (result.status ≡ Status.Damaged d))) → result.clock ≡ clock }
 {
     let mut clock = clock;
-    let Ran { status, disk } = carry_out(
-        alloc, words, hash, source, sink, disk, keeper, &mut clock,
-    );
-    Done {
-        status,
-        disk,
-        clock,
+    match read_words(alloc, words) {
+        Ok(Asked::Run { logs, .. }) => {
+            let Ran { status, disk } = run(alloc, hash, source, sink, disk, &mut clock, logs);
+            Done {
+                status,
+                disk,
+                clock,
+            }
+        }
+        Ok(Asked::Verify) => {
+            let status = verdict(alloc, hash, source, sink, keeper);
+            Done {
+                status,
+                disk,
+                clock,
+            }
+        }
+        Err(WordsError::Usage) => Done {
+            status: Status::Usage,
+            disk,
+            clock,
+        },
+        Err(WordsError::Memory) => Done {
+            status: Status::Memory,
+            disk,
+            clock,
+        },
     }
 }

@@ -1,5 +1,6 @@
 ghost use Rattle.std.specs.Prelude.{◌≡◌, ◌⊎◌, ℕ, ◌+◌, ◌<◌, [], length, IfSome, Some};
 ghost use Rattle.im_edge.specs.Counts.{Rose};
+ghost use Rattle.im_edge.specs.Sources.{TakesAtMost};
 ghost use Rattle.im_verify.specs.Judged.{StopsKept};
 ghost use Rattle.im_verify.specs.Runs.{BreaksInto, BreaksOff, Verifies};
 ghost use Rattle.im_verify.specs.declared.ended.Ended.TheVariants as ended;
@@ -43,6 +44,7 @@ pub(crate) fn verdict<H: Hash32, S: Source, K: Sink, P: Keeper>(
     ensures long { result ≡ Status.Long → IfSome (S.left source.old) (λ stream. 67108864 < length stream) }
     ensures emptied { (result ≡ Status.Ok) ⊎ ((result ≡ Status.WriteFault) ⊎ ((result ≡ Status.KeeperFault) ⊎ ((result ≡ Status.Refused) ⊎ ((k : ℕ) × (result ≡ Status.Kept k))))) →
         IfSome (S.left source.old) (λ _. S.left source.new ≡ Some []) }
+    ensures taken { TakesAtMost 67112960 (S.left source.old) (S.left source.new) }
     ensures read { result ≡ Status.ReadFault → Rose (S.faults source.old) (S.faults source.new) }
     ensures write { result ≡ Status.WriteFault → Rose (K.faults sink.old) (K.faults sink.new) }
     ensures keep { result ≡ Status.KeeperFault → Rose (P.faults keeper.old) (P.faults keeper.new) }

@@ -1,4 +1,4 @@
-use Rattle.std.proofs.Common.{◌≡◌, ℕ, ℤ, List, sym, ◌∙◌, ap, subst, Option, Some, Err, inl, inr, refl, IfSome}
+use Rattle.std.proofs.Common.{◌≡◌, ℕ, List, ap, Option, Some, Err, inl, inr}
 use Rattle.im_digest.specs.Digests.{Hash}
 use Rattle.im_disk.specs.Disk.{Told, after, seen}
 use Rattle.im_disk.proofs.Growing.{grows_none}
@@ -6,7 +6,6 @@ use Rattle.im_disk.proofs.Leaving.{if_told}
 use Rattle.im_disk.specs.declared.calls.Call.TheVariants.{Synced}
 use Rattle.im_format.specs.Damages.{image_checks}
 use Rattle.im_format.specs.Standing.{Stands}
-use Rattle.im_format.specs.declared.damages.Damage.{Damage}
 use Rattle.im_model.specs.declared.transactions.Transaction.{Transaction}
 use Rattle.im_mtree.specs.Checks.{first_fail}
 use Rattle.im_script.specs.declared.commands.Line.{Line}
@@ -24,7 +23,7 @@ returns-in-Ok-clause-front g c = λ why e.
     let given = c.in-Ok.ensures.given in
     elim (c.run_lines.ensures.front given.0 why given.2 e) [
       | inl none ↦ inl none
-      | inr front ↦ inr (front-told (g.H.Hash32.digest c.args.hash.now) (g.C.Clock.constant c.args.clock.now) why (g.S.Source.left c.args.source.now) given.0
+      | inr front ↦ inr (front-told (g.H.Hash32.digest c.args.hash.now) (g.C.Clock.constant c.args.clock.now) c.args.logs why (g.S.Source.left c.args.source.now) given.0
           (g.D.Disk.told c.args.disk) (g.D.Disk.told c.run_lines.result.disk) (g.C.Clock.given c.args.clock.now) (g.C.Clock.given c.run_lines.new.clock) (g.K.Sink.written c.args.sink.now) (g.K.Sink.written c.run_lines.new.sink)
           (g.K.Sink.faults c.args.sink.now) (g.K.Sink.faults c.run_lines.new.sink) given.1 front)
     ]

@@ -1,4 +1,5 @@
-use Rattle.std.proofs.Common.{◌≡◌, ◌⊎◌, ℕ, ℤ, List, ◌++◌, length, take, sym, ◌∙◌, subst, Option, Some, inl, inr, refl, IfSome}
+use Rattle.std.proofs.Common.{◌≡◌, ◌⊎◌, ℕ, ℤ, List, ◌++◌, sym, ◌∙◌, subst, Option, Some, inr, refl}
+use Rattle.std.specs.Prelude.{slice_index_or}
 use Rattle.std.specs.Io.KnownBytes.{Appends}
 use Rattle.im_digest.specs.Digests.{Hash}
 use Rattle.im_disk.specs.Disk.{Told, after, seen}
@@ -10,9 +11,11 @@ use Rattle.im_edge.specs.Counts.{Rose}
 use Rattle.im_edge.specs.Sinks.{AddsPart}
 use Rattle.im_format.specs.Standing.{Stands}
 use Rattle.im_model.specs.declared.transactions.Transaction.{Transaction}
-use Rattle.im_session.specs.Served.{Serves, ServesAll}
-use Rattle.im_app.specs.Runs.{IsWhole, KeepsFound}
+use Rattle.im_opening.specs.Cut.{IsOpenedBy}
+use Rattle.im_session.specs.Served.{ServesAll}
+use Rattle.im_app.specs.Runs.{IsWhole, KeepsFound, WritesFront}
 use Rattle.im_app.proofs.FoundLemmas.{opened-keeps, served-keeps}
+use Rattle.im_app.proofs.GateLemmas.{gate-opened}
 use Rattle.im_app.proofs.ReportLemmas.{Opens, begins-left, is-front, is-whole, moments-both}
 use Rattle.im_app.proofs.RunLemmas.{damage-by, done-both, failed-behind, if-told, on-ok, stopped-for, wrote-either}
 use Rattle.im_app.proofs.run.run_lines.Goals as goal
@@ -44,6 +47,7 @@ returns-clause-report g c = λ script given e.
       found_is = if-told before (λ t. Stands hash (seen t) found) c.in-Ok.ensures.stands;
       opened = if-told before (λ t. Leaves (λ image. Stands hash image found) (Some (after Synced t)) mid) c.in-Ok.ensures.moments;
       grew = if-told before (λ t. Grows (Some (after Synced t)) mid) c.in-Ok.ensures.grows;
+      gate = gate-opened g.D.Disk.told hash c.in-Ok.kept c.in-Ok.ensures.kept before (if-told before (λ t. IsOpenedBy (slice_index_or c.in-Ok.kept.journal.ends 1 0) t mid) c.in-Ok.ensures.calls);
     } in
     let all : ServesAll hash constant c.in-Ok.kept.logs found c.args.lines.items mid now times_before times_now out =
     on-ok c.serve-disk.result.end (ServesAll hash constant c.in-Ok.kept.logs found c.args.lines.items mid now times_before times_now out) both.0 c.serve-disk.ensures.all in
@@ -73,6 +77,7 @@ returns-clause-part g c = λ script given e.
       found_is = if-told before (λ t. Stands hash (seen t) found) c.in-Ok.ensures.stands;
       opened = if-told before (λ t. Leaves (λ image. Stands hash image found) (Some (after Synced t)) mid) c.in-Ok.ensures.moments;
       grew = if-told before (λ t. Grows (Some (after Synced t)) mid) c.in-Ok.ensures.grows;
+      gate = gate-opened g.D.Disk.told hash c.in-Ok.kept c.in-Ok.ensures.kept before (if-told before (λ t. IsOpenedBy (slice_index_or c.in-Ok.kept.journal.ends 1 0) t mid) c.in-Ok.ensures.calls);
     } in
     let all : ServesAll hash constant c.in-Ok.kept.logs found c.args.lines.items mid now times_before times_now out =
     on-ok c.serve-disk.result.end (ServesAll hash constant c.in-Ok.kept.logs found c.args.lines.items mid now times_before times_now out) answered c.serve-disk.ensures.all in
@@ -109,18 +114,21 @@ returns-clause-front g c = λ script why given e.
       found_is = if-told before (λ t. Stands hash (seen t) found) c.in-Ok.ensures.stands;
       opened = if-told before (λ t. Leaves (λ image. Stands hash image found) (Some (after Synced t)) mid) c.in-Ok.ensures.moments;
       grew = if-told before (λ t. Grows (Some (after Synced t)) mid) c.in-Ok.ensures.grows;
+      gate = gate-opened g.D.Disk.told hash c.in-Ok.kept c.in-Ok.ensures.kept before (if-told before (λ t. IsOpenedBy (slice_index_or c.in-Ok.kept.journal.ends 1 0) t mid) c.in-Ok.ensures.calls);
     } in
     let wrote : W c.as_slice.result.now = wrote-either c.write_all-wrote.result (A c.as_slice.result.now) (faults_now ≡ faults_before) (B c.as_slice.result.now) (Rose faults_before faults_now)
     c.write_all-wrote.ensures.whole c.write_all-wrote.ensures.same c.write_all-wrote.ensures.part c.write_all-wrote.ensures.failed in
-    let told = is-front hash constant why script out c.args.lines.items found before mid now times_before times_now given opens c.serve-disk.ensures.grows front in
-    inr (record {
+    let told = is-front hash constant c.in-Ok.kept.logs why script out c.args.lines.items found before mid now times_before times_now given opens c.serve-disk.ensures.grows front in
+    let L : ℕ → Type 0 = λ n. WritesFront hash constant n why (Some script) before now times_before times_now sink_before sink_now faults_before faults_now in
+    let wrote_is : W out = subst W c.as_slice.ensures.value wrote in
+    inr (subst L c.in-Ok.ensures.logs (record {
       script = script;
       script_is = refl;
       octets = out;
       report = told.report;
       stops = told.stops;
-      wrote = subst W c.as_slice.ensures.value wrote;
-    })
+      wrote = wrote_is;
+    }))
 
 pub returns-clause-any_moment : goal.returns-clause-any_moment
 returns-clause-any_moment g c = λ t others told stands.

@@ -1,12 +1,47 @@
-use Rattle.std.proofs.Common.{map}
+use Rattle.std.proofs.Common.{map, sym, ◌∙◌, inl, inr}
 use Rattle.std.specs.String.{string_bytes}
+use Rattle.im_disk.proofs.Growing.{grows_none}
 use Rattle.im_words.proofs.FormLemmas.{form_asks_so, verify_asks}
+use Rattle.im_app.proofs.RunLemmas.{takes-none}
 use Rattle.im_app.proofs.top.top.Goals as goal
 
-pub returns-clause-form : goal.returns-clause-form
-returns-clause-form g c = λ logs link form.
-    (c.carry_out-status.ensures.form logs link form, form_asks_so (map string_bytes c.args.words.now) logs link form)
+pub returns-in-Ok-Run-clause-form : goal.returns-in-Ok-Run-clause-form
+returns-in-Ok-Run-clause-form g c = λ logs link form.
+    (c.run-status.ensures.never, form_asks_so (map string_bytes c.args.words.now) logs link form)
 
-pub returns-clause-verify_form : goal.returns-clause-verify_form
-returns-clause-verify_form g c = λ form.
-    (c.carry_out-status.ensures.verify_form form, verify_asks (map string_bytes c.args.words.now) form)
+pub returns-in-Ok-Verify-clause-form : goal.returns-in-Ok-Verify-clause-form
+returns-in-Ok-Verify-clause-form g c = λ logs link form.
+    (c.verdict-status.ensures.never, form_asks_so (map string_bytes c.args.words.now) logs link form)
+
+pub returns-in-Err-Usage-clause-form : goal.returns-in-Err-Usage-clause-form
+returns-in-Err-Usage-clause-form g c = λ logs link form.
+    let is = c.in-Err-Usage.is in
+    let usage = c.in-Err-Usage.field-0-is in
+    let none : ⊥ = elim (c.read_words.ensures.taken logs link form) [
+      | inl done ↦ (let e = sym done ∙ is in cc)
+      | inr memory ↦ (let e = sym memory ∙ is in cc)
+    ] in
+    absurd none
+
+pub returns-in-Err-Memory-clause-form : goal.returns-in-Err-Memory-clause-form
+returns-in-Err-Memory-clause-form g c = λ logs link form.
+    (λ usage. cc, form_asks_so (map string_bytes c.args.words.now) logs link form)
+
+pub returns-in-Err-Memory-clause-verify_form : goal.returns-in-Err-Memory-clause-verify_form
+returns-in-Err-Memory-clause-verify_form g c = λ form.
+    (λ usage. cc, verify_asks (map string_bytes c.args.words.now) form)
+
+pub returns-in-Ok-Verify-clause-grows : goal.returns-in-Ok-Verify-clause-grows
+returns-in-Ok-Verify-clause-grows g c = grows_none (g.D.Disk.told c.args.disk)
+
+pub returns-in-Err-Usage-clause-grows : goal.returns-in-Err-Usage-clause-grows
+returns-in-Err-Usage-clause-grows g c = grows_none (g.D.Disk.told c.args.disk)
+
+pub returns-in-Err-Memory-clause-grows : goal.returns-in-Err-Memory-clause-grows
+returns-in-Err-Memory-clause-grows g c = grows_none (g.D.Disk.told c.args.disk)
+
+pub returns-in-Err-Usage-clause-taken : goal.returns-in-Err-Usage-clause-taken
+returns-in-Err-Usage-clause-taken g c = takes-none 67112960 (g.S.Source.left c.args.source.now)
+
+pub returns-in-Err-Memory-clause-taken : goal.returns-in-Err-Memory-clause-taken
+returns-in-Err-Memory-clause-taken g c = takes-none 67112960 (g.S.Source.left c.args.source.now)

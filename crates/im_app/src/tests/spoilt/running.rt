@@ -8,14 +8,16 @@ use im_edge::sink::Writing;
 use im_edge::source::Reading;
 use std::test::Fail;
 
+// A block has 4096 octets: 16,384 of them are as many as a script may have, and the one behind them tells that there
+// are more. The others stay in the source.
 #[test]
 fn a_source_that_fails_or_is_too_long_is_told(rt: HostRuntime) -> Result<(), Fail> {
     let cases = [
-        (3, true, Status::ReadFault),
-        (3, false, Status::Ok),
-        (1 << 32, false, Status::Long),
+        (3, true, Status::ReadFault, 0),
+        (3, false, Status::Ok, 0),
+        (20_000, false, Status::Long, 3_615),
     ];
-    for (left, fails, want) in cases {
+    for (left, fails, want, behind) in cases {
         let mut source = Blocks {
             left,
             fails,
@@ -24,6 +26,7 @@ fn a_source_that_fails_or_is_too_long_is_told(rt: HostRuntime) -> Result<(), Fai
         let mut sink = Writing::new(Vec::new(rt.alloc()));
         let status = status_of(&rt, &Sum, &["im", "run"], &mut source, &mut sink)?;
         assert_eq!(rt; status, want);
+        assert_eq!(rt; source.left, behind);
         assert!(rt; sink.inner.is_empty());
     }
     Ok(())

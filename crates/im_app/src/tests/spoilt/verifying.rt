@@ -56,10 +56,14 @@ fn a_keeper_that_fails_ends_the_run(rt: HostRuntime) -> Result<(), Fail> {
     Ok(())
 }
 
+// A stream of 16,384 blocks is as long as one may be, and the block behind them tells that there are more.
 #[test]
 fn a_source_that_fails_or_is_too_long_is_told(rt: HostRuntime) -> Result<(), Fail> {
-    let cases = [(3, true, Status::ReadFault), (1 << 32, false, Status::Long)];
-    for (left, fails, want) in cases {
+    let cases = [
+        (3, true, Status::ReadFault, 0),
+        (20_000, false, Status::Long, 3_615),
+    ];
+    for (left, fails, want, behind) in cases {
         let mut source = Blocks {
             left,
             fails,
@@ -69,6 +73,7 @@ fn a_source_that_fails_or_is_too_long_is_told(rt: HostRuntime) -> Result<(), Fai
         let mut keeper = MemKeeper::new(rt.alloc());
         let status = verify_with(&rt, &Sum, &mut source, &mut sink, &mut keeper)?;
         assert_eq!(rt; status, want);
+        assert_eq!(rt; source.left, behind);
         assert!(rt; sink.inner.is_empty());
     }
     Ok(())
