@@ -20,7 +20,7 @@ written old at piece = take at old ++ piece ++ drop (at + length piece) old
 abbrev pub with_file : Files → ℕ → List ℕ → Files
 with_file files file octets k = if k == file then octets else files k
 
--- what reads give after these calls: what was written, whether or not it is durable
+-- what reads give after these calls: what was written, whether or not it is durable; a call that failed changes nothing
 abbrev pub seen_after : Files → List Call → Files
 seen_after first [] = first
 seen_after first (Wrote file at piece ∷ calls) = with_file (seen_after first calls) file (written (seen_after first calls file) at piece)
@@ -29,7 +29,8 @@ seen_after first (Synced ∷ calls) = seen_after first calls
 seen_after first (Missed ∷ calls) = seen_after first calls
 
 -- after a write of n octets, from a place within the old ones on, that a crash cuts short: any octets in the range and
--- past the old end, the same elsewhere. From a place past their end no disk takes a write, and this leaves the old ones.
+-- past the old end, the same elsewhere. Where the place lies past their end, a write before it having been cut short, the
+-- old ones stay.
 pub record Torn (at n : ℕ) (old new : List ℕ) : Type 0 where
   pub before : take at new ≡ take at old
   pub after : drop (at + n) new ≡ drop (at + n) old

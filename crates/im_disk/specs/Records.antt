@@ -12,7 +12,7 @@ files_of files k = slice_index_or files k []
 abbrev pub told_of : List (List ℕ) → List Call → Told
 told_of first calls = record { first = files_of first; calls = reverse calls }
 
--- a write of a disk's file, from a place within what reads give after these calls, the last one first
+-- a write of a disk's file, from a place below 2^62 and within what reads give after these calls, the last one first
 pub record LiesBehind (first : Files) (calls : List Call) (number at : ℕ) : Type 0 where
   pub file : number < 16
   pub within : at ≤ length (seen_after first calls number)

@@ -5,7 +5,8 @@ use Rattle.im_edge.specs.Counts.{Rose}
 use Rattle.im_edge.specs.declared.sink.Given.{Given}
 use Rattle.im_edge.specs.declared.sink.Given.TheVariants.{Gave, Failed}
 
--- what a give does to what was written: the octets that the sink took are added, and none at `Failed`
+-- what a give does to what was written: the octets that the sink took are added, at least one of a piece that isn't empty,
+-- and none at `Failed`
 abbrev pub Gives : Given → List ℕ → Option (List ℕ) → Option (List ℕ) → Type 0
 Gives (Gave n) piece before after = (n ≤ length piece) × (0 < length piece → 1 ≤ n) × Appends before after (take n piece)
 Gives Failed piece before after = Keeps before after

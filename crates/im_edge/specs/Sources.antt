@@ -7,7 +7,8 @@ use Rattle.im_edge.specs.declared.source.Taken.TheVariants.{Took, End, Failed}
 use Rattle.im_edge.specs.declared.source.ReadError.{ReadError}
 use Rattle.im_edge.specs.declared.source.ReadError.TheVariants.{Memory, Long, Failed as ReadFailed}
 
--- what a take does to what is left: it takes the octets that it gives, and none at `End` and `Failed`
+-- what a take does to what is left: it takes the octets that it gives, one at least, and none at `End` and `Failed`; into a
+-- buffer with room `End` comes only where nothing is left
 abbrev pub Takes : Taken → List ℕ → Option (List ℕ) → Option (List ℕ) → Type 0
 Takes (Took n) buffer before after = (1 ≤ n) × (n ≤ length buffer) × Consumes before after (take n buffer)
 Takes End buffer before after = Keeps before after × (0 < length buffer → IfSome before (λ xs. xs ≡ []))

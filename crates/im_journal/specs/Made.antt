@@ -32,7 +32,7 @@ pub record MadeUpTo (calls left : List Call) (before now : Option Told) : Type 0
 
 -- What a step does that is to make these calls: where it succeeds it makes all of them, in order, and no other. Where
 -- memory ran out it made those before the ones that it says are left. Where the disk failed it made a front part,
--- and the next one failed.
+-- and the next one failed. Of its other errors nothing is said.
 pub record Makes {T E : Type 0} (fault memory : E) (calls left : List Call) (before now : Option Told) (result : Result T E) : Type 0 where
   pub ok : OnOk result (now ≡ option_map (after_all calls) before)
   pub failed : IsErrOf result fault
