@@ -51,6 +51,79 @@ fn walk<R: Abort>(
     Ok(())
 }
 
+// Two writes, and no sync yet.
+fn write_twice<R: Abort>(rt: &R, alloc: Global, disk: &mut MemDisk) -> Result<(), AllocError> {
+    assert_eq!(rt; put(disk, 0, 1, b"XY"), Ok(()));
+    let may = [("abcd", "xy"), ("aXYd", "xy"), ("a??d", "xy")];
+    let may_not = [
+        ("bXYd", "xy"),
+        ("aXYe", "xy"),
+        ("aXY", "xy"),
+        ("aXYd?", "xy"),
+        ("aXYd", "x?"),
+    ];
+    walk(rt, alloc, disk, &may, &may_not)?;
+
+    assert_eq!(rt; put(disk, 1, 2, b"z"), Ok(()));
+    let may = [("abcd", "xy"), ("a?Yd", "xyz"), ("aXYd", "xy?")];
+    let may_not = [
+        ("aXYd", "xyz?"),
+        ("aXYd", "x?z"),
+        ("aXYd", "x"),
+        ("aXYd?", "xyz"),
+    ];
+    walk(rt, alloc, disk, &may, &may_not)
+}
+
+// A sync: nothing but what was written may be left.
+fn sync_both<R: Abort>(rt: &R, alloc: Global, disk: &mut MemDisk) -> Result<(), AllocError> {
+    assert_eq!(rt; disk.sync(), Ok(()));
+    let may_not = [
+        ("abcd", "xy"),
+        ("aXYd", "xy"),
+        ("abcd", "xyz"),
+        ("aXYd", "xy?"),
+    ];
+    walk(rt, alloc, disk, &[("aXYd", "xyz")], &may_not)
+}
+
+// A failed write changes no octet that reads give, and may leave any within its range.
+fn fail_a_write<R: Abort>(rt: &R, alloc: Global, disk: &mut MemDisk) -> Result<(), AllocError> {
+    assert_eq!(rt; put(disk, 0, 4, b"ef"), Err(DiskError::Failed));
+    assert_eq!(rt; disk.file(0), b"aXYd".as_slice());
+    let may = [("aXYd", "xyz"), ("aXYd?", "xyz"), ("aXYdef", "xyz")];
+    let may_not = [
+        ("aXYdef?", "xyz"),
+        ("aXY?", "xyz"),
+        ("aXY", "xyz"),
+        ("aXYd", "xy"),
+    ];
+    walk(rt, alloc, disk, &may, &may_not)
+}
+
+// A failed sync settles nothing; the next one settles what reads give.
+fn fail_a_sync<R: Abort>(rt: &R, alloc: Global, disk: &mut MemDisk) -> Result<(), AllocError> {
+    assert_eq!(rt; put(disk, 0, 0, b"A"), Ok(()));
+    assert_eq!(rt; disk.sync(), Err(DiskError::Failed));
+    let may = [
+        ("aXYd", "xyz"),
+        ("AXYd", "xyz"),
+        ("?XYd?", "xyz"),
+        ("AXYdef", "xyz"),
+    ];
+    let may_not = [
+        ("A?Yd", "xyz"),
+        ("AXY", "xyz"),
+        ("AXYdef?", "xyz"),
+        ("AXYd", "xyz?"),
+    ];
+    walk(rt, alloc, disk, &may, &may_not)?;
+
+    assert_eq!(rt; disk.sync(), Ok(()));
+    let may_not = [("aXYd", "xyz"), ("?XYd", "xyz"), ("AXYd?", "xyz")];
+    walk(rt, alloc, disk, &[("AXYd", "xyz")], &may_not)
+}
+
 // The fourth changing call fails, and the sixth: a write past the end, and a sync.
 #[test]
 fn a_disk_in_memory_is_walked_through(rt: HostRuntime) -> Result<(), Fail> {
@@ -65,68 +138,10 @@ fn a_disk_in_memory_is_walked_through(rt: HostRuntime) -> Result<(), Fail> {
         ("abcd", "x"),
     ];
     walk(&rt, alloc, &disk, &[("abcd", "xy")], &not_yet)?;
-
-    assert_eq!(rt; put(&mut disk, 0, 1, b"XY"), Ok(()));
-    let may = [("abcd", "xy"), ("aXYd", "xy"), ("a??d", "xy")];
-    let may_not = [
-        ("bXYd", "xy"),
-        ("aXYe", "xy"),
-        ("aXY", "xy"),
-        ("aXYd?", "xy"),
-        ("aXYd", "x?"),
-    ];
-    walk(&rt, alloc, &disk, &may, &may_not)?;
-
-    assert_eq!(rt; put(&mut disk, 1, 2, b"z"), Ok(()));
-    let may = [("abcd", "xy"), ("a?Yd", "xyz"), ("aXYd", "xy?")];
-    let may_not = [
-        ("aXYd", "xyz?"),
-        ("aXYd", "x?z"),
-        ("aXYd", "x"),
-        ("aXYd?", "xyz"),
-    ];
-    walk(&rt, alloc, &disk, &may, &may_not)?;
-
-    assert_eq!(rt; disk.sync(), Ok(()));
-    let may_not = [
-        ("abcd", "xy"),
-        ("aXYd", "xy"),
-        ("abcd", "xyz"),
-        ("aXYd", "xy?"),
-    ];
-    walk(&rt, alloc, &disk, &[("aXYd", "xyz")], &may_not)?;
-
-    // A failed write changes no octet that reads give, and may leave any within its range.
-    assert_eq!(rt; put(&mut disk, 0, 4, b"ef"), Err(DiskError::Failed));
-    assert_eq!(rt; disk.file(0), b"aXYd".as_slice());
-    let may = [("aXYd", "xyz"), ("aXYd?", "xyz"), ("aXYdef", "xyz")];
-    let may_not = [
-        ("aXYdef?", "xyz"),
-        ("aXY?", "xyz"),
-        ("aXY", "xyz"),
-        ("aXYd", "xy"),
-    ];
-    walk(&rt, alloc, &disk, &may, &may_not)?;
-
-    assert_eq!(rt; put(&mut disk, 0, 0, b"A"), Ok(()));
-    assert_eq!(rt; disk.sync(), Err(DiskError::Failed));
-    let may = [
-        ("aXYd", "xyz"),
-        ("AXYd", "xyz"),
-        ("?XYd?", "xyz"),
-        ("AXYdef", "xyz"),
-    ];
-    let may_not = [
-        ("A?Yd", "xyz"),
-        ("AXY", "xyz"),
-        ("AXYdef?", "xyz"),
-        ("AXYd", "xyz?"),
-    ];
-    walk(&rt, alloc, &disk, &may, &may_not)?;
-
-    assert_eq!(rt; disk.sync(), Ok(()));
-    let may_not = [("aXYd", "xyz"), ("?XYd", "xyz"), ("AXYd?", "xyz")];
-    walk(&rt, alloc, &disk, &[("AXYd", "xyz")], &may_not)?;
+    write_twice(&rt, alloc, &mut disk)?;
+    sync_both(&rt, alloc, &mut disk)?;
+    fail_a_write(&rt, alloc, &mut disk)?;
+    fail_a_sync(&rt, alloc, &mut disk)?;
     assert_eq!(rt; disk.time(), 7);
     assert_eq!(rt; disk.faults(), 2);
     Ok(())

@@ -247,56 +247,27 @@ fn a_write_behind_one_that_failed(rt: HostRuntime) -> Result<(), Fail> {
     Ok(())
 }
 
+// A write of the file 0 that failed.
+fn tore(at: u64, n: u64) -> Call {
+    Call::Tore { file: 0, at, n }
+}
+
 #[test]
 fn a_disk_takes_no_call_beyond_its_files(rt: HostRuntime) -> Result<(), Fail> {
     let alloc = rt.alloc();
     let first = files(alloc, FIRST)?;
     assert_eq!(rt; first.len(), 16);
-    assert!(rt;
-        are_within(
-            first.as_slice(),
-            &[Call::Tore {
-                file: 0,
-                at: 4,
-                n: 9
-            }]
-        )
-    );
-    assert!(rt;
-        !are_within(
-            first.as_slice(),
-            &[Call::Tore {
-                file: 0,
-                at: 5,
-                n: 9
-            }]
-        )
-    );
-    assert!(rt;
-        are_within(
-            first.as_slice(),
-            &[wrote(alloc, 0, 4, "EF")?, wrote(alloc, 0, 6, "")?]
-        )
-    );
-    assert!(rt;
-        !are_within(
-            first.as_slice(),
-            &[
-                Call::Tore {
-                    file: 0,
-                    at: 4,
-                    n: 2
-                },
-                wrote(alloc, 0, 6, "")?
-            ]
-        )
-    );
-    assert!(rt;
-        are_within(
-            first.as_slice(),
-            &[wrote(alloc, 15, 0, "z")?, Call::Missed, Call::Synced]
-        )
-    );
-    assert!(rt; !are_within(first.as_slice(), &[wrote(alloc, 16, 0, "z")?]));
+    let at_its_end = [tore(4, 9)];
+    let past_its_end = [tore(5, 9)];
+    let behind_a_write = [wrote(alloc, 0, 4, "EF")?, wrote(alloc, 0, 6, "")?];
+    let behind_a_failed_write = [tore(4, 2), wrote(alloc, 0, 6, "")?];
+    let of_the_last_file = [wrote(alloc, 15, 0, "z")?, Call::Missed, Call::Synced];
+    let of_no_file = [wrote(alloc, 16, 0, "z")?];
+    assert!(rt; are_within(first.as_slice(), &at_its_end));
+    assert!(rt; !are_within(first.as_slice(), &past_its_end));
+    assert!(rt; are_within(first.as_slice(), &behind_a_write));
+    assert!(rt; !are_within(first.as_slice(), &behind_a_failed_write));
+    assert!(rt; are_within(first.as_slice(), &of_the_last_file));
+    assert!(rt; !are_within(first.as_slice(), &of_no_file));
     Ok(())
 }
