@@ -1,19 +1,15 @@
--- How what a disk tells of its calls grows as a journal takes its steps, and at opening.
-use Rattle.std.proofs.Common.{◌≡◌, ◌<◌, ℕ, List, [], ◌∷◌, refl, subst, sym}
-use Rattle.std.specs.Prelude.{Option, Some, Result, Ok, Err, OnOk, IsErrOf}
+-- How what a disk tells of its calls grows as a journal takes its steps.
+use Rattle.std.proofs.Common.{◌≡◌, ◌<◌, ℕ, List, ◌∷◌, refl, subst, sym}
+use Rattle.std.specs.Prelude.{Option, Result, Ok, Err, OnOk, IsErrOf}
 use Rattle.std.specs.Option.{option_map}
-use Rattle.im_clog.specs.declared.marks.Uncounted.{Uncounted}
-use Rattle.im_clog.specs.declared.marks.Uncounted.TheVariants.{Missing, Closed, Short}
-use Rattle.im_disk.specs.Disk.{Told, after}
+use Rattle.im_disk.specs.Disk.{Told}
 use Rattle.im_disk.specs.Grown.{Grows, after_all}
 use Rattle.im_disk.specs.declared.calls.Call.{Call}
-use Rattle.im_disk.specs.declared.calls.Call.TheVariants.{Synced, Wrote}
 use Rattle.im_disk.proofs.Growing.{grows_both, grows_none, grows_one}
 use Rattle.im_journal.specs.Kept.{Kept}
 use Rattle.im_journal.specs.Made.{MadeUpTo, Makes, failed_call}
 use Rattle.im_journal.specs.declared.errors.JournalError.{JournalError}
 use Rattle.im_journal.specs.declared.errors.JournalError.TheVariants.{DiskFault, Memory, Stopped}
-use Rattle.im_opening.specs.Cut.{IsOpenedBy, repaired}
 
 -- a front part of some calls was made
 grows-front : (calls left : List Call) (before now : Option Told) → MadeUpTo calls left before now → Grows before now
@@ -42,13 +38,3 @@ step-grows {D} {T} told calls left old new (Err DiskFault) makes stopped going =
 step-grows {D} {T} told calls left old new (Err Memory) makes stopped going = (makes-grow {T = T} DiskFault Memory calls left (told old.disk) (told new.disk) (Err Memory) makes).2 refl
 step-grows {D} {T} told calls left old new (Err (Stopped faults)) makes stopped going =
     subst (λ (k : Kept D). Grows (told old.disk) (told k.disk)) (sym (stopped (going faults refl)).1) (grows_none (told old.disk))
-
--- a repair makes no call, or shuts a gate
-repair-grows : (behind : Uncounted) (gate : ℕ) (t : Told) (now : Option Told) → now ≡ Some (repaired behind gate t) → Grows (Some t) now
-repair-grows Missing gate t now shut = (Wrote 1 gate (0 ∷ []) ∷ Synced ∷ [], shut)
-repair-grows (Closed octet) gate t now same = ([], same)
-repair-grows (Short len) gate t now shut = (Wrote 1 gate (0 ∷ []) ∷ Synced ∷ [], shut)
-
--- behind its sync opening makes the calls of a repair
-pub opened-grows : (gate : ℕ) (t : Told) (now : Option Told) → IsOpenedBy gate t now → Grows (Some (after Synced t)) now
-opened-grows gate t now is = repair-grows is.0 gate (after Synced t) now is.2

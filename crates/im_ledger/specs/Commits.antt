@@ -28,7 +28,7 @@ abbrev pub MakesDurable : {D T : Type 0} → (D → Option Told) → List Record
 MakesDurable told records old new result = (left : List Call) × Makes DiskFault Memory (calls_of old records) left (told old.disk) (told new.disk) result
 
 -- what a commit of a transaction has the disk do: nothing, where memory ran out before its record was made; else the
--- calls that make the batch of its record durable
+-- calls that make the batch of its record durable, as far as they came, and the one that failed, if one did
 abbrev pub CommitMakes : {D T : Type 0} → (D → Option Told) → Hash → Transaction → KeptHistory D → Kept D → Result T CommitError → Type 0
 CommitMakes told hash tx old journal result =
     (IsErrOf result Memory × (journal ≡ old.journal))

@@ -20,8 +20,8 @@ pub record KeptHistory (D : Type 0) : Type 0 where
   pub held : Held
   pub logs : ℕ
 
--- the disk holds exactly the transactions of the ledger, no batch is in progress, the journal counts no failure, and
--- values are put over 1 to 4 value logs
+-- the lists are a ledger's, the disk holds exactly its transactions, no batch is in progress, the journal counts no
+-- failure, and values are put over 1 to 4 value logs
 pub record IsKept {D : Type 0} (told : D → Option Told) (hash : Hash) (k : KeptHistory D) : Type 0 where
   pub ledger : IsLedger hash k.held
   pub batches : List (List Record)
@@ -40,8 +40,8 @@ pub record IsNextRecord {D : Type 0} (hash : Hash) (k : KeptHistory D) (tx : Tra
   pub put : (history : List Transaction) (batches : List (List Record)) → AreFirst hash history batches k.journal.durable k.journal.ends
       → AreAppended k.logs (k.journal.durable + 1) 0 (refs_of (joined batches)) r.refs
 
--- behind these batches the journal is at rest with one more, of one record: that of this transaction, with its values
--- put over so many value logs as those of the history's last number
+-- The journal is at rest, and behind these batches stands one more, of this transaction's record alone, whose values are
+-- put over so many value logs as those of the history's last number.
 pub record HasCommitted {D : Type 0} (told : D → Option Told) (hash : Hash) (history : List Transaction) (batches : List (List Record)) (logs : ℕ) (tx : Transaction) (journal : Kept D) : Type 0 where
   pub written : Record
   pub tx_is : written.tx ≡ tx

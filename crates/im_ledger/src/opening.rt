@@ -4,6 +4,7 @@ ghost use Rattle.im_disk.specs.Grown.{Grows};
 ghost use Rattle.im_disk.specs.Moments.{Leaves};
 ghost use Rattle.im_disk.specs.declared.calls.Call.TheVariants.{Synced};
 ghost use Rattle.im_edge.specs.Counts.{Rose};
+ghost use Rattle.im_format.specs.Batches.{gate_of};
 ghost use Rattle.im_format.specs.Damages.{image_checks};
 ghost use Rattle.im_format.specs.Standing.{Stands};
 ghost use Rattle.im_format.specs.declared.damages.Damage.{Damage};
@@ -11,7 +12,7 @@ ghost use Rattle.im_model.specs.declared.transactions.Transaction.{Transaction};
 ghost use Rattle.im_mtree.specs.Checks.{first_fail};
 ghost use Rattle.im_opening.specs.Cut.{IsOpenedBy, WasOpened};
 ghost use Rattle.im_ledger.specs.Histories.{IsKept};
-ghost use Rattle.im_ledger.specs.Openings.{SyncsAtMost};
+ghost use Rattle.im_ledger.specs.Openings.{SyncsAtMost, WasBegun};
 
 use crate::kept::KeptLedger;
 use crate::ledger::Ledger;
@@ -47,11 +48,12 @@ pub fn open_ledger<D: Disk, H: Hash32>(
         → IfOk result (λ kept. Leaves (λ image. Stands (H.digest hash.now) image kept.held.transactions) (Some (after Synced t)) (D.told kept.journal.disk)) }
     ensures calls { (t : Told) → D.told disk ≡ Some t
         → IfOk result (λ kept. IsOpenedBy (slice_index_or kept.journal.ends 1 0) t (D.told kept.journal.disk)) }
-    ensures grows { (t : Told) → D.told disk ≡ Some t → IfOk result (λ kept. Grows (Some (after Synced t)) (D.told kept.journal.disk)) }
     ensures grown { MatchResult result (λ kept. Grows (D.told disk) (D.told kept.journal.disk)) (λ failed. Grows (D.told disk) (D.told failed.disk)) }
     ensures faults { IfOk result (λ kept. D.faults kept.journal.disk ≡ D.faults disk) }
     ensures off { (t : Told) (history : List Transaction) → D.told disk ≡ Some t → Stands (H.digest hash.now) (seen t) history
         → IfErr result (λ failed. WasOpened (H.digest hash.now) history t (D.told failed.disk)) }
+    ensures begun { (t : Told) (history : List Transaction) → D.told disk ≡ Some t → (stands : Stands (H.digest hash.now) (seen t) history)
+        → IfErr result (λ failed. WasBegun failed.error (gate_of (length stands.batches)) t (D.told failed.disk)) }
     ensures damaged { (t : Told) (damage : Damage) → D.told disk ≡ Some t
         → IfErr result (λ failed. failed.error ≡ OpenError.Damaged damage
         → (first_fail (image_checks (H.digest hash.now) (seen t)) ≡ Err damage) × (D.told failed.disk ≡ Some (after Synced t))) }

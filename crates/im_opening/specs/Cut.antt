@@ -1,4 +1,4 @@
--- A commit log that ends before the gate behind a batch that doesn't count.
+-- What opening does to a disk: its sync, and the repair of the gate behind the batches that count.
 use Rattle.std.specs.Prelude.{◌≡◌, ◌≢◌, ◌⊎◌, ◌≤◌, ◌+◌, ℕ, List, [], ◌∷◌, length, slice_index_or, All, Option, Some}
 use Rattle.im_clog.specs.Marks.{Lacks}
 use Rattle.im_clog.specs.declared.marks.Uncounted.{Uncounted}
@@ -7,12 +7,15 @@ use Rattle.im_digest.specs.Digests.{Hash}
 use Rattle.im_disk.specs.Disk.{Files, Images, Told, after, seen}
 use Rattle.im_disk.specs.Moments.{Leaves}
 use Rattle.im_disk.specs.declared.calls.Call.TheVariants.{Wrote, Tore, Synced, Missed}
+use Rattle.im_disk.specs.declared.disk.DiskError.{DiskError}
+use Rattle.im_disk.specs.declared.disk.DiskError.TheVariants.{Failed, Memory}
 use Rattle.im_format.specs.Batches.{gate_of, spans_of}
 use Rattle.im_format.specs.Spans.{Reads, octet_span}
 use Rattle.im_format.specs.Standing.{Stands}
 use Rattle.im_format.specs.declared.records.Record.{Record}
 use Rattle.im_model.specs.declared.transactions.Transaction.{Transaction}
-use Rattle.im_opening.specs.Parts.{batches_in}
+use Rattle.im_opening.specs.declared.errors.OpenError.{OpenError}
+use Rattle.im_opening.specs.declared.errors.OpenError.TheVariants as opened
 use Rattle.im_opening.specs.declared.reading.Opened.{Opened}
 
 -- the image stands for this history, this is the place of the gate behind its batches, and the commit log ends before
@@ -44,12 +47,12 @@ repaired Missing gate t = shut_at gate t
 repaired (Closed octet) gate t = t
 repaired (Short len) gate t = shut_at gate t
 
--- what closing the gate has done where it fails: nothing; a write that failed, of some part of its one octet; the
--- whole write; or the write, and then a sync that failed
-abbrev pub IsHalfShut : ℕ → Told → Option Told → Type 0
-IsHalfShut gate t now =
-    (now ≡ Some t) ⊎ ((now ≡ Some (after (Tore 1 gate 1) t)) ⊎ ((now ≡ Some (after (Wrote 1 gate (0 ∷ [])) t))
-    ⊎ (now ≡ Some (after Missed (after (Wrote 1 gate (0 ∷ [])) t)))))
+-- what closing the gate has done where the disk fails at it: a write that failed; or the write, and then a sync that
+-- failed; and where memory runs out: nothing, or the write
+abbrev pub IsHalfShut : DiskError → ℕ → Told → Option Told → Type 0
+IsHalfShut Failed gate t now =
+    (now ≡ Some (after (Tore 1 gate 1) t)) ⊎ (now ≡ Some (after Missed (after (Wrote 1 gate (0 ∷ [])) t)))
+IsHalfShut Memory gate t now = (now ≡ Some t) ⊎ (now ≡ Some (after (Wrote 1 gate (0 ∷ [])) t))
 
 -- what opening a disk has done, where this is the gate behind the batches that count: a sync, and the repair that the
 -- reason asks for, why no batch counts at the gate in what reads gave
@@ -72,11 +75,29 @@ pub record IsKept (batches : List (List Record)) (ends : List ℕ) (t : Told) : 
   pub each : (image : Files) → Images t image → IsHeld batches ends image
   pub here : IsHeld batches ends (seen t)
 
--- what opening a disk has done that wasn't opened, whatever its files: nothing; a sync that failed; one sync; or, where
--- what reads gave stands for a history, a sync and then a part of closing the gate behind the batches that count, and
--- at every moment behind the sync each image stands for the history
-abbrev pub WasLeft : Hash → Told → Option Told → Type 0
-WasLeft hash t now =
-    (now ≡ Some t) ⊎ ((now ≡ Some (after Missed t)) ⊎ ((now ≡ Some (after Synced t))
-    ⊎ ((history : List Transaction) × Stands hash (seen t) history × Leaves (λ image. Stands hash image history) (Some (after Synced t)) now
-    × IsHalfShut (gate_of (length (batches_in (seen t)))) (after Synced t) now)))
+-- what the repair of a gate has done where it ends in an error, by why no batch counts there: a part of closing it; where
+-- it is closed the repair does nothing, and has no error
+abbrev pub IsHalfRepaired : Uncounted → DiskError → ℕ → Told → Option Told → Type 0
+IsHalfRepaired Missing error gate t now = IsHalfShut error gate t now
+IsHalfRepaired (Closed octet) error gate t now = ⊥
+IsHalfRepaired (Short len) error gate t now = IsHalfShut error gate t now
+
+-- what opening a disk has done where that repair ends in an error, and this is the gate behind the batches that count: a
+-- sync, and a part of the repair that the reason asks for, why no batch counts at the gate in what reads gave
+abbrev pub IsHalfOpened : DiskError → ℕ → Told → Option Told → Type 0
+IsHalfOpened error gate t now = (behind : Uncounted) × Lacks (seen t 1) gate behind × IsHalfRepaired behind error gate (after Synced t) now
+
+-- where what reads gave stands for a history, that was done, and at every moment behind the sync each image stands for
+-- the history
+abbrev pub StopsAtGate : Hash → DiskError → Told → Option Told → Type 0
+StopsAtGate hash error t now =
+    (history : List Transaction) × (stands : Stands hash (seen t) history) × Leaves (λ image. Stands hash image history) (Some (after Synced t)) now
+    × IsHalfOpened error (gate_of (length stands.batches)) t now
+
+-- What opening a disk has done that wasn't opened, by its error, whatever the files are. Where the disk failed: a sync that
+-- failed; one sync alone; or it stopped at the gate. Where memory ran out: nothing; one sync; or it
+-- stopped at the gate. Where the files are damaged: one sync.
+abbrev pub WasLeft : Hash → OpenError → Told → Option Told → Type 0
+WasLeft hash opened.DiskFault t now = (now ≡ Some (after Missed t)) ⊎ ((now ≡ Some (after Synced t)) ⊎ StopsAtGate hash Failed t now)
+WasLeft hash opened.Memory t now = (now ≡ Some t) ⊎ ((now ≡ Some (after Synced t)) ⊎ StopsAtGate hash Memory t now)
+WasLeft hash (opened.Damaged damage) t now = now ≡ Some (after Synced t)

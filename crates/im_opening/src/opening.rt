@@ -1,4 +1,4 @@
-ghost use Rattle.std.specs.Prelude.{◌≡◌, List, Some, IfOk, IfErr, IfSome, OnOk, OnErr, IsErrOf, MatchResult};
+ghost use Rattle.std.specs.Prelude.{◌≡◌, List, Some, IfOk, IfErr, IfSome, OnOk, IsErrOf, MatchResult};
 ghost use Rattle.std.specs.Option.{option_map};
 ghost use Rattle.im_disk.specs.Disk.{Told, after, seen};
 ghost use Rattle.im_disk.specs.Grown.{Grows};
@@ -59,7 +59,7 @@ pub fn open_files<D: Disk, H: Hash32>(
     ensures grows { Grows (D.told disk.old) (D.told disk.new) }
     ensures damaged { (t : Told) (d : Damage) → D.told disk.old ≡ Some t → IsErrOf result (OpenError.Damaged d)
         → D.told disk.new ≡ Some (after Synced t) }
-    ensures left { (t : Told) → D.told disk.old ≡ Some t → OnErr result (WasLeft (H.digest hash.now) t (D.told disk.new)) }
+    ensures left { (t : Told) → D.told disk.old ≡ Some t → IfErr result (λ error. WasLeft (H.digest hash.now) error t (D.told disk.new)) }
     ensures cause { HasOpenCause (D.faults disk.old) (D.faults disk.new) result }
 {
     disk.sync()?;
@@ -107,7 +107,7 @@ pub fn open_disk<D: Disk, H: Hash32>(
     ensures damaged { (t : Told) (d : Damage) → D.told disk ≡ Some t
         → IfErr result (λ failed. failed.error ≡ OpenError.Damaged d → D.told failed.disk ≡ Some (after Synced t)) }
     ensures left { (t : Told) → D.told disk ≡ Some t
-        → IfErr result (λ failed. WasLeft (H.digest hash.now) t (D.told failed.disk)) }
+        → IfErr result (λ failed. WasLeft (H.digest hash.now) failed.error t (D.told failed.disk)) }
     ensures faults { IfOk result (λ r. D.faults r.0 ≡ D.faults disk) }
     ensures cause { IfErr result (λ failed. (failed.error ≡ OpenError.DiskFault) → Rose (D.faults disk) (D.faults failed.disk)) }
     ensures others { IfErr result (λ failed. (failed.error ≡ OpenError.DiskFault → ⊥) → D.faults failed.disk ≡ D.faults disk) }

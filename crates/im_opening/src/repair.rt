@@ -1,4 +1,4 @@
-ghost use Rattle.std.specs.Prelude.{◌≡◌, ◌≤◌, ◌<◌, ◌^◌, length, List, Some, OnOk, IfSome, OnErr};
+ghost use Rattle.std.specs.Prelude.{◌≡◌, ◌≤◌, ◌<◌, ◌^◌, length, List, Some, OnOk, IfErr, IfSome};
 ghost use Rattle.std.specs.Option.{option_map};
 ghost use Rattle.im_digest.specs.Digests.{Hash};
 ghost use Rattle.im_disk.specs.Causes.{HasCause};
@@ -12,7 +12,7 @@ ghost use Rattle.im_opening.specs.Parts.{batches_in};
 ghost use Rattle.im_disk.specs.Moments.{Leaves, LeavesNow};
 ghost use Rattle.im_format.specs.Standing.{Stands};
 ghost use Rattle.im_model.specs.declared.transactions.Transaction.{Transaction};
-ghost use Rattle.im_opening.specs.Cut.{IsCut, IsHalfShut, IsKept, IsShut, repaired, shut_at};
+ghost use Rattle.im_opening.specs.Cut.{IsCut, IsHalfRepaired, IsHalfShut, IsKept, IsShut, repaired, shut_at};
 
 use crate::reading::Opened;
 use im_clog::marks::Uncounted;
@@ -28,7 +28,7 @@ pub(crate) fn shut_gate<D: Disk>(disk: &mut D, gate: u64) -> Result<(), DiskErro
         → Leaves (λ image. Stands hash image history) (D.told disk.old) (D.told disk.new) }
     ensures shut { OnOk result (IfSome (D.told disk.new) (λ t. IsShut (seen t) gate)) }
     ensures written { OnOk result (D.told disk.new ≡ option_map (shut_at gate) (D.told disk.old)) }
-    ensures half { (t : Told) → D.told disk.old ≡ Some t → OnErr result (IsHalfShut gate t (D.told disk.new)) }
+    ensures half { (t : Told) → D.told disk.old ≡ Some t → IfErr result (λ error. IsHalfShut error gate t (D.told disk.new)) }
     ensures grows { Grows (D.told disk.old) (D.told disk.new) }
     ensures cause { HasCause (D.faults disk.old) (D.faults disk.new) result }
 {
@@ -49,7 +49,7 @@ pub fn repair<D: Disk>(disk: &mut D, opened: &Opened) -> Result<(), DiskError>
         → IsThere (seen t) opened.now
         → OnOk result (IfSome (D.told disk.new) (IsKept (batches_in (seen t)) opened.now.ends)) }
     ensures calls { OnOk result (D.told disk.new ≡ option_map (repaired opened.now.behind (gate_of opened.now.batches)) (D.told disk.old)) }
-    ensures half { (t : Told) → D.told disk.old ≡ Some t → OnErr result (IsHalfShut (gate_of opened.now.batches) t (D.told disk.new)) }
+    ensures half { (t : Told) → D.told disk.old ≡ Some t → IfErr result (λ error. IsHalfRepaired opened.now.behind error (gate_of opened.now.batches) t (D.told disk.new)) }
     ensures grows { Grows (D.told disk.old) (D.told disk.new) }
     ensures cause { HasCause (D.faults disk.old) (D.faults disk.new) result }
 {

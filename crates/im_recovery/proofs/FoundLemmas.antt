@@ -3,7 +3,7 @@ use Rattle.std.proofs.Common.{◌≡◌, ◌≤◌, ℕ, List, length, take, ref
 use Rattle.std.proofs.Math.Seq.{take-length}
 use Rattle.std.proofs.lemmas.List.{length-map}
 use Rattle.std.specs.Option.{option_map}
-use Rattle.std.specs.Prelude.{IfErr, IfSome, IsErrAnd, MatchResult}
+use Rattle.std.specs.Prelude.{IfSome, IsErrAnd, MatchResult}
 use Rattle.im_digest.specs.Digests.{Hash}
 use Rattle.im_disk.specs.Disk.{Files, Told, seen}
 use Rattle.im_format.specs.Batches.{gate_of, joined, spans_of}
@@ -112,11 +112,7 @@ never-damaged hash image history error d long stands tells is =
     let fine = (stands-read hash image history long stands).0 in
     cc
 
--- an error that is passed on
-pub if-err : {T E : Type 0} (P : E → Type 0) (r : Result T E) (x : E) → IsErrAnd r (λ e. e ≡ x) → P x → IfErr r P
-if-err P (Ok y) x h p = absurd h
-if-err P (Err e) x h p = subst P (sym h) p
-
+-- what an error that is passed on gives
 pub match-err : {T E : Type 0} (P : T → Type 0) (Q : E → Type 0) (r : Result T E) (x : E) → IsErrAnd r (λ e. e ≡ x) → Q x → MatchResult r P Q
 match-err P Q (Ok y) x h q = absurd h
 match-err P Q (Err e) x h q = subst Q (sym h) q

@@ -1,9 +1,10 @@
-ghost use Rattle.std.specs.Prelude.{◌≡◌, List, Some, None, IfOk, IfErr, MatchResult, slice_index_or};
+ghost use Rattle.std.specs.Prelude.{◌≡◌, List, length, Some, IfOk, IfErr, MatchResult, slice_index_or};
 ghost use Rattle.im_disk.specs.Disk.{Told, after, seen};
 ghost use Rattle.im_disk.specs.Grown.{Grows};
 ghost use Rattle.im_disk.specs.Moments.{Leaves};
 ghost use Rattle.im_disk.specs.declared.calls.Call.TheVariants.{Synced};
 ghost use Rattle.im_edge.specs.Counts.{Rose};
+ghost use Rattle.im_format.specs.Batches.{gate_of};
 ghost use Rattle.im_format.specs.Damages.{image_checks};
 ghost use Rattle.im_format.specs.Standing.{Stands};
 ghost use Rattle.im_format.specs.declared.damages.Damage.{Damage};
@@ -63,6 +64,8 @@ pub fn open<D: Disk, H: Hash32>(
     // gate isn't closed.
     ensures calls { (t : Told) → D.told disk ≡ Some t
         → IfOk result (λ r. IsOpenedBy (slice_index_or r.journal.ends 1 0) t (D.told r.journal.disk)) }
+    ensures gate { (t : Told) (history : List Transaction) → D.told disk ≡ Some t → (stands : Stands (H.digest hash.now) (seen t) history)
+        → IfOk result (λ r. slice_index_or r.journal.ends 1 0 ≡ gate_of (length stands.batches)) }
     ensures grows { MatchResult result (λ r. Grows (D.told disk) (D.told r.journal.disk)) (λ failed. Grows (D.told disk) (D.told failed.disk)) }
     ensures fresh { IfOk result (λ r. (r.journal.failures ≡ 0) × (r.journal.batch.step ≡ Idle)) }
     ensures faults { IfOk result (λ r. D.faults r.journal.disk ≡ D.faults disk) }
@@ -75,7 +78,7 @@ pub fn open<D: Disk, H: Hash32>(
     ensures damaged { (t : Told) (d : Damage) → D.told disk ≡ Some t
         → IfErr result (λ failed. failed.error ≡ OpenError.Damaged d → D.told failed.disk ≡ Some (after Synced t)) }
     ensures left { (t : Told) → D.told disk ≡ Some t
-        → IfErr result (λ failed. WasLeft (H.digest hash.now) t (D.told failed.disk)) }
+        → IfErr result (λ failed. WasLeft (H.digest hash.now) failed.error t (D.told failed.disk)) }
     ensures cause { IfErr result (λ failed. failed.error ≡ OpenError.DiskFault → Rose (D.faults disk) (D.faults failed.disk)) }
     ensures others { IfErr result (λ failed. (failed.error ≡ OpenError.DiskFault → ⊥) → D.faults failed.disk ≡ D.faults disk) }
 {

@@ -1,15 +1,17 @@
-use Rattle.std.proofs.Common.{ℕ, refl, ◌∙◌, ap, subst, inl, inr, Option}
+use Rattle.std.proofs.Common.{◌≡◌, ℕ, length, refl, ◌∙◌, ap, subst, inr, Option}
 use Rattle.im_disk.specs.Disk.{Told, after, seen}
 use Rattle.im_disk.specs.declared.calls.Call.TheVariants.{Synced, Missed}
 use Rattle.im_disk.specs.Grown.{Grows}
 use Rattle.im_disk.proofs.Growing.{grows_both, grows_by_answer, grows_same}
 use Rattle.im_format.specs.Batches.{gate_of}
 use Rattle.im_format.specs.Reading.{history_in}
-use Rattle.im_opening.specs.Cut.{IsHalfShut, WasLeft}
+use Rattle.im_opening.specs.Cut.{IsHalfOpened, WasLeft}
+use Rattle.im_opening.specs.Answers.{of_disk}
 use Rattle.im_opening.specs.Opening.{IsRead}
 use Rattle.im_standing.proofs.HeldRecords.{Has32}
 use Rattle.im_standing.proofs.StandReads.{stands-once}
-use Rattle.im_opening.proofs.OpenLemmas.{failed-left, failed-opened, on-err, repaired-leaves, rest-leaves, synced-told}
+use Rattle.im_opening.proofs.GateLemmas.{batches-same, lacks-none}
+use Rattle.im_opening.proofs.OpenLemmas.{failed-left, failed-opened, if-err, read-left, repaired-leaves, rest-leaves, stopped-left, synced-told}
 use Rattle.im_opening.specs.Cut.{repaired}
 use Rattle.std.specs.Option.{option_map}
 use Rattle.im_opening.proofs.KeptLemmas.{map-told}
@@ -80,14 +82,17 @@ returns-clause-kept g c t is =
 
 pub returns-in_err-sync-clause-left : goal.returns-in_err-sync-clause-left
 returns-in_err-sync-clause-left g c t is =
-    on-err (WasLeft (g.H.Hash32.digest c.args.hash.now) t (g.D.Disk.told c.sync.new.self)) c.from_residual.result
+    if-err (λ e. WasLeft (g.H.Hash32.digest c.args.hash.now) e t (g.D.Disk.told c.sync.new.self)) c.from_residual.result (of_disk c.in_err-sync.field-0.0) c.from_residual.ensures.1
     (failed-left (g.H.Hash32.digest c.args.hash.now) t (g.D.Disk.told c.args.disk.now) (g.D.Disk.told c.sync.new.self) c.in_err-sync.field-0.0 is
     (c.in_err-sync.ensures.failed, c.in_err-sync.ensures.memory))
 
 pub returns-in_err-opened-clause-left : goal.returns-in_err-opened-clause-left
 returns-in_err-opened-clause-left g c t is =
-    on-err (WasLeft (g.H.Hash32.digest c.args.hash.now) t (g.D.Disk.told c.read_files.new.disk)) c.from_residual-in_err-opened.result
-    (inr (inr (inl (c.in_err-opened.ensures.told ∙ synced-told (g.D.Disk.told c.args.disk.now) (g.D.Disk.told c.sync.new.self) t c.in_ok-sync.ensures.ok is))))
+    let hash = g.H.Hash32.digest c.args.hash.now in
+    let now = g.D.Disk.told c.read_files.new.disk in
+    if-err (λ e. WasLeft hash e t now) c.from_residual-in_err-opened.result c.in_err-opened.field-0.0 c.from_residual-in_err-opened.ensures.1
+    (read-left hash c.in_err-opened.field-0.0 t now
+    (c.in_err-opened.ensures.told ∙ synced-told (g.D.Disk.told c.args.disk.now) (g.D.Disk.told c.sync.new.self) t c.in_ok-sync.ensures.ok is))
 
 pub returns-in_err-repair-clause-left : goal.returns-in_err-repair-clause-left
 returns-in_err-repair-clause-left g c t is =
@@ -95,15 +100,20 @@ returns-in_err-repair-clause-left g c t is =
     let synced = synced-told (g.D.Disk.told c.args.disk.now) (g.D.Disk.told c.sync.new.self) t c.in_ok-sync.ensures.ok is in
     let told = c.in_ok-opened.ensures.told ∙ synced in
     let read : IsRead hash (seen t) c.in_ok-opened.opened = c.in_ok-opened.ensures.read (after Synced t) synced in
-    let H : ℕ → Type 0 = λ k. IsHalfShut (gate_of k) (after Synced t) (g.D.Disk.told c.repair.new.disk) in
-    on-err (WasLeft hash t (g.D.Disk.told c.repair.new.disk)) c.from_residual-in_err-repair.result
-    (inr (inr (inr (
+    let opened = c.in_ok-opened.opened in
+    let same : opened.batches ≡ length read.stands.batches =
+    batches-same hash (history_in (seen t)) (seen t) opened.batches read.stands read.batches.batches_are
+    (lacks-none (seen t 1) (gate_of opened.batches) opened.behind read.behind_is) in
+    let error = c.in_err-repair.field-0.0 in
+    let H : ℕ → Type 0 = λ k. IsHalfOpened error (gate_of k) t (g.D.Disk.told c.repair.new.disk) in
+    if-err (λ e. WasLeft hash e t (g.D.Disk.told c.repair.new.disk)) c.from_residual-in_err-repair.result (of_disk error) c.from_residual-in_err-repair.ensures.1
+    (stopped-left hash error t (g.D.Disk.told c.repair.new.disk) (
       history_in (seen t),
       read.stands,
       repaired-leaves hash (history_in (seen t)) t (g.D.Disk.told c.read_files.new.disk) (g.D.Disk.told c.repair.new.disk) told refl
           (c.in_err-repair.ensures.leaves hash (after Synced t) told (λ image now. now) read),
-      subst H read.batches.batches_are (c.in_err-repair.ensures.half (after Synced t) told),
-    ))))
+      subst H same (opened.behind, read.behind_is, c.in_err-repair.ensures.half (after Synced t) told),
+    ))
 
 pub returns-clause-calls : goal.returns-clause-calls
 returns-clause-calls g c =

@@ -1,7 +1,8 @@
 use Rattle.std.proofs.Common.{arith, ◌≡◌, ◌+◌, ◌≤◌, ℕ, List, length, sym, subst, get_or, ⊎_elim, Option, Some}
-use Rattle.std.specs.Prelude.{IfSome, OnErr, OnOk}
+use Rattle.std.specs.Prelude.{IfErr, IfSome, OnOk}
 use Rattle.im_disk.specs.Disk.{Files, Told, Images, seen}
 use Rattle.im_disk.specs.Moments.{Leaves, LeavesNow}
+use Rattle.im_disk.specs.declared.disk.DiskError.{DiskError}
 use Rattle.im_disk.proofs.Growing.{grows_none}
 use Rattle.im_disk.proofs.Leaving.{leaves_nothing}
 use Rattle.im_alog.specs.Holding.{IsDurable}
@@ -12,7 +13,7 @@ use Rattle.im_format.specs.Standing.{Stands}
 use Rattle.im_clog.specs.Marks.{Lacks}
 use Rattle.im_clog.specs.declared.marks.Uncounted.{Uncounted}
 use Rattle.im_clog.specs.declared.marks.Uncounted.TheVariants.{Missing, Closed, Short}
-use Rattle.im_opening.specs.Cut.{IsCut, IsHalfShut, IsKept, IsShut, repaired, shut_at}
+use Rattle.im_opening.specs.Cut.{IsCut, IsHalfRepaired, IsHalfShut, IsKept, IsShut, repaired, shut_at}
 use Rattle.im_opening.specs.Opening.{IsRead}
 use Rattle.im_opening.specs.declared.reading.Opened.{Opened}
 use Rattle.im_opening.proofs.GateLemmas.{batches-same, cut-kept, lacks-none, same-torn, shut-read, stands-same}
@@ -130,5 +131,10 @@ returns-in-Closed-clause-grows g c = grows_none (g.D.Disk.told c.args.disk.now)
 
 pub returns-in-Missing-clause-half : goal.returns-in-Missing-clause-half
 returns-in-Missing-clause-half g c t is =
-    let P : ℕ → Type 0 = λ k. OnErr c.shut_gate.result (IsHalfShut k t (g.D.Disk.told c.shut_gate.new.disk)) in
-    subst P c.requires.ends.gate (c.shut_gate.ensures.half t is)
+    let opened = c.args.opened.now in
+    let n = g.D.Disk.told c.shut_gate.new.disk in
+    let gate = gate_of opened.batches in
+    let P : ℕ → Type 0 = λ k. IfErr c.shut_gate.result (λ (e : DiskError). IsHalfShut e k t n) in
+    let here : P gate = subst P c.requires.ends.gate (c.shut_gate.ensures.half t is) in
+    let A : Uncounted → Type 0 = λ r. IfErr c.shut_gate.result (λ (e : DiskError). IsHalfRepaired r e gate t n) in
+    ⊎_elim (λ e. subst A (sym e) here) (λ p. subst A (sym p.1) here) c.in-Missing.is

@@ -10,7 +10,7 @@ use Rattle.im_format.specs.Standing.{Stands}
 use Rattle.im_alog.proofs.Outcomes.{HasAnswer, if_mapped, leaves_of_sync, leaves_of_write, reads_of_write, seen_of_write}
 use Rattle.im_opening.specs.Cut.{IsCut, IsHalfShut, IsShut, shut_at}
 use Rattle.im_opening.proofs.GateLemmas.{cut-kept, same-torn}
-use Rattle.im_opening.proofs.OpenLemmas.{failed-sync, failed-write, on-err}
+use Rattle.im_opening.proofs.OpenLemmas.{failed-sync, failed-write, if-err}
 use Rattle.im_opening.proofs.repair.shut_gate.Goals as goal
 
 pub returns-in_err-write_at-clause-leaves : goal.returns-in_err-write_at-clause-leaves
@@ -69,7 +69,7 @@ returns-clause-grows g c =
 
 pub returns-in_err-write_at-clause-half : goal.returns-in_err-write_at-clause-half
 returns-in_err-write_at-clause-half g c t is =
-    on-err (IsHalfShut c.args.gate t (g.D.Disk.told c.write_at.new.self)) c.from_residual.result
+    if-err (λ e. IsHalfShut e c.args.gate t (g.D.Disk.told c.write_at.new.self)) c.from_residual.result c.in_err-write_at.field-0.0 c.from_residual.ensures.1
     (failed-write c.args.gate t (g.D.Disk.told c.args.disk.now) (g.D.Disk.told c.write_at.new.self) c.in_err-write_at.field-0.0 is
     (c.in_err-write_at.ensures.failed, c.in_err-write_at.ensures.memory))
 

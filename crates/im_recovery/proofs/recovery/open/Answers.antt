@@ -10,11 +10,13 @@ use Rattle.im_format.specs.Standing.{Stands}
 use Rattle.im_journal.specs.Holding.{AreFirst}
 use Rattle.im_model.specs.declared.transactions.Transaction.{Transaction}
 use Rattle.im_opening.specs.Cut.{IsOpenedBy, opened_by}
+use Rattle.im_opening.proofs.GateLemmas.{batches-same, lacks-none}
+use Rattle.im_opening.proofs.OpenLemmas.{if-err}
 use Rattle.im_opening.specs.Opening.{IsRead}
 use Rattle.im_opening.specs.Reach.{txs_of}
 use Rattle.im_standing.proofs.HeldRecords.{Has32}
 use Rattle.im_standing.proofs.StandReads.{stands-once}
-use Rattle.im_recovery.proofs.FoundLemmas.{IsOpened, Rests, if-err, match-err, never-damaged, rests-with}
+use Rattle.im_recovery.proofs.FoundLemmas.{IsOpened, Rests, match-err, never-damaged, rests-with}
 use Rattle.im_recovery.proofs.recovery.open.Goals as goal
 
 pub resume-journal-requires : goal.resume-journal-requires
@@ -117,3 +119,12 @@ returns-clause-calls g c t is =
     sym (ap (λ (l : List ℕ). get_or l 1 0) c.resume-journal.ensures.given.1 ∙ c.in_ok-disk.ensures.ends.gate) in
     let P : ℕ → Type 0 = λ k. IsOpenedBy k t (g.D.Disk.told c.resume-journal.result.disk) in
     subst P gate by
+
+pub returns-clause-gate : goal.returns-clause-gate
+returns-clause-gate g c t history is stands =
+    let hash = g.H.Hash32.digest c.args.hash.now in
+    let opened = c.in_ok-disk.opened in
+    let read : IsRead hash (seen t) opened = c.in_ok-disk.ensures.read t is in
+    let same : opened.batches ≡ length stands.batches =
+    batches-same hash history (seen t) opened.batches stands read.batches.batches_are (lacks-none (seen t 1) (gate_of opened.batches) opened.behind read.behind_is) in
+    ap (λ (l : List ℕ). get_or l 1 0) c.resume-journal.ensures.given.1 ∙ c.in_ok-disk.ensures.ends.gate ∙ ap gate_of same
