@@ -240,6 +240,7 @@ module _ {D : Type 0} (told : D → Option Told) (hash : Hash) (constant : Optio
   moved {T} {U} r s never makes m = record {
     left = m.left;
     left_is = m.left_is;
+    over = m.over;
     asked = m.asked;
     moments = m.moments;
     calls = elim m.calls [

@@ -1,6 +1,7 @@
 -- What a command that touches no disk leaves, and what a placed transaction does.
-use Rattle.std.proofs.Common.{◌≡◌, ◌∙◌, ℕ, ℤ, List, [], ◌∷◌, ◌++◌, refl, sym, subst, ap, inl, inr}
+use Rattle.std.proofs.Common.{◌≡◌, ◌∙◌, ℕ, ℤ, List, [], ◌∷◌, ◌++◌, length, refl, sym, subst, ap, arith, inl, inr}
 use Rattle.std.specs.Prelude.{map, Option, None, IfOk, Result, Ok, Err, IsErrAnd, IsErrOf}
+use Rattle.std.proofs.lemmas.List.Elements.{All-push}
 use Rattle.im_digest.specs.Digests.{Hash}
 use Rattle.im_disk.specs.Disk.{Files, Told}
 use Rattle.im_disk.specs.Moments.{Leaves}
@@ -44,6 +45,7 @@ module _ {D : Type 0} (told : D → Option Told) (hash : Hash) (k : KeptHistory 
   nothing-placed constant times command journal result same never = record {
     left = [];
     left_is = inl refl;
+    over = λ i d w. absurd (omega arith);
     asked = asked-none times;
     moments =
         let P : Kept D → Type 0 = λ j. Leaves (StandsWith hash k.held.transactions []) (told k.journal.disk) (told j.disk) in
@@ -66,6 +68,7 @@ one-placed told hash constant pres drafts entries k journal times_before times_n
     writes = p.writes ∙ same;
     timed = p.timed;
   });
+  over = All-push (λ (tx : Transaction). tx.bl ≡ length k.held.tree) [] p.tx (λ i d w. absurd (omega arith)) p.over;
   asked = p.asked;
   moments = p.moments;
   calls = inr (p.tx, refl, p.calls);

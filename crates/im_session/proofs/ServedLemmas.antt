@@ -17,7 +17,7 @@ use Rattle.im_ledger.specs.declared.errors.CommitError.{CommitError}
 use Rattle.im_ledger.specs.declared.errors.CommitError.TheVariants.{DiskFault, Memory}
 use Rattle.im_model.specs.History.{IsHistory}
 use Rattle.im_model.specs.declared.transactions.Transaction.{Transaction}
-use Rattle.im_report.specs.Report.{Report}
+use Rattle.im_report.specs.Report.{Report, floor_after}
 use Rattle.im_report.proofs.ReportLemmas.{Standing}
 use Rattle.im_script.specs.declared.commands.Command.{Command}
 use Rattle.im_script.specs.declared.commands.Line.{Line}
@@ -115,21 +115,24 @@ timed-next hash constant line least before after old new most t timed =
 
 -- a line got no reply
 pub serves-stopped : {D : Type 0} (told : D → Option DiskTold) (hash : Hash) (constant : Option ℤ) (logs : ℕ) (found : List Transaction) (k : KeptHistory D) (journal : Kept D) (lines done : List Line) (line : Line) (before : Option DiskTold)
-    (times_before times_mid times_now : Option (List ℤ)) (octets : List ℕ) (size : ℕ) (why : CommitError)
+    (times_before times_mid times_now : Option (List ℤ)) (octets : List ℕ) (why : CommitError)
     → done ≡ take (length done) lines → length done < length lines → line ≡ get_or lines (length done) line
-    → Standing hash found k.held.transactions done octets size → Told hash k.held.transactions done octets → All (HasTime constant) (drop (length found) k.held.transactions)
+    → Standing hash found k.held.transactions done octets (length k.held.tree) → Told hash k.held.transactions done octets → All (HasTime constant) (drop (length found) k.held.transactions)
     → AskedFor (drop (length found) k.held.transactions) times_before times_mid
     → Leaves (StandsFrom hash (length found) k.held.transactions) before (told k.journal.disk)
     → (m : MayPlace {T = Unit {0}} told hash constant line.command k journal times_mid times_now (Err why))
     → MakesCalls hash logs (length found) k.held.transactions m.left before (told journal.disk) (Err why)
     → Serves hash constant logs found lines before (told journal.disk) times_before times_now octets (Err why)
-serves-stopped told hash constant logs found k journal lines done line before times_before times_mid times_now octets size why front less here standing answered timed asked so_far m calls =
+serves-stopped told hash constant logs found k journal lines done line before times_before times_mid times_now octets why front less here standing answered timed asked so_far m calls =
     let history : List Transaction = k.held.transactions in
+    let size : ℕ = length k.held.tree in
     let P : List Line → Type 0 = λ ls. Standing hash found history ls octets size in
     let Q : List Line → Type 0 = λ ls. Told hash history ls octets in
     let R : List Line → Type 0 = λ ls. IsLeft constant history ls m.left in
     let I : Line → Type 0 = λ l. IsLeft constant history (l ∷ drop (suc (length done)) lines) m.left in
-    let report : Report hash found history (take (length done) lines) octets = (subst P front standing).report in
+    let stands : Standing hash found history (take (length done) lines) octets size = subst P front standing in
+    let report : Report hash found history (take (length done) lines) octets = stands.report in
+    let same : floor_after (length found) report.answers ≡ size = stands.size_is in
     record {
       count = length done;
       within = omega arith;
@@ -139,6 +142,7 @@ serves-stopped told hash constant logs found k journal lines done line before ti
       timed = timed;
       left = m.left;
       left_is = subst R (sym (drop-cons lines (length done) line less)) (subst I here m.left_is);
+      over = λ i d w. m.over i d w ∙ sym same;
       asked = asked-both times_before times_mid times_now (drop (length found) history) m.left asked m.asked;
       images = m.moments.1;
       moments = moments-left hash (length found) history m.left before (told k.journal.disk) (told journal.disk) (found-within hash found history done octets size standing) so_far m.moments;
@@ -152,9 +156,9 @@ is-why Memory history command reaches = tt
 
 -- and it is the next line that got no reply
 pub front-stopped : {D : Type 0} (told : D → Option DiskTold) (hash : Hash) (constant : Option ℤ) (logs : ℕ) (found : List Transaction) (k : KeptHistory D) (journal : Kept D) (lines done : List Line) (line : Line) (before : Option DiskTold)
-    (times_before times_mid times_now : Option (List ℤ)) (octets : List ℕ) (size : ℕ) (why : CommitError)
+    (times_before times_mid times_now : Option (List ℤ)) (octets : List ℕ) (why : CommitError)
     → done ≡ take (length done) lines → length done < length lines → line ≡ get_or lines (length done) line
-    → Standing hash found k.held.transactions done octets size → Told hash k.held.transactions done octets → All (HasTime constant) (drop (length found) k.held.transactions)
+    → Standing hash found k.held.transactions done octets (length k.held.tree) → Told hash k.held.transactions done octets → All (HasTime constant) (drop (length found) k.held.transactions)
     → AskedFor (drop (length found) k.held.transactions) times_before times_mid
     → Leaves (StandsFrom hash (length found) k.held.transactions) before (told k.journal.disk)
     → (m : MayPlace {T = Unit {0}} told hash constant line.command k journal times_mid times_now (Err why))
@@ -162,10 +166,10 @@ pub front-stopped : {D : Type 0} (told : D → Option DiskTold) (hash : Hash) (c
     → IsWhy why k.held.transactions line.command
     → ServesFront hash constant logs found lines before (told journal.disk) times_before times_now octets why
 unfolding serves-stopped
-front-stopped told hash constant logs found k journal lines done line before times_before times_mid times_now octets size why front less here standing answered timed asked so_far m calls because =
+front-stopped told hash constant logs found k journal lines done line before times_before times_mid times_now octets why front less here standing answered timed asked so_far m calls because =
     let rest : List Line = drop (suc (length done)) lines in
     record {
-      serves = serves-stopped told hash constant logs found k journal lines done line before times_before times_mid times_now octets size why front less here standing answered timed asked so_far m calls;
+      serves = serves-stopped told hash constant logs found k journal lines done line before times_before times_mid times_now octets why front less here standing answered timed asked so_far m calls;
       stops = record {
         line = line;
         rest = rest;
@@ -199,6 +203,7 @@ serves-ended hash constant logs found history lines done before now times_before
         timed = timed;
         left = [];
         left_is = subst R (sym (drop-length lines)) refl;
+        over = λ i d w. absurd (omega arith);
         asked = asked-ended (drop (length found) history) times_before times_now asked;
         images = (leaves_weaker S (StandsWith hash history []) (λ image h. inl h) now now (leaves_nothing S now, images)).1;
         moments = subst M (sym (append-nil history)) so_far;

@@ -33,10 +33,10 @@ MakesLast hash w history left batches middle now end =
     ⊎ ((next : Record) × IsLeftRecord hash w history left batches next
     × ((calls : List Call) × Makes DiskFault Memory (calls_of_batch batches (next ∷ [])) calls middle now end))
 
--- The changing calls that a session made, in order, and no other. Where the disk told its calls before, what reads gave
--- then had the first of these batches, which hold the first n transactions of the history. Each further transaction has a
--- batch of its own, its values put over w value logs: the calls of these batches were made one after the other, and behind
--- them those for what is left. Where all lines were answered nothing is left.
+-- The changing calls that a session made, in order, the one that failed, if one did, and no other. Where the disk told its
+-- calls before, what reads gave then had the first of these batches, which hold the first n transactions of the history.
+-- Each further transaction has a batch of its own, its values put over w value logs: the calls of these batches were made
+-- one after the other, and behind them those for what is left. Where all lines were answered nothing is left.
 pub record MakesCalls (hash : Hash) (w n : ℕ) (history left : List Transaction) (before now : Option Told) (end : Result (Unit {0}) CommitError) : Type 0 where
   pub batches : List (List Record)
   pub put : ArePutBehind w n batches

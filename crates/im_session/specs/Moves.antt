@@ -1,5 +1,5 @@
 -- What a command does to the disk, whether or not it gets its reply.
-use Rattle.std.specs.Prelude.{◌≡◌, ◌⊎◌, ℤ, List, [], ◌∷◌, Option, Result, IsErrOf}
+use Rattle.std.specs.Prelude.{◌≡◌, ◌⊎◌, ℤ, List, [], ◌∷◌, length, All, Option, Result, IsErrOf}
 use Rattle.im_edge.specs.Clocks.{AddsTimes}
 use Rattle.im_digest.specs.Digests.{Hash}
 use Rattle.im_disk.specs.Disk.{Files, Told}
@@ -27,22 +27,25 @@ PlaceMakes told hash left old journal result =
     ((left ≡ []) × (told journal.disk ≡ told old.journal.disk) × (IsErrOf result DiskFault → ⊥))
     ⊎ ((tx : Transaction) × (left ≡ tx ∷ []) × CommitMakes told hash tx old journal result)
 
--- one transaction of these entries was to be placed behind the history: each image of its moments stands for the
--- history, or for it with that transaction, whose commit made the only calls. The clock was asked for its time alone
+-- one transaction of these entries was to be placed behind the history, over the tree as it was: each image of its
+-- moments stands for the history, or for it with that transaction, whose commit made the only calls. The clock was asked
+-- for its time alone
 pub record MayPlaceOne {D T : Type 0} (told : D → Option Told) (hash : Hash) (constant : Option ℤ) (entries : List Entry) (old : KeptHistory D) (journal : Kept D) (times_before times_now : Option (List ℤ)) (result : Result T CommitError) : Type 0 where
   pub tx : Transaction
   pub writes : tx.entries ≡ entries
   pub timed : HasTime constant tx
+  pub over : tx.bl ≡ length old.held.tree
   pub asked : AddsTimes times_before times_now (tx.ts ∷ [])
   pub moments : Leaves (StandsWith hash old.held.transactions (tx ∷ [])) (told old.journal.disk) (told journal.disk)
   pub calls : CommitMakes told hash tx old journal result
 
--- what a command was to place behind the history, nothing or one transaction: each image of its moments stands for
--- the history, or for it with that, and only the calls for that were made. The clock was asked for its time alone, and
--- not where it was nothing
+-- what a command was to place behind the history, nothing or one transaction over the tree as it was: each image of its
+-- moments stands for the history, or for it with that, and only the calls for that were made. The clock was asked for its
+-- time alone, and not where it was nothing
 pub record MayPlace {D T : Type 0} (told : D → Option Told) (hash : Hash) (constant : Option ℤ) (command : Command) (old : KeptHistory D) (journal : Kept D) (times_before times_now : Option (List ℤ)) (result : Result T CommitError) : Type 0 where
   pub left : List Transaction
   pub left_is : IsLeftBy constant old.held.transactions command left
+  pub over : All (λ tx. tx.bl ≡ length old.held.tree) left
   pub asked : AskedFor left times_before times_now
   pub moments : Leaves (StandsWith hash old.held.transactions left) (told old.journal.disk) (told journal.disk)
   pub calls : PlaceMakes told hash left old journal result

@@ -12,7 +12,7 @@ use Rattle.im_versions.specs.Admits.{place_refusal}
 use Rattle.im_script.specs.declared.commands.Line.{Line}
 use Rattle.im_script.specs.declared.commands.Command.{Command}
 use Rattle.im_script.specs.declared.commands.Command.TheVariants.{Set}
-use Rattle.im_report.specs.Report.{Report}
+use Rattle.im_report.specs.Report.{Report, floor_after}
 use Rattle.im_accept.specs.Taken.{AreReadBack, HaveSessions}
 use Rattle.im_ledger.specs.declared.errors.CommitError.{CommitError}
 use Rattle.im_ledger.specs.declared.errors.CommitError.TheVariants.{DiskFault, Memory}
@@ -31,8 +31,8 @@ pub record StandsFrom (hash : Hash) (least : ℕ) (history : List Transaction) (
 abbrev pub StandsWith : Hash → List Transaction → List Transaction → Files → Type 0
 StandsWith hash history left image = Stands hash image history ⊎ Stands hash image (history ++ left)
 
--- a `set` or `del` that reaches the disk: its drafts are the entries of a transaction, the history has room for it, and each
--- of its preconditions holds behind it
+-- a `set` or `del` that reaches the disk: its drafts are the entries of a transaction, none with a key that begins with the
+-- octet 00, the history has room for it, and each of its preconditions holds behind it
 pub record ReachesDisk (history : List Transaction) (command : Command) : Type 0 where
   pub pres : List Pre
   pub drafts : List Draft
@@ -49,22 +49,24 @@ pub record IsOneLeft (constant : Option ℤ) (history : List Transaction) (comma
   pub writes : tx.entries ≡ map entry_of reaches.drafts
   pub timed : HasTime constant tx
 
--- what a command without a reply placed behind the history: nothing, or one transaction
+-- what a command without a reply was to place behind the history: nothing, or one transaction
 abbrev pub IsLeftBy : Option ℤ → List Transaction → Command → List Transaction → Type 0
 IsLeftBy constant history command left = (left ≡ []) ⊎ IsOneLeft constant history command left
 
--- what the first of the lines without a reply placed behind it
+-- what the first of these lines, which have no reply, was to place behind it
 abbrev pub IsLeft : Option ℤ → List Transaction → List Line → List Transaction → Type 0
 IsLeft constant history [] left = left ≡ []
 IsLeft constant history (line ∷ lines) left = IsLeftBy constant history line.command left
 
 -- The first `count` lines were answered, over the history that was found: their report, whose messages are read as
 -- those that were asked for, where each line has a session's name. Each image of the disk now stands for the
--- history, or for it with what the next line placed, which got no reply; and each image of each moment stood for the
+-- history, or for it with what the next line was to place, which got no reply: the tree that it was to stand over is the
+-- one that was full of what was found and that the `link` lines before it made. Each image of each moment stood for the
 -- first transactions of these, those that were found among them. The clock was asked once for each transaction that was
 -- placed, and for that of the next line, in order, and for nothing else: each has the time that was given for it.
 -- The disk got the calls of these transactions, each in a batch of its own, its values put over so many value logs, and of
--- that of the next line as far as they came before the session ended, in order, and no other call.
+-- that of the next line as far as they came before the session ended, in order, and the one that failed, if one did; and no
+-- other call that changes it.
 pub record Serves (hash : Hash) (constant : Option ℤ) (logs : ℕ) (found : List Transaction) (lines : List Line) (before now : Option Told) (times_before times_now : Option (List ℤ)) (octets : List ℕ) (end : Result (Unit {0}) CommitError) : Type 0 where
   pub count : ℕ
   pub within : count ≤ length lines
@@ -74,6 +76,7 @@ pub record Serves (hash : Hash) (constant : Option ℤ) (logs : ℕ) (found : Li
   pub timed : All (HasTime constant) (drop (length found) history)
   pub left : List Transaction
   pub left_is : IsLeft constant history (drop count lines) left
+  pub over : All (λ tx. tx.bl ≡ floor_after (length found) report.answers) left
   pub asked : AskedFor (drop (length found) history ++ left) times_before times_now
   pub images : LeavesNow (StandsWith hash history left) now
   pub moments : Leaves (StandsFrom hash (length found) (history ++ left)) before now

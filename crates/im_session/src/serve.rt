@@ -174,8 +174,8 @@ pub struct Served<D: Disk> {
 /// that was asked for. On the disk each transaction stands in a batch of its own, its values put over the value
 /// logs by turns: for it the disk gets the writes of that batch, a sync, the octet at its gate, and a sync. The
 /// first line that isn't answered ends the session: the disk then holds the history with what that line was to
-/// place, or without it, and got a front part of its calls at most. No other call changes the disk. It fails only
-/// at a `set` or `del` that reaches it; memory may run out at any line.
+/// place, or without it, and got a front part of its calls at most, and the one that failed, if one did. No other
+/// call changes the disk. It fails only at a `set` or `del` that reaches it; memory may run out at any line.
 ///
 /// The index of keys is brought to the last transaction by each line that looks for one, and holds a copy of each
 /// key and value of the entries that aren't hidden. A `set` or `del` costs what `judge` and `commit` of the ledger

@@ -1,4 +1,5 @@
-use Rattle.std.proofs.Common.{[], ◌∷◌}
+use Rattle.std.proofs.Common.{[], ◌∷◌, ◌∙◌, ap, length}
+use Rattle.im_ledger.specs.Ledgers.{Held}
 use Rattle.im_session.proofs.CallLemmas.{commit-done, commit-short}
 use Rattle.im_session.proofs.KeptLemmas.{between-grown}
 use Rattle.im_session.proofs.PutLemmas.{put-grown}
@@ -25,6 +26,7 @@ returns-in_err-tx_text-clause-left g c =
       tx = given.result;
       writes = given.ensures.writes;
       timed = given.ensures.timed;
+      over = given.ensures.over ∙ c.size.ensures ∙ ap length (c.tree.ensures ∙ ap (λ (h : Held). h.tree) c.ledger.ensures);
       asked = given.ensures.asked;
       moments = c.commit.ensures.any_moment;
       calls = commit-short g.D.Disk.told (g.H.Hash32.digest c.args.hash.now) given.result c.args.kept.now c.commit.new.self.journal done.field-0 short.result short.ensures.1 done.ensures.calls;
@@ -38,6 +40,7 @@ returns-clause-left g c =
       tx = given.result;
       writes = given.ensures.writes;
       timed = given.ensures.timed;
+      over = given.ensures.over ∙ c.size.ensures ∙ ap length (c.tree.ensures ∙ ap (λ (h : Held). h.tree) c.ledger.ensures);
       asked = given.ensures.asked;
       moments = c.commit.ensures.any_moment;
       calls = commit-done g.D.Disk.told (g.H.Hash32.digest c.args.hash.now) given.result c.args.kept.now c.commit.new.self.journal done.field-0 c.in_ok-tx_text.field-0 done.ensures.calls;

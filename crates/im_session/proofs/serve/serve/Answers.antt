@@ -115,7 +115,7 @@ returns-in-Err-clause-front g c why is =
     (last-makes g.D.Disk.told hash before kept logs (length found) start put m.left after.journal why m.calls) tt in
     let fault : why ≡ DiskFault → ReachesDisk before.held.transactions line.command = λ w. c.in-Err.ensures.why (error-is c.in-Err.error why DiskFault is w) in
     subst E (sym c.into_disk.ensures) (subst O (sym c.in-Err.ensures.nothing)
-    (front-stopped g.D.Disk.told hash first logs found before after.journal lines done line start times_before times_mid times_now out (length before.held.tree) why front here.0 here.1
+    (front-stopped g.D.Disk.told hash first logs found before after.journal lines done line start times_before times_mid times_now out why front here.0 here.1
     c.loop-line.invariant.standing c.loop-line.invariant.told c.loop-line.invariant.timed c.loop-line.invariant.asked c.loop-line.invariant.moments m calls
     (is-why why before.held.transactions line.command fault)))
 
