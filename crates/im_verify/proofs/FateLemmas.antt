@@ -14,16 +14,9 @@ use Rattle.im_verify.specs.Judged.{AreTaken, IsVerified, NoneRefused, SomeRefuse
 use Rattle.im_verify.specs.Runs.{Verifies}
 use Rattle.im_verify.specs.declared.ended.Ended.{Ended}
 use Rattle.im_verify.specs.declared.ended.Ended.TheVariants as the
-use Rattle.im_verify.proofs.FoldLemmas.{fold-length}
+use Rattle.im_verify.proofs.FoldLemmas.{fold-length, fold-take, take-take}
 use Rattle.im_verify.proofs.RunLemmas.{told}
 use Rattle.im_client.proofs.OutcomeLemmas.{fold-unique, outcome-unique}
-
-fold-take : (hash : Hash) (state : Option Header) (lines : List (List ℕ)) (os : List Outcome) (n : ℕ) → IsFold hash state lines os → IsFold hash state (take n lines) (take n os)
-fold-take hash state lines os zero f = tt
-fold-take hash state [] [] (suc n) f = tt
-fold-take hash state [] (o ∷ os) (suc n) f = absurd f
-fold-take hash state (l ∷ lines) [] (suc n) f = absurd f
-fold-take hash state (l ∷ lines) (o ∷ os) (suc n) f = (f.0, fold-take hash (state_by state o) lines os n f.1)
 
 fold-at : (hash : Hash) (state : Option Header) (lines : List (List ℕ)) (os : List Outcome) (n : ℕ) → n < length lines → IsFold hash state lines os
     → IsOutcome hash (state_after state (take n os)) (get_or lines n []) (get_or os n line.Passed)
@@ -46,12 +39,6 @@ taken-refused hash lines os before n fault within taken f refused =
 -- kept lines are taken, or stop at one
 pub stop-not-taken : (hash : Hash) (kept : List (List ℕ)) (os : List Outcome) (n : ℕ) → StopsKept hash kept n → AreTaken hash kept os → ⊥
 stop-not-taken hash kept os n s taken = taken-refused hash kept os s.before n s.fault s.within taken s.taken.fold s.refused
-
-take-take : (xs : List (List ℕ)) (n m : ℕ) → n < m → take n (take m xs) ≡ take n xs
-take-take xs zero m lt = refl
-take-take xs (suc n) zero lt = absurd (omega arith)
-take-take [] (suc n) (suc m) lt = refl
-take-take (x ∷ xs) (suc n) (suc m) lt = ap (λ (l : List (List ℕ)). x ∷ l) (take-take xs n m (omega arith))
 
 earlier-stop : (hash : Hash) (kept : List (List ℕ)) (n m : ℕ) → n < m → StopsKept hash kept n → StopsKept hash kept m → ⊥
 earlier-stop hash kept n m lt a b =

@@ -1,5 +1,7 @@
 -- One line more, and one outcome more.
-use Rattle.std.proofs.Common.{◌≡◌, ◌+◌, ℕ, suc, List, [], ◌∷◌, ◌++◌, length, Option, refl, sym, ap, ◌∙◌, arith, append_assoc, append-nil, add-zero}
+use Rattle.std.proofs.Common.{◌≡◌, ◌+◌, ◌<◌, ℕ, zero, suc, List, [], ◌∷◌, ◌++◌, length, take, Option, refl, sym, ap, subst, ◌∙◌, arith, append_assoc, append-nil, add-zero, length-append}
+use Rattle.std.proofs.Math.Seq.{take-append_seam}
+use Rattle.std.proofs.lemmas.List.{length-take-le}
 use Rattle.im_digest.specs.Digests.{Hash}
 use Rattle.im_model.specs.declared.headers.Header.{Header}
 use Rattle.im_client.specs.Folds.{IsFold, IsOutcome, kept_text, kept_texts, state_after, state_by}
@@ -25,6 +27,33 @@ fold-length hash state [] [] f = refl
 fold-length hash state [] (x ∷ os) f = absurd f
 fold-length hash state (l ∷ lines) [] f = absurd f
 fold-length hash state (l ∷ lines) (x ∷ os) f = ap suc (fold-length hash (state_by state x) lines os f.1)
+
+-- the first lines have the first outcomes
+pub fold-take : (hash : Hash) (state : Option Header) (lines : List (List ℕ)) (os : List Outcome) (n : ℕ) → IsFold hash state lines os → IsFold hash state (take n lines) (take n os)
+fold-take hash state lines os zero f = tt
+fold-take hash state [] [] (suc n) f = tt
+fold-take hash state [] (o ∷ os) (suc n) f = absurd f
+fold-take hash state (l ∷ lines) [] (suc n) f = absurd f
+fold-take hash state (l ∷ lines) (o ∷ os) (suc n) f = (f.0, fold-take hash (state_by state o) lines os n f.1)
+
+pub take-take : (xs : List (List ℕ)) (n m : ℕ) → n < m → take n (take m xs) ≡ take n xs
+take-take xs zero m lt = refl
+take-take xs (suc n) zero lt = absurd (omega arith)
+take-take [] (suc n) (suc m) lt = refl
+take-take (x ∷ xs) (suc n) (suc m) lt = ap (λ (l : List (List ℕ)). x ∷ l) (take-take xs n m (omega arith))
+
+-- the lines before the last one have the outcomes before its own
+pub fold-before : (hash : Hash) (state : Option Header) (texts : List (List ℕ)) (count : ℕ) (os : List Outcome) (o : Outcome)
+    → count < length texts → IsFold hash state (take (count + 1) texts) (os ++ o ∷ []) → IsFold hash state (take count texts) os
+fold-before hash state texts count os o within f =
+    let more : length (os ++ o ∷ []) ≡ length os + 1 = length-append os (o ∷ []) in
+    let each : length (os ++ o ∷ []) ≡ length (take (count + 1) texts) = fold-length hash state (take (count + 1) texts) (os ++ o ∷ []) f in
+    let full : length (take (count + 1) texts) ≡ count + 1 = length-take-le (count + 1) texts (omega arith) in
+    let same : length os ≡ count = omega arith in
+    let front : take count (os ++ o ∷ []) ≡ os = ap (λ n. take n (os ++ o ∷ [])) (sym same) ∙ take-append_seam os (o ∷ []) in
+    let lines : take count (take (count + 1) texts) ≡ take count texts = take-take texts count (count + 1) (omega arith) in
+    subst (λ (l : List (List ℕ)). IsFold hash state l os) lines
+    (subst (λ (x : List Outcome). IsFold hash state (take count (take (count + 1) texts)) x) front (fold-take hash state (take (count + 1) texts) (os ++ o ∷ []) count f))
 
 -- what tells the lines before, and then the next one
 pub lines-push : (n : ℕ) (os : List Outcome) (o : Outcome) → outcome_lines n (os ++ o ∷ []) ≡ outcome_lines n os ++ outcome_line (n + length os) o

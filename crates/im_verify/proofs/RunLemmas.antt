@@ -6,15 +6,16 @@ use Rattle.std.proofs.lemmas.List.{take_all}
 use Rattle.im_digest.specs.Digests.{Hash}
 use Rattle.im_cuts.specs.Lines.{AreTexts}
 use Rattle.im_model.specs.declared.headers.Header.{Header}
-use Rattle.im_client.specs.Folds.{IsFold, kept_text, kept_texts}
+use Rattle.im_client.specs.Folds.{IsFold, kept_text, kept_texts, state_after}
 use Rattle.im_client.specs.Texts.{outcome_line, outcome_lines}
 use Rattle.im_client.specs.declared.outcomes.Outcome.{Outcome}
+use Rattle.im_client.specs.declared.outcomes.Outcome.TheVariants.{Accepted}
 use Rattle.im_verify.specs.Judged.{AreJudged}
-use Rattle.im_verify.specs.Runs.{BreaksInto, BreaksOff, KeepsFirst, Verifies}
-use Rattle.im_verify.specs.Turns.{done, TakesAll, TakesInto, TakesKept, TakesSome}
+use Rattle.im_verify.specs.Runs.{BreaksAt, BreaksInto, BreaksOff, KeepsFirst, Verifies}
+use Rattle.im_verify.specs.Turns.{done, TakesAll, TakesAt, TakesInto, TakesKept, TakesSome}
 use Rattle.im_verify.specs.declared.ended.Ended.{Ended}
 use Rattle.im_verify.specs.declared.ended.Ended.TheVariants.{Ok, Refused}
-use Rattle.im_verify.proofs.FoldLemmas.{lines-push}
+use Rattle.im_verify.proofs.FoldLemmas.{fold-before, lines-push}
 
 judged : (hash : Hash) (kept texts : List (List ℕ)) (state : Option Header) (os : List Outcome) → TakesKept hash kept state → IsFold hash state texts os → AreJudged hash kept texts os
 judged hash kept texts state os t f = record {
@@ -53,6 +54,7 @@ into-kept hash (Some ks) stream state before after now took t = record {
   last = t.last;
   judged = judged hash ks (take t.count t.texts) state (t.outcomes ++ t.last ∷ []) took t.fold;
   part = t.part;
+  unfinished = t.unfinished;
   told = t.adds.told;
   keeps = t.adds.keeps;
 }
@@ -66,6 +68,21 @@ off-kept hash (Some ks) stream state before after now took t = record {
   count = t.count;
   outcomes = t.outcomes;
   judged = judged hash ks (take t.count t.texts) state t.outcomes took t.fold;
+  told = t.adds.told;
+  keeps = t.adds.keeps;
+}
+
+at-kept : (hash : Hash) (kept : Option (List (List ℕ))) (stream : List ℕ) (state : Option Header) (before after : Option (List ℕ)) (now : Option (List (List ℕ)))
+    → IfSome kept (λ ks. TakesKept hash ks state) → TakesAt hash state stream (done before kept) (done after now) → IfSome kept (λ ks. BreaksAt hash stream ks before after now)
+at-kept hash None stream state before after now took t = tt
+at-kept hash (Some ks) stream state before after now took t = record {
+  texts = t.texts;
+  are = t.are;
+  count = t.count;
+  within = t.within;
+  outcomes = t.outcomes;
+  next = t.next;
+  judged = judged hash ks (take (t.count + 1) t.texts) state (t.outcomes ++ Accepted t.next ∷ []) took t.fold;
   told = t.adds.told;
   keeps = t.adds.keeps;
 }
@@ -86,6 +103,11 @@ pub breaks-off : (hash : Hash) (kept mid : Option (List (List ℕ))) (stream : L
     → mid ≡ kept → IfSome kept (λ ks. TakesKept hash ks state) → TakesSome hash state stream (done before mid) (done after now) → IfSome kept (λ ks. BreaksOff hash stream ks before after now)
 breaks-off hash kept mid stream state before after now still took t =
     off-kept hash kept stream state before after now took (subst (λ (k : Option (List (List ℕ))). TakesSome hash state stream (done before k) (done after now)) still t)
+
+pub breaks-at : (hash : Hash) (kept mid : Option (List (List ℕ))) (stream : List ℕ) (state : Option Header) (before after : Option (List ℕ)) (now : Option (List (List ℕ)))
+    → mid ≡ kept → IfSome kept (λ ks. TakesKept hash ks state) → TakesAt hash state stream (done before mid) (done after now) → IfSome kept (λ ks. BreaksAt hash stream ks before after now)
+breaks-at hash kept mid stream state before after now still took t =
+    at-kept hash kept stream state before after now took (subst (λ (k : Option (List (List ℕ))). TakesAt hash state stream (done before k) (done after now)) still t)
 
 -- the two ends of a run that is done
 pub ok-not-refused : Ok ≡ Refused → ⊥
@@ -136,3 +158,24 @@ into-keeps hash stream kept before after now b =
     ap (take (length front + b.part)) whole ∙ take-append-add front next b.part in
     keeps-all hash stream kept b.texts b.count (b.outcomes ++ b.last ∷ []) (length front + b.part) before after now b.are b.judged
     (subst (λ (x : List ℕ). Appends before after x) (sym part) b.told) b.keeps
+
+-- a run that broke off before an accepted line broke off
+at-off : (hash : Hash) (stream : List ℕ) (kept : List (List ℕ)) (before after : Option (List ℕ)) (now : Option (List (List ℕ)))
+    → BreaksAt hash stream kept before after now → BreaksOff hash stream kept before after now
+at-off hash stream kept before after now b = record {
+  texts = b.texts;
+  are = b.are;
+  count = b.count;
+  outcomes = b.outcomes;
+  judged = record {
+    before = b.judged.before;
+    taken = b.judged.taken;
+    fold = fold-before hash (state_after None b.judged.before) b.texts b.count b.outcomes (Accepted b.next) b.within b.judged.fold;
+  };
+  told = b.told;
+  keeps = b.keeps;
+}
+
+pub at-keeps : (hash : Hash) (stream : List ℕ) (kept : List (List ℕ)) (before after : Option (List ℕ)) (now : Option (List (List ℕ)))
+    → BreaksAt hash stream kept before after now → KeepsFirst hash stream kept before after now
+at-keeps hash stream kept before after now b = off-keeps hash stream kept before after now (at-off hash stream kept before after now b)

@@ -12,11 +12,13 @@ use Rattle.im_digest.specs.Digests.{Hash}
 use Rattle.im_model.specs.declared.headers.Header.{Header}
 use Rattle.im_cuts.specs.Lines.{AreTexts, IsFirstText}
 use Rattle.im_cuts.proofs.LineLemmas.{texts-exist, texts-more}
+use Rattle.im_wire.specs.declared.messages.Message.{Message}
 use Rattle.im_client.specs.Folds.{IsFold, IsOutcome, IsRefused, kept_text, kept_texts, state_after, state_by}
 use Rattle.im_client.specs.Texts.{outcome_line, outcome_lines}
 use Rattle.im_client.specs.declared.outcomes.Outcome.{Outcome}
+use Rattle.im_client.specs.declared.outcomes.Outcome.TheVariants.{Accepted}
 use Rattle.im_verify.specs.Judged.{NoneRefused, SomeRefused}
-use Rattle.im_verify.specs.Turns.{Adds, Done, HalfTurn, TakesAll, TakesInto, TakesSome, Turn}
+use Rattle.im_verify.specs.Turns.{Adds, Done, HalfTurn, TakesAll, TakesAt, TakesInto, TakesSome, Turn}
 use Rattle.im_verify.proofs.FoldLemmas.{fold-push, lines-push, state-push, texts-push}
 
 keeps-nil : (kept : Option (List (List ℕ))) → kept ≡ option_map (λ xs. xs ++ []) kept
@@ -156,6 +158,32 @@ front-and-next : (front : List (List ℕ)) (line : List ℕ) (more : List (List 
 front-and-next front line more =
     ap (take (length (front ++ line ∷ []))) (sym (append_assoc front (line ∷ []) more)) ∙ take-append_seam (front ++ line ∷ []) more
 
+-- nothing was done of the next line, which is accepted
+pub takes-at : (hash : Hash) (state : Option Header) (stream rest line behind : List ℕ) (number : ℕ) (refused : Bool) (now : Option Header) (from mid to : Done)
+    → 0 < length rest → IsFirstText rest line behind → to.written ≡ mid.written → to.kept ≡ mid.kept → Progress hash state stream rest number refused now from mid
+    → (next : Message) × IsOutcome hash now line (Accepted next) → TakesAt hash state stream from to
+takes-at hash state stream rest line behind number refused now from mid to some first written kept p (next, accepted) =
+    let more = texts-exist behind in
+    let is : IsOutcome hash (state_after state p.outcomes) line (Accepted next) = subst (λ (s : Option Header). IsOutcome hash s line (Accepted next)) p.follows accepted in
+    let fold : IsFold hash state (p.lines ++ line ∷ []) (p.outcomes ++ Accepted next ∷ []) = fold-push hash state p.lines p.outcomes line (Accepted next) p.fold is in
+    let all : length (p.lines ++ line ∷ more.0) ≡ length p.lines + length (line ∷ more.0) = length-append p.lines (line ∷ more.0) in
+    let size : length (p.lines ++ line ∷ []) ≡ length p.lines + 1 = length-append p.lines (line ∷ []) in
+    let front : take (length p.lines + 1) (p.lines ++ line ∷ more.0) ≡ p.lines ++ line ∷ [] =
+    ap (λ n. take n (p.lines ++ line ∷ more.0)) (sym size) ∙ front-and-next p.lines line more.0 in
+    record {
+      texts = p.lines ++ line ∷ more.0;
+      are = p.behind (line ∷ more.0) (texts-more rest line behind more.0 some first more.1);
+      count = length p.lines;
+      within = omega arith;
+      outcomes = p.outcomes;
+      next = next;
+      fold = subst (λ (ls : List (List ℕ)). IsFold hash state ls (p.outcomes ++ Accepted next ∷ [])) (sym front) fold;
+      adds = record {
+        told = subst (λ (w : Option (List ℕ)). Appends from.written w (outcome_lines 1 p.outcomes)) (sym written) p.adds.told;
+        keeps = kept ∙ p.adds.keeps;
+      };
+    }
+
 -- the next line was told in part
 pub takes-into : (hash : Hash) (state : Option Header) (stream rest line behind : List ℕ) (number : ℕ) (refused : Bool) (now : Option Header) (from mid to : Done)
     → 0 < length rest → IsFirstText rest line behind → Progress hash state stream rest number refused now from mid → HalfTurn hash (number + 1) line now mid to
@@ -166,7 +194,7 @@ takes-into hash state stream rest line behind number refused now from mid to som
     let fold : IsFold hash state (p.lines ++ line ∷ []) (p.outcomes ++ t.outcome ∷ []) = fold-push hash state p.lines p.outcomes line t.outcome p.fold is in
     let n : number + 1 ≡ length p.outcomes + 1 = ap (λ k. k + 1) p.count in
     let both : Adds (outcome_lines 1 p.outcomes ++ take t.tells.0 (outcome_line (number + 1) t.outcome)) (kept_texts p.outcomes ++ kept_text t.outcome) from to =
-    adds-trans _ _ _ _ from mid to p.adds t.tells.1 in
+    adds-trans _ _ _ _ from mid to p.adds t.tells.2 in
     let A : List ℕ → List (List ℕ) → Type 0 = λ x a. Adds x a from to in
     record {
       texts = p.lines ++ line ∷ more.0;
@@ -176,6 +204,7 @@ takes-into hash state stream rest line behind number refused now from mid to som
       last = t.outcome;
       fold = subst (λ (ls : List (List ℕ)). IsFold hash state ls (p.outcomes ++ t.outcome ∷ [])) (sym (front-and-next p.lines line more.0)) fold;
       part = t.tells.0;
+      unfinished = subst (λ k. t.tells.0 < length (outcome_line k t.outcome)) n t.tells.1;
       adds = subst (λ k. A (outcome_lines 1 p.outcomes ++ take t.tells.0 (outcome_line k t.outcome)) (kept_texts (p.outcomes ++ t.outcome ∷ []))) n
           (subst (λ (a : List (List ℕ)). A (outcome_lines 1 p.outcomes ++ take t.tells.0 (outcome_line (number + 1) t.outcome)) a) (sym (texts-push p.outcomes t.outcome)) both);
     }

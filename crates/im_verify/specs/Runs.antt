@@ -1,12 +1,14 @@
 -- What a run writes and keeps: the lines that tell what became of a stream's lines, and the texts of the
 -- accepted messages behind the kept lines.
-use Rattle.std.specs.Prelude.{◌≡◌, ◌≤◌, ◌+◌, ℕ, List, [], ◌∷◌, ◌++◌, length, take, Option, Some}
+use Rattle.std.specs.Prelude.{◌≡◌, ◌<◌, ◌≤◌, ◌+◌, ℕ, List, [], ◌∷◌, ◌++◌, length, take, Option, Some}
 use Rattle.std.specs.Io.KnownBytes.{Appends}
 use Rattle.im_digest.specs.Digests.{Hash}
 use Rattle.im_cuts.specs.Lines.{AreTexts}
+use Rattle.im_wire.specs.declared.messages.Message.{Message}
 use Rattle.im_client.specs.Folds.{kept_texts}
 use Rattle.im_client.specs.Texts.{outcome_line, outcome_lines}
 use Rattle.im_client.specs.declared.outcomes.Outcome.{Outcome}
+use Rattle.im_client.specs.declared.outcomes.Outcome.TheVariants.{Accepted}
 use Rattle.im_verify.specs.Judged.{AreJudged, IsVerified, NoneRefused, SomeRefused}
 use Rattle.im_verify.specs.declared.ended.Ended.{Ended}
 use Rattle.im_verify.specs.declared.ended.Ended.TheVariants.{Ok, Refused}
@@ -32,8 +34,21 @@ pub record BreaksOff (hash : Hash) (stream : List ℕ) (kept : List (List ℕ))
   pub told : Appends before after (outcome_lines 1 outcomes)
   pub keeps : now ≡ Some (kept ++ kept_texts outcomes)
 
--- the first lines of the stream were told, and then a front part of what tells the next one; the accepted
--- messages of them all are kept, that of the last one too
+-- so it did before a line that is accepted, whose message isn't kept
+pub record BreaksAt (hash : Hash) (stream : List ℕ) (kept : List (List ℕ))
+    (before after : Option (List ℕ)) (now : Option (List (List ℕ))) : Type 0 where
+  pub texts : List (List ℕ)
+  pub are : AreTexts stream texts
+  pub count : ℕ
+  pub within : count < length texts
+  pub outcomes : List Outcome
+  pub next : Message
+  pub judged : AreJudged hash kept (take (count + 1) texts) (outcomes ++ Accepted next ∷ [])
+  pub told : Appends before after (outcome_lines 1 outcomes)
+  pub keeps : now ≡ Some (kept ++ kept_texts outcomes)
+
+-- the first lines of the stream were told, and then a front part of what tells the next one, not all of it; the
+-- accepted messages of them all are kept, that of the last one too
 pub record BreaksInto (hash : Hash) (stream : List ℕ) (kept : List (List ℕ))
     (before after : Option (List ℕ)) (now : Option (List (List ℕ))) : Type 0 where
   pub texts : List (List ℕ)
@@ -43,6 +58,7 @@ pub record BreaksInto (hash : Hash) (stream : List ℕ) (kept : List (List ℕ))
   pub last : Outcome
   pub judged : AreJudged hash kept (take count texts) (outcomes ++ last ∷ [])
   pub part : ℕ
+  pub unfinished : part < length (outcome_line (length outcomes + 1) last)
   pub told : Appends before after (outcome_lines 1 outcomes ++ take part (outcome_line (length outcomes + 1) last))
   pub keeps : now ≡ Some (kept ++ kept_texts (outcomes ++ last ∷ []))
 

@@ -1,13 +1,15 @@
 -- What one line and several lines do to a sink and a keeper.
-use Rattle.std.specs.Prelude.{◌≡◌, ◌+◌, ℕ, List, [], ◌∷◌, ◌++◌, length, take, Bool, true, false, Option, None}
+use Rattle.std.specs.Prelude.{◌≡◌, ◌<◌, ◌+◌, ℕ, List, [], ◌∷◌, ◌++◌, length, take, Bool, true, false, Option, None}
 use Rattle.std.specs.Option.{option_map}
 use Rattle.std.specs.Io.KnownBytes.{Appends}
 use Rattle.im_digest.specs.Digests.{Hash}
 use Rattle.im_model.specs.declared.headers.Header.{Header}
 use Rattle.im_cuts.specs.Lines.{AreTexts}
+use Rattle.im_wire.specs.declared.messages.Message.{Message}
 use Rattle.im_client.specs.Folds.{IsFold, IsOutcome, IsRefused, kept_text, kept_texts, state_after, state_by}
 use Rattle.im_client.specs.Texts.{outcome_line, outcome_lines}
 use Rattle.im_client.specs.declared.outcomes.Outcome.{Outcome}
+use Rattle.im_client.specs.declared.outcomes.Outcome.TheVariants.{Accepted}
 use Rattle.im_verify.specs.Judged.{AreTaken, NoneRefused, SomeRefused}
 
 -- what is written in a sink and kept by a keeper, where these tell it
@@ -28,9 +30,10 @@ pub record Adds (octets : List ℕ) (lines : List (List ℕ)) (from to : Done) :
 abbrev pub Tells : ℕ → Outcome → Done → Done → Type 0
 Tells number outcome from to = Adds (outcome_line number outcome) (kept_text outcome) from to
 
--- a front part of what tells a line was written, and its accepted message kept
+-- a front part of what tells a line was written, not all of it, and its accepted message kept
 abbrev pub TellsPart : ℕ → Outcome → Done → Done → Type 0
-TellsPart number outcome from to = (part : ℕ) × Adds (take part (outcome_line number outcome)) (kept_text outcome) from to
+TellsPart number outcome from to =
+    (part : ℕ) × (part < length (outcome_line number outcome)) × Adds (take part (outcome_line number outcome)) (kept_text outcome) from to
 
 -- a line was judged and told, and its accepted message kept; the client follows
 pub record Turn (hash : Hash) (number : ℕ) (line : List ℕ) (refused : Bool) (state next : Option Header) (from to : Done) : Type 0 where
@@ -66,6 +69,17 @@ pub record TakesSome (hash : Hash) (state : Option Header) (stream : List ℕ) (
   pub fold : IsFold hash state (take count texts) outcomes
   pub adds : Adds (outcome_lines 1 outcomes) (kept_texts outcomes) from to
 
+-- the first lines of a stream were, before a line that is accepted, of which nothing was told or kept
+pub record TakesAt (hash : Hash) (state : Option Header) (stream : List ℕ) (from to : Done) : Type 0 where
+  pub texts : List (List ℕ)
+  pub are : AreTexts stream texts
+  pub count : ℕ
+  pub within : count < length texts
+  pub outcomes : List Outcome
+  pub next : Message
+  pub fold : IsFold hash state (take (count + 1) texts) (outcomes ++ Accepted next ∷ [])
+  pub adds : Adds (outcome_lines 1 outcomes) (kept_texts outcomes) from to
+
 -- the first lines of a stream were, and the next one was told in part
 pub record TakesInto (hash : Hash) (state : Option Header) (stream : List ℕ) (from to : Done) : Type 0 where
   pub texts : List (List ℕ)
@@ -75,6 +89,7 @@ pub record TakesInto (hash : Hash) (state : Option Header) (stream : List ℕ) (
   pub last : Outcome
   pub fold : IsFold hash state (take count texts) (outcomes ++ last ∷ [])
   pub part : ℕ
+  pub unfinished : part < length (outcome_line (length outcomes + 1) last)
   pub adds : Adds (outcome_lines 1 outcomes ++ take part (outcome_line (length outcomes + 1) last))
       (kept_texts (outcomes ++ last ∷ [])) from to
 

@@ -81,6 +81,7 @@ pub(crate) fn take_kept<H: Hash32, P: Keeper>(
     ensures kept { P.kept keeper.new ≡ P.kept keeper.old }
     ensures fault { result ≡ Err KeptError.KeeperFault → Rose (P.faults keeper.old) (P.faults keeper.new) }
     ensures count { (result ≡ Err KeptError.KeeperFault → ⊥) → P.faults keeper.new ≡ P.faults keeper.old }
+    ensures once { P.faults keeper.new ≤ P.faults keeper.old + 1 }
 {
     let lines = keeper.lines(alloc)?;
     follow_lines(alloc, hash, lines.as_slice())

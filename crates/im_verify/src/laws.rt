@@ -3,7 +3,7 @@ ghost use Rattle.im_digest.specs.Digests.{Hash};
 ghost use Rattle.im_client.specs.Folds.{kept_texts, state_after};
 ghost use Rattle.im_client.specs.declared.outcomes.Outcome.{Outcome};
 ghost use Rattle.im_verify.specs.Judged.{AreJudged, AreTaken, StopsKept};
-ghost use Rattle.im_verify.specs.Runs.{BreaksInto, BreaksOff, KeepsFirst};
+ghost use Rattle.im_verify.specs.Runs.{BreaksAt, BreaksInto, BreaksOff, KeepsFirst};
 
 /// However a run breaks off, each line that is written whole has its message kept.
 pub fn a_told_message_is_kept()
@@ -11,6 +11,8 @@ pub fn a_told_message_is_kept()
         → BreaksInto hash stream kept before after now → KeepsFirst hash stream kept before after now }
     ensures off { (hash : Hash) (stream : List ℕ) (kept : List (List ℕ)) (before after : Option (List ℕ)) (now : Option (List (List ℕ)))
         → BreaksOff hash stream kept before after now → KeepsFirst hash stream kept before after now }
+    ensures at { (hash : Hash) (stream : List ℕ) (kept : List (List ℕ)) (before after : Option (List ℕ)) (now : Option (List (List ℕ)))
+        → BreaksAt hash stream kept before after now → KeepsFirst hash stream kept before after now }
 {}
 
 /// Kept lines are all taken, or they stop at one line, and not both.

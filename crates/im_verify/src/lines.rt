@@ -1,8 +1,10 @@
-ghost use Rattle.std.specs.Prelude.{◌≡◌, ◌⊎◌, ◌++◌, ℕ, Err, IfOk, OnOk, OnErr};
+ghost use Rattle.std.specs.Prelude.{◌≡◌, ◌⊎◌, ◌++◌, ◌+◌, ◌≤◌, ℕ, Err, IfOk, OnOk, OnErr};
 ghost use Rattle.std.specs.Option.{option_map};
-ghost use Rattle.im_client.specs.Folds.{kept_text};
+ghost use Rattle.im_client.specs.Folds.{IsOutcome, kept_text};
+ghost use Rattle.im_client.specs.declared.outcomes.Outcome.TheVariants.{Accepted};
 ghost use Rattle.im_edge.specs.Counts.{Rose};
-ghost use Rattle.im_verify.specs.Turns.{done, HalfTurn, TakesAll, TakesInto, TakesSome, Tells, TellsPart, Turn};
+ghost use Rattle.im_wire.specs.declared.messages.Message.{Message};
+ghost use Rattle.im_verify.specs.Turns.{done, HalfTurn, TakesAll, TakesAt, TakesInto, TakesSome, Tells, TellsPart, Turn};
 
 use crate::kept::is_refused;
 use crate::stops::Stop;
@@ -16,13 +18,16 @@ use im_edge::sink::{Sink, write_all};
 use im_wire::writing::write;
 use std::alloc::Global;
 
-// Keeps the text of an accepted message; what else became of a line keeps nothing.
+// Keeps the text of an accepted message; what else became of a line keeps nothing. A failure of the
+// keeper comes only at an accepted message.
 fn keep<P: Keeper>(alloc: Global, keeper: &mut P, outcome: &Outcome) -> Result<(), Stop>
     ensures ok { OnOk result (P.kept keeper.new ≡ option_map (λ xs. xs ++ kept_text outcome.now) (P.kept keeper.old)) }
     ensures err { OnErr result (P.kept keeper.new ≡ P.kept keeper.old) }
     ensures sink { result ≡ Err Stop.WriteFault → ⊥ }
+    ensures accepted { result ≡ Err Stop.KeeperFault → (next : Message) × (outcome.now ≡ Accepted next) }
     ensures fault { result ≡ Err Stop.KeeperFault → Rose (P.faults keeper.old) (P.faults keeper.new) }
     ensures count { (result ≡ Err Stop.KeeperFault → ⊥) → P.faults keeper.new ≡ P.faults keeper.old }
+    ensures once { P.faults keeper.new ≤ P.faults keeper.old + 1 }
 {
     let Outcome::Accepted { message } = outcome else {
         return Ok(());
@@ -47,10 +52,13 @@ fn keep_and_tell<K: Sink, P: Keeper>(
         (done (K.written sink.old) (P.kept keeper.old)) (done (K.written sink.new) (P.kept keeper.new)) }
     ensures nothing { (result ≡ Err Stop.KeeperFault) ⊎ (result ≡ Err Stop.Memory) →
         (K.written sink.new ≡ K.written sink.old) × (P.kept keeper.new ≡ P.kept keeper.old) }
+    ensures accepted { result ≡ Err Stop.KeeperFault → (next : Message) × (outcome.now ≡ Accepted next) }
     ensures write { result ≡ Err Stop.WriteFault → Rose (K.faults sink.old) (K.faults sink.new) }
     ensures keep { result ≡ Err Stop.KeeperFault → Rose (P.faults keeper.old) (P.faults keeper.new) }
     ensures sink_count { (result ≡ Err Stop.WriteFault → ⊥) → K.faults sink.new ≡ K.faults sink.old }
     ensures keeper_count { (result ≡ Err Stop.KeeperFault → ⊥) → P.faults keeper.new ≡ P.faults keeper.old }
+    ensures sink_once { K.faults sink.new ≤ K.faults sink.old + 1 }
+    ensures keeper_once { P.faults keeper.new ≤ P.faults keeper.old + 1 }
 {
     let told = outcome_text(alloc, number, outcome)?;
     keep(alloc, keeper, outcome)?;
@@ -74,10 +82,13 @@ fn take_line<H: Hash32, K: Sink, P: Keeper>(
         (done (K.written sink.old) (P.kept keeper.old)) (done (K.written sink.new) (P.kept keeper.new)) }
     ensures nothing { (result ≡ Err Stop.KeeperFault) ⊎ (result ≡ Err Stop.Memory) →
         (K.written sink.new ≡ K.written sink.old) × (P.kept keeper.new ≡ P.kept keeper.old) }
+    ensures accepted { result ≡ Err Stop.KeeperFault → (next : Message) × IsOutcome (H.digest hash.now) client.old line.now (Accepted next) }
     ensures write { result ≡ Err Stop.WriteFault → Rose (K.faults sink.old) (K.faults sink.new) }
     ensures keep { result ≡ Err Stop.KeeperFault → Rose (P.faults keeper.old) (P.faults keeper.new) }
     ensures sink_count { (result ≡ Err Stop.WriteFault → ⊥) → K.faults sink.new ≡ K.faults sink.old }
     ensures keeper_count { (result ≡ Err Stop.KeeperFault → ⊥) → P.faults keeper.new ≡ P.faults keeper.old }
+    ensures sink_once { K.faults sink.new ≤ K.faults sink.old + 1 }
+    ensures keeper_once { P.faults keeper.new ≤ P.faults keeper.old + 1 }
 {
     let outcome = client.judge(alloc, hash, line)?;
     keep_and_tell(alloc, sink, keeper, number, &outcome)?;
@@ -100,12 +111,16 @@ pub(crate) fn take_lines<H: Hash32, K: Sink, P: Keeper>(
         (done (K.written sink.old) (P.kept keeper.old)) (done (K.written sink.new) (P.kept keeper.new))) }
     ensures into { result ≡ Err Stop.WriteFault → TakesInto (H.digest hash.now) client.old stream.now
         (done (K.written sink.old) (P.kept keeper.old)) (done (K.written sink.new) (P.kept keeper.new)) }
-    ensures some { (result ≡ Err Stop.KeeperFault) ⊎ (result ≡ Err Stop.Memory) → TakesSome (H.digest hash.now) client.old stream.now
+    ensures some { result ≡ Err Stop.Memory → TakesSome (H.digest hash.now) client.old stream.now
+        (done (K.written sink.old) (P.kept keeper.old)) (done (K.written sink.new) (P.kept keeper.new)) }
+    ensures accepted { result ≡ Err Stop.KeeperFault → TakesAt (H.digest hash.now) client.old stream.now
         (done (K.written sink.old) (P.kept keeper.old)) (done (K.written sink.new) (P.kept keeper.new)) }
     ensures write { result ≡ Err Stop.WriteFault → Rose (K.faults sink.old) (K.faults sink.new) }
     ensures keep { result ≡ Err Stop.KeeperFault → Rose (P.faults keeper.old) (P.faults keeper.new) }
     ensures sink_count { (result ≡ Err Stop.WriteFault → ⊥) → K.faults sink.new ≡ K.faults sink.old }
     ensures keeper_count { (result ≡ Err Stop.KeeperFault → ⊥) → P.faults keeper.new ≡ P.faults keeper.old }
+    ensures sink_once { K.faults sink.new ≤ K.faults sink.old + 1 }
+    ensures keeper_once { P.faults keeper.new ≤ P.faults keeper.old + 1 }
 {
     let mut rest = stream;
     let mut number = 0;

@@ -3,7 +3,7 @@ ghost use Rattle.im_edge.specs.Counts.{Rose};
 ghost use Rattle.im_edge.specs.Sources.{TakesAtMost};
 ghost use Rattle.im_verify.specs.Ends.{HasFate};
 ghost use Rattle.im_verify.specs.Judged.{StopsKept};
-ghost use Rattle.im_verify.specs.Runs.{BreaksInto, BreaksOff, Verifies};
+ghost use Rattle.im_verify.specs.Runs.{BreaksAt, BreaksInto, BreaksOff, Verifies};
 
 use crate::ended::Ended;
 use crate::kept::{KeptError, take_kept};
@@ -30,10 +30,14 @@ fn verify_octets<H: Hash32, K: Sink, P: Keeper>(
         Verifies (H.digest hash.now) stream.now kept result (K.written sink.old) (K.written sink.new) (P.kept keeper.new)) }
     ensures into { result ≡ Ended.WriteFault → IfSome (P.kept keeper.old) (λ kept.
         BreaksInto (H.digest hash.now) stream.now kept (K.written sink.old) (K.written sink.new) (P.kept keeper.new)) }
-    ensures off { (result ≡ Ended.KeeperFault) ⊎ (result ≡ Ended.Memory) →
+    ensures off { result ≡ Ended.Memory →
         ((K.written sink.new ≡ K.written sink.old) × (P.kept keeper.new ≡ P.kept keeper.old))
         ⊎ IfSome (P.kept keeper.old) (λ kept.
         BreaksOff (H.digest hash.now) stream.now kept (K.written sink.old) (K.written sink.new) (P.kept keeper.new)) }
+    ensures fault { result ≡ Ended.KeeperFault →
+        ((K.written sink.new ≡ K.written sink.old) × (P.kept keeper.new ≡ P.kept keeper.old))
+        ⊎ IfSome (P.kept keeper.old) (λ kept.
+        BreaksAt (H.digest hash.now) stream.now kept (K.written sink.old) (K.written sink.new) (P.kept keeper.new)) }
     ensures kept { (k : ℕ) → result ≡ Ended.Kept k → IfSome (P.kept keeper.old) (λ kept.
         (n : ℕ) × (k ≡ n + 1) × StopsKept (H.digest hash.now) kept n) }
     ensures nothing { (k : ℕ) → result ≡ Ended.Kept k → (sink.new ≡ sink.old) × (P.kept keeper.new ≡ P.kept keeper.old) }
@@ -42,6 +46,8 @@ fn verify_octets<H: Hash32, K: Sink, P: Keeper>(
     ensures keep { result ≡ Ended.KeeperFault → Rose (P.faults keeper.old) (P.faults keeper.new) }
     ensures sink_count { (result ≡ Ended.WriteFault → ⊥) → K.faults sink.new ≡ K.faults sink.old }
     ensures keeper_count { (result ≡ Ended.KeeperFault → ⊥) → P.faults keeper.new ≡ P.faults keeper.old }
+    ensures sink_once { K.faults sink.new ≤ K.faults sink.old + 1 }
+    ensures keeper_once { P.faults keeper.new ≤ P.faults keeper.old + 1 }
 {
     let mut client = match take_kept(alloc, hash, keeper) {
         Ok(client) => client,
@@ -79,20 +85,29 @@ pub fn verify<H: Hash32, S: Source, K: Sink, P: Keeper>(
     ensures ok { (result ≡ Ended.Ok) ⊎ (result ≡ Ended.Refused) → IfSome (S.left source.old) (λ stream. IfSome (P.kept keeper.old) (λ kept.
         Verifies (H.digest hash.now) stream kept result (K.written sink.old) (K.written sink.new) (P.kept keeper.new))) }
 
-    // The sink failed: the first lines were told, and the next one in part; the messages of them all are kept.
+    // The sink failed: the first lines were told, and the next one in part, never whole; the messages of them all are kept.
     ensures into { result ≡ Ended.WriteFault → IfSome (S.left source.old) (λ stream. IfSome (P.kept keeper.old) (λ kept.
         BreaksInto (H.digest hash.now) stream kept (K.written sink.old) (K.written sink.new) (P.kept keeper.new))) }
 
-    // The keeper failed, or memory ran out: nothing was done, or the first lines were told and kept.
-    ensures off { (result ≡ Ended.KeeperFault) ⊎ (result ≡ Ended.Memory) →
+    // Memory ran out: nothing was done, or the first lines were told and kept.
+    ensures off { result ≡ Ended.Memory →
         ((K.written sink.new ≡ K.written sink.old) × (P.kept keeper.new ≡ P.kept keeper.old))
         ⊎ IfSome (S.left source.old) (λ stream. IfSome (P.kept keeper.old) (λ kept.
         BreaksOff (H.digest hash.now) stream kept (K.written sink.old) (K.written sink.new) (P.kept keeper.new))) }
+
+    // The keeper failed: nothing was done, or the first lines were told and kept, before one that is accepted.
+    ensures fault { result ≡ Ended.KeeperFault →
+        ((K.written sink.new ≡ K.written sink.old) × (P.kept keeper.new ≡ P.kept keeper.old))
+        ⊎ IfSome (S.left source.old) (λ stream. IfSome (P.kept keeper.old) (λ kept.
+        BreaksAt (H.digest hash.now) stream kept (K.written sink.old) (K.written sink.new) (P.kept keeper.new))) }
 
     // Else nothing was done.
     ensures nothing { (result ≡ Ended.ReadFault) ⊎ (result ≡ Ended.Long) ⊎ ((k : ℕ) × (result ≡ Ended.Kept k)) →
         (sink.new ≡ sink.old) × (P.kept keeper.new ≡ P.kept keeper.old) }
     ensures idle { (result ≡ Ended.ReadFault) ⊎ (result ≡ Ended.Long) → keeper.new ≡ keeper.old }
+
+    // A stream past its limit touches neither the sink nor the keeper, at any end.
+    ensures too_long { IfSome (S.left source.old) (λ stream. 67108864 < length stream → (sink.new ≡ sink.old) × (keeper.new ≡ keeper.old)) }
 
     // The first kept line that is refused.
     ensures kept { (k : ℕ) → result ≡ Ended.Kept k → IfSome (P.kept keeper.old) (λ kept.
@@ -115,6 +130,11 @@ pub fn verify<H: Hash32, S: Source, K: Sink, P: Keeper>(
     ensures source_count { (result ≡ Ended.ReadFault → ⊥) → S.faults source.new ≡ S.faults source.old }
     ensures sink_count { (result ≡ Ended.WriteFault → ⊥) → K.faults sink.new ≡ K.faults sink.old }
     ensures keeper_count { (result ≡ Ended.KeeperFault → ⊥) → P.faults keeper.new ≡ P.faults keeper.old }
+
+    // At every end each of the three counts rose by at most one.
+    ensures source_once { S.faults source.new ≤ S.faults source.old + 1 }
+    ensures sink_once { K.faults sink.new ≤ K.faults sink.old + 1 }
+    ensures keeper_once { P.faults keeper.new ≤ P.faults keeper.old + 1 }
 
     // No fault: what the source and the keeper hold decides, or memory is wanted.
     ensures complete { (Rose (S.faults source.old) (S.faults source.new) → ⊥)

@@ -1,7 +1,7 @@
-use Rattle.std.proofs.Common.{◌≡◌, ◌⊎◌, ◌+◌, ◌<◌, ◌≤◌, ℕ, List, length, Err, refl, sym, ◌∙◌, arith}
+use Rattle.std.proofs.Common.{◌≡◌, ◌+◌, ◌<◌, ◌≤◌, ℕ, List, length, Err, refl, sym, ◌∙◌, arith, inl, inr}
 use Rattle.im_verify.specs.Turns.{done, Done}
 use Rattle.im_verify.specs.declared.stops.Stop.TheVariants as stops
-use Rattle.im_verify.proofs.TurnLemmas.{no-octets, ok-no-err, progress-first, progress-next, takes-all, takes-into, takes-some}
+use Rattle.im_verify.proofs.TurnLemmas.{no-octets, ok-no-err, progress-first, progress-next, takes-all, takes-at, takes-into, takes-some}
 use Rattle.im_verify.proofs.lines.take_lines.Goals as goal
 
 pub loop-rest-init : goal.loop-rest-init
@@ -45,9 +45,21 @@ returns-in_err-refused-clause-some g c = λ e.
     let from : Done = done (g.K.Sink.written c.args.sink.now) (g.P.Keeper.kept c.args.keeper.now) in
     let mid : Done = done (g.K.Sink.written c.loop-rest.sink) (g.P.Keeper.kept c.loop-rest.keeper) in
     let to : Done = done (g.K.Sink.written c.take_line.new.sink) (g.P.Keeper.kept c.take_line.new.keeper) in
-    let failed : (c.take_line.result ≡ Err stops.KeeperFault) ⊎ (c.take_line.result ≡ Err stops.Memory) = grind arith in
-    let same = c.take_line.ensures.nothing failed in
+    let failed : c.take_line.result ≡ Err stops.Memory = grind arith in
+    let same = c.take_line.ensures.nothing (inr failed) in
     takes-some hash c.args.client.now c.args.stream.now c.loop-rest.rest.now c.loop-rest.number c.loop-rest.refused c.loop-rest.client from mid to same.0 same.1 c.loop-rest.invariant.progress
+
+pub returns-in_err-refused-clause-accepted : goal.returns-in_err-refused-clause-accepted
+returns-in_err-refused-clause-accepted g c = λ e.
+    let hash : List ℕ → List ℕ = g.H.Hash32.digest c.args.hash.now in
+    let from : Done = done (g.K.Sink.written c.args.sink.now) (g.P.Keeper.kept c.args.keeper.now) in
+    let mid : Done = done (g.K.Sink.written c.loop-rest.sink) (g.P.Keeper.kept c.loop-rest.keeper) in
+    let to : Done = done (g.K.Sink.written c.take_line.new.sink) (g.P.Keeper.kept c.take_line.new.keeper) in
+    let some : 0 < length c.loop-rest.rest.now = grind arith in
+    let failed : c.take_line.result ≡ Err stops.KeeperFault = grind arith in
+    let same = c.take_line.ensures.nothing (inl failed) in
+    takes-at hash c.args.client.now c.args.stream.now c.loop-rest.rest.now c.first_line.result.0.now c.first_line.result.1.now c.loop-rest.number c.loop-rest.refused
+    c.loop-rest.client from mid to some c.first_line.ensures.first same.0 same.1 c.loop-rest.invariant.progress (c.take_line.ensures.accepted failed)
 
 pub returns-clause-ok : goal.returns-clause-ok
 returns-clause-ok g c =

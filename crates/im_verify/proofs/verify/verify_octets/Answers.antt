@@ -1,6 +1,6 @@
-use Rattle.std.proofs.Common.{Err, ap, inl, inr}
+use Rattle.std.proofs.Common.{Err, ap, inr}
 use Rattle.im_verify.specs.declared.ended.Ended.TheVariants as the
-use Rattle.im_verify.proofs.RunLemmas.{breaks-into, breaks-off, ok-not-refused, verifies}
+use Rattle.im_verify.proofs.RunLemmas.{breaks-at, breaks-into, breaks-off, ok-not-refused, verifies}
 use Rattle.im_verify.proofs.verify.verify_octets.Goals as goal
 
 pub returns-in-Ok-false-clause-ok : goal.returns-in-Ok-false-clause-ok
@@ -17,16 +17,16 @@ returns-in-Err-WriteFault-clause-into g c = λ _.
     (g.K.Sink.written c.args.sink.now) (g.K.Sink.written c.take_lines.new.sink) (g.P.Keeper.kept c.take_lines.new.keeper)
     c.take_kept.ensures.kept c.in-Ok.ensures.ok (c.in-Err-WriteFault.ensures.into (ap Err c.in-Err-WriteFault.field-0-is))
 
-pub returns-in-Err-KeeperFault-take_lines-clause-off : goal.returns-in-Err-KeeperFault-take_lines-clause-off
-returns-in-Err-KeeperFault-take_lines-clause-off g c = λ _. inr (
-    breaks-off (g.H.Hash32.digest c.args.hash.now) (g.P.Keeper.kept c.args.keeper.now) (g.P.Keeper.kept c.take_kept.new.keeper)
+pub returns-in-Err-KeeperFault-take_lines-clause-fault : goal.returns-in-Err-KeeperFault-take_lines-clause-fault
+returns-in-Err-KeeperFault-take_lines-clause-fault g c = λ _. inr (
+    breaks-at (g.H.Hash32.digest c.args.hash.now) (g.P.Keeper.kept c.args.keeper.now) (g.P.Keeper.kept c.take_kept.new.keeper)
     c.args.stream.now c.in-Ok.client
     (g.K.Sink.written c.args.sink.now) (g.K.Sink.written c.take_lines.new.sink) (g.P.Keeper.kept c.take_lines.new.keeper)
-    c.take_kept.ensures.kept c.in-Ok.ensures.ok (c.in-Err-KeeperFault-take_lines.ensures.some (inl (ap Err c.in-Err-KeeperFault-take_lines.field-0-is))))
+    c.take_kept.ensures.kept c.in-Ok.ensures.ok (c.in-Err-KeeperFault-take_lines.ensures.accepted (ap Err c.in-Err-KeeperFault-take_lines.field-0-is)))
 
 pub returns-clause-off : goal.returns-clause-off
 returns-clause-off g c = λ _. inr (
     breaks-off (g.H.Hash32.digest c.args.hash.now) (g.P.Keeper.kept c.args.keeper.now) (g.P.Keeper.kept c.take_kept.new.keeper)
     c.args.stream.now c.in-Ok.client
     (g.K.Sink.written c.args.sink.now) (g.K.Sink.written c.take_lines.new.sink) (g.P.Keeper.kept c.take_lines.new.keeper)
-    c.take_kept.ensures.kept c.in-Ok.ensures.ok (c.in-Err-Memory-take_lines.ensures.some (inr (ap Err c.in-Err-Memory-take_lines.field-0-is))))
+    c.take_kept.ensures.kept c.in-Ok.ensures.ok (c.in-Err-Memory-take_lines.ensures.some (ap Err c.in-Err-Memory-take_lines.field-0-is)))
