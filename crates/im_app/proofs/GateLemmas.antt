@@ -1,9 +1,8 @@
 -- The gate that opening closed is the one behind the batches that the session began with.
-use Rattle.std.proofs.Common.{◌≡◌, ◌∙◌, ◌<◌, ℕ, List, length, ap, subst, arith, inl, inr, Option, Some, None, IfSome}
-use Rattle.std.proofs.lemmas.Bool.{cases_lt}
+use Rattle.std.proofs.Common.{◌≡◌, ◌∙◌, ℕ, List, length, ap, subst, Option, Some, None, IfSome}
 use Rattle.std.specs.Prelude.{slice_index_or}
 use Rattle.im_digest.specs.Digests.{Hash}
-use Rattle.im_disk.specs.Disk.{Files, Told, after, seen}
+use Rattle.im_disk.specs.Disk.{Told, after, seen}
 use Rattle.im_disk.specs.declared.calls.Call.TheVariants.{Synced}
 use Rattle.im_format.specs.Batches.{gate_of, spans_of}
 use Rattle.im_format.specs.Standing.{HasBatches}
@@ -14,21 +13,8 @@ use Rattle.im_journal.specs.Pieces.{end_of}
 use Rattle.im_journal.proofs.Mids.{first_at}
 use Rattle.im_journal.proofs.Turns.{stands, stands_batches}
 use Rattle.im_ledger.specs.Histories.{IsKept, KeptHistory}
+use Rattle.im_ledger.proofs.OpenLemmas.{same-count}
 use Rattle.im_opening.specs.Cut.{IsOpenedBy, repaired}
-
--- no more batches count in an image than it has
-no-more : (image : Files) (a b : List (List Record)) → HasBatches image a → HasBatches image b → length a < length b → ⊥
-no-more image a b has_a has_b less = has_a.last (has_b.counted (length a) less)
-
-same-count : (image : Files) (a b : List (List Record)) → HasBatches image a → HasBatches image b → length a ≡ length b
-same-count image a b has_a has_b =
-    elim (cases_lt (length a) (length b)) [
-      | inl less ↦ absurd (no-more image a b has_a has_b less)
-      | inr no_less ↦ elim (cases_lt (length b) (length a)) [
-        | inl less ↦ absurd (no-more image b a has_b has_a less)
-        | inr no_more ↦ omega arith
-      ]
-    ]
 
 module _ {D : Type 0} (told : D → Option Told) (hash : Hash) (k : KeptHistory D) (kept : IsKept told hash k) where
   -- what reads give has the batches of the journal

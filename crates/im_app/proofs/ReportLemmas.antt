@@ -4,11 +4,9 @@ use Rattle.std.proofs.lemmas.List.{take-append-le, length-take}
 use Rattle.std.proofs.lemmas.List.Elements.{All-take}
 use Rattle.im_digest.specs.Digests.{Hash}
 use Rattle.im_disk.specs.Disk.{Files, Told, after, seen}
-use Rattle.im_disk.specs.Grown.{Grows}
 use Rattle.im_disk.specs.Moments.{Leaves}
 use Rattle.im_disk.specs.declared.calls.Call.TheVariants.{Synced}
 use Rattle.im_disk.proofs.Leaving.{leaves_both, leaves_weaker}
-use Rattle.im_disk.proofs.Growing.{grows_both}
 use Rattle.im_format.specs.Batches.{gate_of}
 use Rattle.im_format.specs.Standing.{HasBatches, Stands}
 use Rattle.im_format.specs.declared.records.Record.{Record}
@@ -57,21 +55,15 @@ moments-both hash found history left (Some t) mid now begins opened served =
     (leaves_weaker (λ image. Stands hash image found) (StandsFrom hash (length found) (history ++ left)) (found-stands hash found history left begins) (Some (after Synced t)) mid opened)
     served
 
--- the calls of opening behind its sync, and then those of the session
-grows-served : (before mid now : Option Told) → IfSome before (λ t. Grows (Some (after Synced t)) mid) → Grows mid now → IfSome before (λ t. Grows (Some (after Synced t)) now)
-grows-served None mid now opened served = tt
-grows-served (Some t) mid now opened served = grows_both (Some (after Synced t)) mid now opened served
-
 -- what opening found, and what a session made of it
 pub record Opens (hash : Hash) (found : List Transaction) (before mid : Option Told) : Type 0 where
   pub found_is : IfSome before (λ t. Stands hash (seen t) found)
   pub opened : IfSome before (λ t. Leaves (λ image. Stands hash image found) (Some (after Synced t)) mid)
-  pub grew : IfSome before (λ t. Grows (Some (after Synced t)) mid)
   pub gate : (batches : List (List Record)) → IfSome mid (λ t. HasBatches (seen t) batches) → IfSome before (λ t. IsOpenedBy (gate_of (length batches)) t mid)
 
 pub is-report : (hash : Hash) (constant : Option ℤ) (logs : ℕ) (script octets : List ℕ) (lines : List Line) (found : List Transaction) (before mid now : Option Told) (times_before times_now : Option (List ℤ)) (end : Result (Unit {0}) CommitError)
-    → IsGiven script lines → Opens hash found before mid → Grows mid now → Serves hash constant logs found lines mid now times_before times_now octets end → IsReport hash constant logs script octets before now times_before times_now end
-is-report hash constant logs script octets lines found before mid now times_before times_now end given o served s =
+    → IsGiven script lines → Opens hash found before mid → Serves hash constant logs found lines mid now times_before times_now octets end → IsReport hash constant logs script octets before now times_before times_now end
+is-report hash constant logs script octets lines found before mid now times_before times_now end given o s =
     let front : List Line = take s.count lines in
     let names : HaveSessions front = sessions-front lines s.count (script-sessions script lines given.read) in
     record {
@@ -88,18 +80,18 @@ is-report hash constant logs script octets lines found before mid now times_befo
       taken = report-taken hash found s.history front octets s.report names (s.again names);
       left = s.left;
       left_is = s.left_is;
+      over = s.over;
       asked = s.asked;
       images = s.images;
       moments = moments-both hash found s.history s.left before mid now s.report.begins o.opened s.moments;
-      grows = grows-served before mid now o.grew served;
       calls = record { opened = mid; session = s.calls; opening = o.gate s.calls.put.first s.calls.held };
     }
 
 pub is-whole : (hash : Hash) (constant : Option ℤ) (logs : ℕ) (script octets : List ℕ) (lines : List Line) (found : List Transaction) (before mid now : Option Told) (times_before times_now : Option (List ℤ))
-    → IsGiven script lines → Opens hash found before mid → Grows mid now → ServesAll hash constant logs found lines mid now times_before times_now octets → IsWhole hash constant logs script octets before now times_before times_now
+    → IsGiven script lines → Opens hash found before mid → ServesAll hash constant logs found lines mid now times_before times_now octets → IsWhole hash constant logs script octets before now times_before times_now
 unfolding is-report
-is-whole hash constant logs script octets lines found before mid now times_before times_now given o served s = record {
-  report = is-report hash constant logs script octets lines found before mid now times_before times_now (Ok tt) given o served s.serves;
+is-whole hash constant logs script octets lines found before mid now times_before times_now given o s = record {
+  report = is-report hash constant logs script octets lines found before mid now times_before times_now (Ok tt) given o s.serves;
   all = s.all;
   here = s.here;
 }
@@ -110,10 +102,10 @@ pub record IsFront (hash : Hash) (constant : Option ℤ) (logs : ℕ) (why : Com
   pub stops : StopsAt why report.history (drop report.count report.lines)
 
 pub is-front : (hash : Hash) (constant : Option ℤ) (logs : ℕ) (why : CommitError) (script octets : List ℕ) (lines : List Line) (found : List Transaction) (before mid now : Option Told) (times_before times_now : Option (List ℤ))
-    → IsGiven script lines → Opens hash found before mid → Grows mid now → ServesFront hash constant logs found lines mid now times_before times_now octets why → IsFront hash constant logs why script octets before now times_before times_now
+    → IsGiven script lines → Opens hash found before mid → ServesFront hash constant logs found lines mid now times_before times_now octets why → IsFront hash constant logs why script octets before now times_before times_now
 unfolding is-report
-is-front hash constant logs why script octets lines found before mid now times_before times_now given o served s = record {
-  report = is-report hash constant logs script octets lines found before mid now times_before times_now (Err why) given o served s.serves;
+is-front hash constant logs why script octets lines found before mid now times_before times_now given o s = record {
+  report = is-report hash constant logs script octets lines found before mid now times_before times_now (Err why) given o s.serves;
   stops = s.stops;
 }
 

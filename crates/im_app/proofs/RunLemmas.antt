@@ -11,8 +11,9 @@ use Rattle.im_ledger.specs.declared.errors.CommitError.TheVariants as commit
 use Rattle.im_opening.specs.declared.errors.OpenError.{OpenError}
 use Rattle.im_opening.specs.declared.errors.OpenError.TheVariants as opened
 use Rattle.im_script.specs.declared.commands.Line.{Line}
-use Rattle.im_app.specs.Runs.{IsGiven, WritesFront}
-use Rattle.im_app.specs.Statuses.{status_behind, status_by, status_for}
+use Rattle.im_app.specs.Runs.{IsGiven, LeavesFound, WritesFront, opening_error}
+use Rattle.im_app.specs.Statuses.{EndsReading, status_behind, status_by, status_for}
+use Rattle.im_app.specs.declared.status.Status.{Status}
 use Rattle.im_app.specs.declared.status.Status.TheVariants as the
 
 -- what is said at Ok holds there
@@ -45,9 +46,40 @@ stopped-for commit.DiskFault (Ok x) (Err fault) e = absurd cc
 stopped-for commit.Memory (Ok x) (Err fault) e = absurd cc
 
 -- what the sink did of a text: all of it with its count as it was, or a front part with a count that rose
-pub wrote-either : (r : Result Unit TheFault) (W S P F : Type 0) → OnOk r W → OnOk r S → P → OnErr r F → (W × S) ⊎ (P × F)
+pub wrote-either : (r : Result Unit TheFault) (W S P F : Type 0) → OnOk r W → OnOk r S → OnErr r P → OnErr r F → (W × S) ⊎ (P × F)
 wrote-either (Ok x) W S P F w s p f = inl (w, s)
 wrote-either (Err e) W S P F w s p f = inr (p, f)
+
+-- a sink that failed gave the report's error
+pub wrote-err : (end : Result Unit CommitError) (wrote : Result Unit TheFault) (P : Type 0) → status_behind end wrote ≡ the.WriteFault → OnErr wrote P → P
+wrote-err (Err commit.DiskFault) wrote P e p = absurd cc
+wrote-err (Err commit.Memory) wrote P e p = absurd cc
+wrote-err (Ok x) (Ok y) P e p = absurd cc
+wrote-err (Ok x) (Err fault) P e p = p
+
+-- an opening that ended a run so ended in that error
+pub opening-by : (error : OpenError) (why : CommitError) → status_by error ≡ status_for why → error ≡ opening_error why
+opening-by opened.DiskFault commit.DiskFault e = refl
+opening-by opened.DiskFault commit.Memory e = absurd cc
+opening-by opened.Memory commit.DiskFault e = absurd cc
+opening-by opened.Memory commit.Memory e = refl
+opening-by (opened.Damaged damage) commit.DiskFault e = absurd cc
+opening-by (opened.Damaged damage) commit.Memory e = absurd cc
+
+-- a script that gave no lines ends a run so only where memory ran out
+pub reading-for : (status : Status) (why : CommitError) → EndsReading status → status ≡ status_for why → status_for why ≡ the.Memory
+reading-for status commit.DiskFault ends e = absurd (subst EndsReading e ends)
+reading-for status commit.Memory ends e = refl
+
+-- a disk that a run for want of memory left as it was handed in
+pub same-found : (hash : Hash) (why : CommitError) (disk : Option Told) → status_for why ≡ the.Memory → LeavesFound hash why disk disk
+same-found hash commit.DiskFault disk e = absurd cc
+same-found hash commit.Memory disk e = λ t found told stands. (inl told, inl told)
+
+-- words that are at fault end no run
+pub usage-found : (hash : Hash) (why : CommitError) (disk : Option Told) → the.Usage ≡ status_for why → LeavesFound hash why disk disk
+usage-found hash commit.DiskFault disk e = absurd cc
+usage-found hash commit.Memory disk e = absurd cc
 
 -- a damage is told as it was found
 pub damage-by : (error : OpenError) (damage : Damage) → status_by error ≡ the.Damaged damage → error ≡ opened.Damaged damage

@@ -15,7 +15,7 @@ use Rattle.im_app.specs.Runs.{IsGiven}
 use Rattle.im_app.specs.declared.status.Status.{Status}
 use Rattle.im_app.specs.declared.status.Status.TheVariants.{Ok, Script, Damaged, Refused, Memory, Long, Kept}
 
--- the files of the disk are damaged: this is the first check of them that fails
+-- the status tells a damage, and where the disk tells, it is the first check of its files that fails
 pub record IsDamaged (hash : Hash) (disk : Option Told) (status : Status) : Type 0 where
   pub damage : Damage
   pub is : status ≡ Damaged damage

@@ -1,5 +1,4 @@
-ghost use Rattle.std.specs.Prelude.{◌≡◌, ◌⊎◌, ℕ, ◌+◌, ◌≤◌, ◌<◌, [], length, List, IfErr, IfOk, IfSome, IsErr, IsErrOf, IsOk, OnOk, Err, Some};
-ghost use Rattle.im_digest.specs.Digests.{Hash};
+ghost use Rattle.std.specs.Prelude.{◌≡◌, ◌⊎◌, ℕ, ◌+◌, ◌≤◌, ◌<◌, [], length, List, IfErr, IfOk, IfSome, IsErrOf, OnOk, Err, Some};
 ghost use Rattle.im_disk.specs.Disk.{Told, after, seen};
 ghost use Rattle.im_disk.specs.declared.calls.Call.TheVariants.{Synced};
 ghost use Rattle.im_disk.specs.Grown.{Grows};
@@ -52,6 +51,7 @@ fn read_lines<S: Source>(alloc: Global, source: &mut S) -> Result<Vec<Line>, Sta
         (length script ≤ 67108864) × ((n : ℕ) × (k ≡ n + 1) × StopsAfter script n)) }
     ensures long { IsErrOf result Status.Long → IfSome (S.left source.old) (λ script. 67108864 < length script) }
     ensures read { IsErrOf result Status.ReadFault → Rose (S.faults source.old) (S.faults source.new) }
+    ensures once { S.faults source.new ≤ S.faults source.old + 1 }
     ensures count { (IsErrOf result Status.ReadFault → ⊥) → S.faults source.new ≡ S.faults source.old }
 {
     let octets = match read_all(alloc, source, MOST_OCTETS) {
@@ -109,7 +109,7 @@ fn run_lines<H: Hash32, K: Sink, D: Disk, C: Clock>(
     ensures part { (script : List ℕ) → IsGiven script lines.items → result.status ≡ Status.WriteFault
         → WritesPart (H.digest hash.now) (C.constant clock.old) logs (Some script) (D.told disk) (D.told result.disk) (C.given clock.old) (C.given clock.new) (K.written sink.old) (K.written sink.new) }
     ensures front { (script : List ℕ) (why : Why) → IsGiven script lines.items → result.status ≡ status_for why
-        → ((sink.new ≡ sink.old) × ((clock.new ≡ clock.old) × LeavesFound (H.digest hash.now) (D.told disk) (D.told result.disk)))
+        → ((sink.new ≡ sink.old) × ((clock.new ≡ clock.old) × LeavesFound (H.digest hash.now) why (D.told disk) (D.told result.disk)))
         ⊎ WritesFront (H.digest hash.now) (C.constant clock.old) logs why (Some script) (D.told disk) (D.told result.disk) (C.given clock.old) (C.given clock.new)
         (K.written sink.old) (K.written sink.new) (K.faults sink.old) (K.faults sink.new) }
     ensures damaged { (damage : Damage) → result.status ≡ Status.Damaged damage → IfSome (D.told disk) (λ t.
@@ -126,6 +126,7 @@ fn run_lines<H: Hash32, K: Sink, D: Disk, C: Clock>(
     ensures disk_count { (result.status ≡ Status.DiskFault → ⊥) → D.faults result.disk ≡ D.faults disk }
     ensures write { result.status ≡ Status.WriteFault → Rose (K.faults sink.old) (K.faults sink.new) }
     ensures sink_count { result.status ≡ Status.Ok → K.faults sink.new ≡ K.faults sink.old }
+    ensures sink_once { K.faults sink.new ≤ K.faults sink.old + 1 }
     ensures clock { C.constant clock.new ≡ C.constant clock.old }
 {
     let kept = match open_ledger(alloc, hash, disk, logs) {
@@ -162,7 +163,7 @@ pub(crate) fn run<H: Hash32, S: Source, K: Sink, D: Disk, C: Clock>(
     ensures part { result.status ≡ Status.WriteFault
         → WritesPart (H.digest hash.now) (C.constant clock.old) logs (S.left source.old) (D.told disk) (D.told result.disk) (C.given clock.old) (C.given clock.new) (K.written sink.old) (K.written sink.new) }
     ensures front { (why : Why) → result.status ≡ status_for why
-        → ((sink.new ≡ sink.old) × ((clock.new ≡ clock.old) × LeavesFound (H.digest hash.now) (D.told disk) (D.told result.disk)))
+        → ((sink.new ≡ sink.old) × ((clock.new ≡ clock.old) × LeavesFound (H.digest hash.now) why (D.told disk) (D.told result.disk)))
         ⊎ WritesFront (H.digest hash.now) (C.constant clock.old) logs why (S.left source.old) (D.told disk) (D.told result.disk) (C.given clock.old) (C.given clock.new)
         (K.written sink.old) (K.written sink.new) (K.faults sink.old) (K.faults sink.new) }
     ensures given { EndsGiven result.status → GivesScript (S.left source.old) (S.left source.new) }
@@ -192,6 +193,8 @@ pub(crate) fn run<H: Hash32, S: Source, K: Sink, D: Disk, C: Clock>(
     ensures write { result.status ≡ Status.WriteFault → Rose (K.faults sink.old) (K.faults sink.new) }
     ensures device { result.status ≡ Status.DiskFault → Rose (D.faults disk) (D.faults result.disk) }
     ensures source_count { (result.status ≡ Status.ReadFault → ⊥) → S.faults source.new ≡ S.faults source.old }
+    ensures source_once { S.faults source.new ≤ S.faults source.old + 1 }
+    ensures sink_once { K.faults sink.new ≤ K.faults sink.old + 1 }
     ensures sink_count { (result.status ≡ Status.WriteFault → ⊥) → (result.status ≡ Status.DiskFault → ⊥) → (result.status ≡ Status.Memory → ⊥)
         → K.faults sink.new ≡ K.faults sink.old }
     ensures disk_count { (result.status ≡ Status.DiskFault → ⊥) → D.faults result.disk ≡ D.faults disk }

@@ -12,7 +12,7 @@ ghost use Rattle.im_model.specs.declared.transactions.Transaction.{Transaction};
 ghost use Rattle.im_mtree.specs.Checks.{first_fail};
 ghost use Rattle.im_script.specs.Script.{StopsAfter};
 ghost use Rattle.im_verify.specs.Judged.{StopsKept};
-ghost use Rattle.im_verify.specs.Runs.{BreaksInto, BreaksOff, Verifies};
+ghost use Rattle.im_verify.specs.Runs.{BreaksAt, BreaksInto, BreaksOff, Verifies};
 ghost use Rattle.im_verify.specs.declared.ended.Ended.TheVariants as ended;
 ghost use Rattle.im_words.specs.Command.{IsRefused};
 ghost use Rattle.im_words.specs.Form.{IsForm, IsVerifyForm};
@@ -72,21 +72,22 @@ pub fn top<
     // is for, a state by one that keeps none too, and that client then keeps the header that the message leads to;
     // every other line is passed over. In the files each new transaction stands in a batch of its own, its values put
     // over as many value logs as the words ask for. The disk got the opening's sync, the closing of the gate where it was
-    // missing, and for each new transaction the writes of its batch, a sync, the octet at the gate, and a sync; no other
-    // call that changes it. Each has the time that the clock gave for it: where the clock tells the times that it gave,
+    // missing or cut off, and for each new transaction the writes of its batch, a sync, the octet at the gate, and a sync;
+    // no other call that changes it. Each has the time that the clock gave for it: where the clock tells the times that it gave,
     // it was asked once for each new transaction, in order, and for nothing else.
     ensures report { (asks : AsksRun (map string_bytes words.now)) → result.status ≡ Status.Ok
         → WritesReport (H.digest hash.now) (C.constant clock) asks.0 (S.left source.old) (D.told disk) (D.told result.disk) (C.given clock) (C.given result.clock) (K.written sink.old) (K.written sink.new) }
 
-    // Where the sink failed, what was written is a front part of the report. Where the disk failed or memory ran out
-    // at a line, the lines before it were answered and told, as far as the sink took them, and what the disk stands for
-    // has all of them; the clock was asked for that line's transaction too, if there was one, and the disk got a front
-    // part of its calls, and then the one that failed, if one did. Else neither the sink nor the clock was touched. A
-    // source without a script of the grammar has neither sink, clock nor disk touched.
+    // Where the sink failed, what was written is a front part of the report, not all of it. Where the disk failed or memory
+    // ran out at a line, the lines before it were answered and told, as far as the sink took them, and what the disk stands
+    // for has all of them; the clock was asked for that line's transaction too, if there was one, and the disk got a front
+    // part of its calls, and then the one that failed, if one did. Else neither the sink nor the clock was touched, and a
+    // disk that was found with a history got the calls of opening as far as they came. A source without a script of the
+    // grammar has neither sink, clock nor disk touched.
     ensures part { (asks : AsksRun (map string_bytes words.now)) → result.status ≡ Status.WriteFault
         → WritesPart (H.digest hash.now) (C.constant clock) asks.0 (S.left source.old) (D.told disk) (D.told result.disk) (C.given clock) (C.given result.clock) (K.written sink.old) (K.written sink.new) }
     ensures front { (why : Why) (asks : AsksRun (map string_bytes words.now)) → result.status ≡ status_for why
-        → ((sink.new ≡ sink.old) × ((result.clock ≡ clock) × LeavesFound (H.digest hash.now) (D.told disk) (D.told result.disk)))
+        → ((sink.new ≡ sink.old) × ((result.clock ≡ clock) × LeavesFound (H.digest hash.now) why (D.told disk) (D.told result.disk)))
         ⊎ WritesFront (H.digest hash.now) (C.constant clock) asks.0 why (S.left source.old) (D.told disk) (D.told result.disk) (C.given clock) (C.given result.clock)
         (K.written sink.old) (K.written sink.new) (K.faults sink.old) (K.faults sink.new) }
     ensures given { AsksRun (map string_bytes words.now) → EndsGiven result.status → GivesScript (S.left source.old) (S.left source.new) }
@@ -120,15 +121,21 @@ pub fn top<
     ensures some_refused { AsksVerify (map string_bytes words.now) → result.status ≡ Status.Refused → IfSome (S.left source.old) (λ stream. IfSome (P.kept keeper.old) (λ kept.
         Verifies (H.digest hash.now) stream kept ended.Refused (K.written sink.old) (K.written sink.new) (P.kept keeper.new))) }
 
-    // Where the sink failed, the first lines were told, and the next one in part; the accepted messages of them
-    // all are kept. Where the keeper failed or memory ran out, nothing was done, or the first lines were told
-    // and kept. Else nothing was done.
+    // Where the sink failed, the first lines were told, and the next one in part, never whole; the accepted messages of
+    // them all are kept. Where memory ran out, nothing was done, or the first lines were told and kept. Where the keeper
+    // failed, nothing was done, or they were, before one that is accepted, of which nothing was told or kept. Else nothing
+    // was done, nor with a stream past the limit, at any end.
     ensures into { AsksVerify (map string_bytes words.now) → result.status ≡ Status.WriteFault → IfSome (S.left source.old) (λ stream. IfSome (P.kept keeper.old) (λ kept.
         BreaksInto (H.digest hash.now) stream kept (K.written sink.old) (K.written sink.new) (P.kept keeper.new))) }
-    ensures off { AsksVerify (map string_bytes words.now) → (result.status ≡ Status.KeeperFault) ⊎ (result.status ≡ Status.Memory) →
+    ensures off { AsksVerify (map string_bytes words.now) → result.status ≡ Status.Memory →
         ((K.written sink.new ≡ K.written sink.old) × (P.kept keeper.new ≡ P.kept keeper.old))
         ⊎ IfSome (S.left source.old) (λ stream. IfSome (P.kept keeper.old) (λ kept.
         BreaksOff (H.digest hash.now) stream kept (K.written sink.old) (K.written sink.new) (P.kept keeper.new))) }
+    ensures fault { AsksVerify (map string_bytes words.now) → result.status ≡ Status.KeeperFault →
+        ((K.written sink.new ≡ K.written sink.old) × (P.kept keeper.new ≡ P.kept keeper.old))
+        ⊎ IfSome (S.left source.old) (λ stream. IfSome (P.kept keeper.old) (λ kept.
+        BreaksAt (H.digest hash.now) stream kept (K.written sink.old) (K.written sink.new) (P.kept keeper.new))) }
+    ensures too_long { AsksVerify (map string_bytes words.now) → IfSome (S.left source.old) (λ stream. 67108864 < length stream → (sink.new ≡ sink.old) × (keeper.new ≡ keeper.old)) }
     ensures no_verdict { AsksVerify (map string_bytes words.now) → (result.status ≡ Status.ReadFault) ⊎ ((result.status ≡ Status.Long) ⊎ ((k : ℕ) × (result.status ≡ Status.Kept k))) →
         (sink.new ≡ sink.old) × (P.kept keeper.new ≡ P.kept keeper.old) }
 
@@ -136,7 +143,7 @@ pub fn top<
     ensures kept { (k : ℕ) → result.status ≡ Status.Kept k → IfSome (P.kept keeper.old) (λ kept.
         (n : ℕ) × (k ≡ n + 1) × StopsKept (H.digest hash.now) kept n) }
 
-    // At these ends, and where a run was given a script, the source was read to its end.
+    // At these ends, and at those of `given`, the source was read to its end.
     ensures emptied { (result.status ≡ Status.Ok) ⊎ ((result.status ≡ Status.WriteFault) ⊎ ((result.status ≡ Status.KeeperFault) ⊎ ((result.status ≡ Status.Refused) ⊎ ((k : ℕ) × (result.status ≡ Status.Kept k))))) →
         IfSome (S.left source.old) (λ _. S.left source.new ≡ Some []) }
     ensures long { result.status ≡ Status.Long → IfSome (S.left source.old) (λ octets. 67108864 < length octets) }
@@ -170,6 +177,10 @@ pub fn top<
         → K.faults sink.new ≡ K.faults sink.old }
     ensures disk_count { (result.status ≡ Status.DiskFault → ⊥) → D.faults result.disk ≡ D.faults disk }
     ensures keeper_count { (result.status ≡ Status.KeeperFault → ⊥) → P.faults keeper.new ≡ P.faults keeper.old }
+    // At no end did the count of the source, the sink or the keeper rise by more than one.
+    ensures source_once { S.faults source.new ≤ S.faults source.old + 1 }
+    ensures sink_once { K.faults sink.new ≤ K.faults sink.old + 1 }
+    ensures keeper_once { P.faults keeper.new ≤ P.faults keeper.old + 1 }
 
     // Words that `clap` takes, and no fault: what the source, the disk and the keeper hold decides, or memory is wanted.
     // A script of the grammar within the limit is run over files that stand for a history, another stops at its first

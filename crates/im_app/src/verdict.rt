@@ -1,8 +1,8 @@
-ghost use Rattle.std.specs.Prelude.{◌≡◌, ◌⊎◌, ℕ, ◌+◌, ◌<◌, [], length, IfSome, Some};
+ghost use Rattle.std.specs.Prelude.{◌≡◌, ◌⊎◌, ℕ, ◌+◌, ◌<◌, ◌≤◌, [], length, IfSome, Some};
 ghost use Rattle.im_edge.specs.Counts.{Rose};
 ghost use Rattle.im_edge.specs.Sources.{TakesAtMost};
 ghost use Rattle.im_verify.specs.Judged.{StopsKept};
-ghost use Rattle.im_verify.specs.Runs.{BreaksInto, BreaksOff, Verifies};
+ghost use Rattle.im_verify.specs.Runs.{BreaksAt, BreaksInto, BreaksOff, Verifies};
 ghost use Rattle.im_verify.specs.declared.ended.Ended.TheVariants as ended;
 ghost use Rattle.im_app.specs.Fates.{HasVerdict};
 ghost use Rattle.im_app.specs.Statuses.{EndsVerify};
@@ -31,16 +31,21 @@ pub(crate) fn verdict<H: Hash32, S: Source, K: Sink, P: Keeper>(
         Verifies (H.digest hash.now) stream kept ended.Refused (K.written sink.old) (K.written sink.new) (P.kept keeper.new))) }
     ensures into { result ≡ Status.WriteFault → IfSome (S.left source.old) (λ stream. IfSome (P.kept keeper.old) (λ kept.
         BreaksInto (H.digest hash.now) stream kept (K.written sink.old) (K.written sink.new) (P.kept keeper.new))) }
-    ensures off { (result ≡ Status.KeeperFault) ⊎ (result ≡ Status.Memory) →
+    ensures off { result ≡ Status.Memory →
         ((K.written sink.new ≡ K.written sink.old) × (P.kept keeper.new ≡ P.kept keeper.old))
         ⊎ IfSome (S.left source.old) (λ stream. IfSome (P.kept keeper.old) (λ kept.
         BreaksOff (H.digest hash.now) stream kept (K.written sink.old) (K.written sink.new) (P.kept keeper.new))) }
+    ensures fault { result ≡ Status.KeeperFault →
+        ((K.written sink.new ≡ K.written sink.old) × (P.kept keeper.new ≡ P.kept keeper.old))
+        ⊎ IfSome (S.left source.old) (λ stream. IfSome (P.kept keeper.old) (λ kept.
+        BreaksAt (H.digest hash.now) stream kept (K.written sink.old) (K.written sink.new) (P.kept keeper.new))) }
     ensures nothing { (result ≡ Status.ReadFault) ⊎ ((result ≡ Status.Long) ⊎ ((k : ℕ) × (result ≡ Status.Kept k))) →
         (sink.new ≡ sink.old) × (P.kept keeper.new ≡ P.kept keeper.old) }
     ensures kept { (k : ℕ) → result ≡ Status.Kept k → IfSome (P.kept keeper.old) (λ kept.
         (n : ℕ) × (k ≡ n + 1) × StopsKept (H.digest hash.now) kept n) }
     ensures ends { EndsVerify result }
     ensures never { result ≡ Status.Usage → ⊥ }
+    ensures too_long { IfSome (S.left source.old) (λ stream. 67108864 < length stream → (sink.new ≡ sink.old) × (keeper.new ≡ keeper.old)) }
     ensures long { result ≡ Status.Long → IfSome (S.left source.old) (λ stream. 67108864 < length stream) }
     ensures emptied { (result ≡ Status.Ok) ⊎ ((result ≡ Status.WriteFault) ⊎ ((result ≡ Status.KeeperFault) ⊎ ((result ≡ Status.Refused) ⊎ ((k : ℕ) × (result ≡ Status.Kept k))))) →
         IfSome (S.left source.old) (λ _. S.left source.new ≡ Some []) }
@@ -51,6 +56,9 @@ pub(crate) fn verdict<H: Hash32, S: Source, K: Sink, P: Keeper>(
     ensures source_count { (result ≡ Status.ReadFault → ⊥) → S.faults source.new ≡ S.faults source.old }
     ensures sink_count { (result ≡ Status.WriteFault → ⊥) → K.faults sink.new ≡ K.faults sink.old }
     ensures keeper_count { (result ≡ Status.KeeperFault → ⊥) → P.faults keeper.new ≡ P.faults keeper.old }
+    ensures source_once { S.faults source.new ≤ S.faults source.old + 1 }
+    ensures sink_once { K.faults sink.new ≤ K.faults sink.old + 1 }
+    ensures keeper_once { P.faults keeper.new ≤ P.faults keeper.old + 1 }
     ensures fate { (Rose (S.faults source.old) (S.faults source.new) → ⊥) → (Rose (K.faults sink.old) (K.faults sink.new) → ⊥)
         → (Rose (P.faults keeper.old) (P.faults keeper.new) → ⊥)
         → IfSome (S.left source.old) (λ stream. IfSome (P.kept keeper.old) (HasVerdict (H.digest hash.now) result stream)) }

@@ -1,4 +1,4 @@
-use Rattle.std.proofs.Common.{◌≡◌, ℕ, List, ap, Option, Some, Err, inl, inr}
+use Rattle.std.proofs.Common.{◌≡◌, ℕ, List, ap, Option, Some, Err, inl, inr, refl}
 use Rattle.im_digest.specs.Digests.{Hash}
 use Rattle.im_disk.specs.Disk.{Told, after, seen}
 use Rattle.im_disk.proofs.Growing.{grows_none}
@@ -15,7 +15,7 @@ use Rattle.im_app.specs.declared.status.Status.{Status}
 use Rattle.im_app.specs.declared.status.Status.TheVariants as the
 use Rattle.im_app.proofs.FateLemmas.{Ends, ends-other, fate, unread-told, writing-run}
 use Rattle.im_app.proofs.ReportLemmas.{read-told}
-use Rattle.im_app.proofs.RunLemmas.{front-told, given-not}
+use Rattle.im_app.proofs.RunLemmas.{front-told, given-not, reading-for, same-found}
 use Rattle.im_app.proofs.run.run.Goals as goal
 
 pub returns-in-Ok-clause-front : goal.returns-in-Ok-clause-front
@@ -27,6 +27,10 @@ returns-in-Ok-clause-front g c = λ why e.
           (g.D.Disk.told c.args.disk) (g.D.Disk.told c.run_lines.result.disk) (g.C.Clock.given c.args.clock.now) (g.C.Clock.given c.run_lines.new.clock) (g.K.Sink.written c.args.sink.now) (g.K.Sink.written c.run_lines.new.sink)
           (g.K.Sink.faults c.args.sink.now) (g.K.Sink.faults c.run_lines.new.sink) given.1 front)
     ]
+
+pub returns-in-Err-clause-front : goal.returns-in-Err-clause-front
+returns-in-Err-clause-front g c = λ why e.
+    inl (refl, (refl, same-found (g.H.Hash32.digest c.args.hash.now) why (g.D.Disk.told c.args.disk) (reading-for c.in-Err.status why c.in-Err.ensures.ends e)))
 
 pub returns-in-Ok-clause-untouched : goal.returns-in-Ok-clause-untouched
 returns-in-Ok-clause-untouched g c =

@@ -1,23 +1,24 @@
-use Rattle.std.proofs.Common.{◌≡◌, ◌⊎◌, ℕ, ℤ, List, ◌++◌, sym, ◌∙◌, subst, Option, Some, inr, refl}
+use Rattle.std.proofs.Common.{◌≡◌, ◌⊎◌, ℕ, ℤ, List, ◌++◌, length, sym, ◌∙◌, subst, Option, Some, inl, inr, refl}
 use Rattle.std.specs.Prelude.{slice_index_or}
 use Rattle.std.specs.Io.KnownBytes.{Appends}
 use Rattle.im_digest.specs.Digests.{Hash}
 use Rattle.im_disk.specs.Disk.{Told, after, seen}
-use Rattle.im_disk.specs.Grown.{Grows}
 use Rattle.im_disk.specs.Moments.{Leaves}
 use Rattle.im_disk.specs.declared.calls.Call.TheVariants.{Synced}
 use Rattle.im_disk.proofs.Growing.{grows_both}
 use Rattle.im_edge.specs.Counts.{Rose}
-use Rattle.im_edge.specs.Sinks.{AddsPart}
+use Rattle.im_format.specs.Batches.{gate_of}
 use Rattle.im_format.specs.Standing.{Stands}
 use Rattle.im_model.specs.declared.transactions.Transaction.{Transaction}
+use Rattle.im_ledger.specs.Openings.{WasBegun}
 use Rattle.im_opening.specs.Cut.{IsOpenedBy}
+use Rattle.im_opening.specs.declared.errors.OpenError.{OpenError}
 use Rattle.im_session.specs.Served.{ServesAll}
-use Rattle.im_app.specs.Runs.{IsWhole, KeepsFound, WritesFront}
+use Rattle.im_app.specs.Runs.{AddsLess, IsWhole, KeepsFound, WritesFront, opening_error}
 use Rattle.im_app.proofs.FoundLemmas.{opened-keeps, served-keeps}
 use Rattle.im_app.proofs.GateLemmas.{gate-opened}
 use Rattle.im_app.proofs.ReportLemmas.{Opens, begins-left, is-front, is-whole, moments-both}
-use Rattle.im_app.proofs.RunLemmas.{damage-by, done-both, failed-behind, if-told, on-ok, stopped-for, wrote-either}
+use Rattle.im_app.proofs.RunLemmas.{damage-by, done-both, failed-behind, if-told, on-ok, opening-by, stopped-for, wrote-either, wrote-err}
 use Rattle.im_app.proofs.run.run_lines.Goals as goal
 
 pub returns-in-Err-clause-sound : goal.returns-in-Err-clause-sound
@@ -27,6 +28,21 @@ returns-in-Err-clause-sound g c = λ damage t found told stands e.
 pub returns-in-Err-clause-any_moment : goal.returns-in-Err-clause-any_moment
 returns-in-Err-clause-any_moment g c = λ t found told stands.
     opened-keeps (g.H.Hash32.digest c.args.hash.now) found t (g.D.Disk.told c.in-Err.failed.disk) (c.in-Err.ensures.off t found told stands)
+
+pub returns-in-Err-clause-front : goal.returns-in-Err-clause-front
+returns-in-Err-clause-front g c = λ script why given e.
+    let hash : Hash = g.H.Hash32.digest c.args.hash.now in
+    let now : Option Told = g.D.Disk.told c.in-Err.failed.disk in
+    let by : c.in-Err.failed.error ≡ opening_error why = opening-by c.in-Err.failed.error why (sym c.status_of.ensures ∙ e) in
+    inl (
+      refl,
+      (
+        refl,
+        λ t found told stands.
+            (let B : OpenError → Type 0 = λ error. WasBegun error (gate_of (length stands.batches)) t now in
+            (c.in-Err.ensures.off t found told stands, subst B by (c.in-Err.ensures.begun t found told stands))),
+      ),
+    )
 
 pub returns-clause-report : goal.returns-clause-report
 returns-clause-report g c = λ script given e.
@@ -46,7 +62,6 @@ returns-clause-report g c = λ script given e.
     let opens : Opens hash found before mid = record {
       found_is = if-told before (λ t. Stands hash (seen t) found) c.in-Ok.ensures.stands;
       opened = if-told before (λ t. Leaves (λ image. Stands hash image found) (Some (after Synced t)) mid) c.in-Ok.ensures.moments;
-      grew = if-told before (λ t. Grows (Some (after Synced t)) mid) c.in-Ok.ensures.grows;
       gate = gate-opened g.D.Disk.told hash c.in-Ok.kept c.in-Ok.ensures.kept before (if-told before (λ t. IsOpenedBy (slice_index_or c.in-Ok.kept.journal.ends 1 0) t mid) c.in-Ok.ensures.calls);
     } in
     let all : ServesAll hash constant c.in-Ok.kept.logs found c.args.lines.items mid now times_before times_now out =
@@ -56,7 +71,7 @@ returns-clause-report g c = λ script given e.
       script = script;
       script_is = refl;
       octets = out;
-      report = subst L c.in-Ok.ensures.logs (is-whole hash constant c.in-Ok.kept.logs script out c.args.lines.items found before mid now times_before times_now given opens c.serve-disk.ensures.grows all);
+      report = subst L c.in-Ok.ensures.logs (is-whole hash constant c.in-Ok.kept.logs script out c.args.lines.items found before mid now times_before times_now given opens all);
       whole = subst A c.as_slice.ensures.value (on-ok c.write_all-wrote.result (A c.as_slice.result.now) both.1 c.write_all-wrote.ensures.whole);
     }
 
@@ -71,12 +86,11 @@ returns-clause-part g c = λ script given e.
     let out : List ℕ = c.serve-disk.result.out.items in
     let times_before : Option (List ℤ) = g.C.Clock.given c.args.clock.now in
     let times_now : Option (List ℤ) = g.C.Clock.given c.serve-disk.new.clock in
-    let A : List ℕ → Type 0 = λ octets. AddsPart octets (g.K.Sink.written c.args.sink.now) (g.K.Sink.written c.write_all-wrote.new.sink) in
+    let A : List ℕ → Type 0 = λ octets. AddsLess octets (g.K.Sink.written c.args.sink.now) (g.K.Sink.written c.write_all-wrote.new.sink) in
     let answered = failed-behind c.serve-disk.result.end c.write_all-wrote.result (sym c.status_after.ensures ∙ e) in
     let opens : Opens hash found before mid = record {
       found_is = if-told before (λ t. Stands hash (seen t) found) c.in-Ok.ensures.stands;
       opened = if-told before (λ t. Leaves (λ image. Stands hash image found) (Some (after Synced t)) mid) c.in-Ok.ensures.moments;
-      grew = if-told before (λ t. Grows (Some (after Synced t)) mid) c.in-Ok.ensures.grows;
       gate = gate-opened g.D.Disk.told hash c.in-Ok.kept c.in-Ok.ensures.kept before (if-told before (λ t. IsOpenedBy (slice_index_or c.in-Ok.kept.journal.ends 1 0) t mid) c.in-Ok.ensures.calls);
     } in
     let all : ServesAll hash constant c.in-Ok.kept.logs found c.args.lines.items mid now times_before times_now out =
@@ -86,8 +100,8 @@ returns-clause-part g c = λ script given e.
       script = script;
       script_is = refl;
       octets = out;
-      report = subst L c.in-Ok.ensures.logs (is-whole hash constant c.in-Ok.kept.logs script out c.args.lines.items found before mid now times_before times_now given opens c.serve-disk.ensures.grows all);
-      part = subst A c.as_slice.ensures.value c.write_all-wrote.ensures.part;
+      report = subst L c.in-Ok.ensures.logs (is-whole hash constant c.in-Ok.kept.logs script out c.args.lines.items found before mid now times_before times_now given opens all);
+      part = subst A c.as_slice.ensures.value (wrote-err c.serve-disk.result.end c.write_all-wrote.result (A c.as_slice.result.now) (sym c.status_after.ensures ∙ e) c.write_all-wrote.ensures.unfinished);
     }
 
 pub returns-clause-front : goal.returns-clause-front
@@ -106,19 +120,18 @@ returns-clause-front g c = λ script why given e.
     let faults_before : ℕ = g.K.Sink.faults c.args.sink.now in
     let faults_now : ℕ = g.K.Sink.faults c.write_all-wrote.new.sink in
     let A : List ℕ → Type 0 = λ octets. Appends sink_before sink_now octets in
-    let B : List ℕ → Type 0 = λ octets. AddsPart octets sink_before sink_now in
+    let B : List ℕ → Type 0 = λ octets. AddsLess octets sink_before sink_now in
     let W : List ℕ → Type 0 = λ octets. (A octets × (faults_now ≡ faults_before)) ⊎ (B octets × Rose faults_before faults_now) in
     let stopped = stopped-for why c.serve-disk.result.end c.write_all-wrote.result (sym c.status_after.ensures ∙ e) in
     let front = c.serve-disk.ensures.front why stopped in
     let opens : Opens hash found before mid = record {
       found_is = if-told before (λ t. Stands hash (seen t) found) c.in-Ok.ensures.stands;
       opened = if-told before (λ t. Leaves (λ image. Stands hash image found) (Some (after Synced t)) mid) c.in-Ok.ensures.moments;
-      grew = if-told before (λ t. Grows (Some (after Synced t)) mid) c.in-Ok.ensures.grows;
       gate = gate-opened g.D.Disk.told hash c.in-Ok.kept c.in-Ok.ensures.kept before (if-told before (λ t. IsOpenedBy (slice_index_or c.in-Ok.kept.journal.ends 1 0) t mid) c.in-Ok.ensures.calls);
     } in
     let wrote : W c.as_slice.result.now = wrote-either c.write_all-wrote.result (A c.as_slice.result.now) (faults_now ≡ faults_before) (B c.as_slice.result.now) (Rose faults_before faults_now)
-    c.write_all-wrote.ensures.whole c.write_all-wrote.ensures.same c.write_all-wrote.ensures.part c.write_all-wrote.ensures.failed in
-    let told = is-front hash constant c.in-Ok.kept.logs why script out c.args.lines.items found before mid now times_before times_now given opens c.serve-disk.ensures.grows front in
+    c.write_all-wrote.ensures.whole c.write_all-wrote.ensures.same c.write_all-wrote.ensures.unfinished c.write_all-wrote.ensures.failed in
+    let told = is-front hash constant c.in-Ok.kept.logs why script out c.args.lines.items found before mid now times_before times_now given opens front in
     let L : ℕ → Type 0 = λ n. WritesFront hash constant n why (Some script) before now times_before times_now sink_before sink_now faults_before faults_now in
     let wrote_is : W out = subst W c.as_slice.ensures.value wrote in
     inr (subst L c.in-Ok.ensures.logs (record {

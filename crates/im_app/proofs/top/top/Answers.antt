@@ -1,8 +1,8 @@
-use Rattle.std.proofs.Common.{map, sym, ◌∙◌, inl, inr}
+use Rattle.std.proofs.Common.{map, refl, sym, ◌∙◌, inl, inr}
 use Rattle.std.specs.String.{string_bytes}
 use Rattle.im_disk.proofs.Growing.{grows_none}
 use Rattle.im_words.proofs.FormLemmas.{form_asks_so, verify_asks}
-use Rattle.im_app.proofs.RunLemmas.{takes-none}
+use Rattle.im_app.proofs.RunLemmas.{same-found, takes-none, usage-found}
 use Rattle.im_app.proofs.top.top.Goals as goal
 
 pub returns-in-Ok-Run-clause-form : goal.returns-in-Ok-Run-clause-form
@@ -45,3 +45,11 @@ returns-in-Err-Usage-clause-taken g c = takes-none 67112960 (g.S.Source.left c.a
 
 pub returns-in-Err-Memory-clause-taken : goal.returns-in-Err-Memory-clause-taken
 returns-in-Err-Memory-clause-taken g c = takes-none 67112960 (g.S.Source.left c.args.source.now)
+
+pub returns-in-Err-Usage-clause-front : goal.returns-in-Err-Usage-clause-front
+returns-in-Err-Usage-clause-front g c = λ why asks e.
+    inl (refl, (refl, usage-found (g.H.Hash32.digest c.args.hash.now) why (g.D.Disk.told c.args.disk) e))
+
+pub returns-in-Err-Memory-clause-front : goal.returns-in-Err-Memory-clause-front
+returns-in-Err-Memory-clause-front g c = λ why asks e.
+    inl (refl, (refl, same-found (g.H.Hash32.digest c.args.hash.now) why (g.D.Disk.told c.args.disk) (sym e)))

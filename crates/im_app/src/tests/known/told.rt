@@ -5,7 +5,7 @@ use im_format::damages::{Damage, Difference};
 use std::test::Fail;
 
 #[test]
-fn an_end_is_told_in_one_line(rt: HostRuntime) -> Result<(), Fail> {
+fn a_damage_is_told_with_its_place(rt: HostRuntime) -> Result<(), Fail> {
     let digests = Damage {
         file: 2,
         at: 0,
@@ -22,11 +22,7 @@ fn an_end_is_told_in_one_line(rt: HostRuntime) -> Result<(), Fail> {
             got: 2097153,
         },
     };
-    let cases: [(Status, &[u8]); 8] = [
-        (Status::Ok, b""),
-        (Status::Usage, b"im: usage\n"),
-        (Status::Script { line: 3 }, b"im: script 3\n"),
-        (Status::ReadFault, b"im: read fault\n"),
+    let cases: [(Status, &[u8]); 2] = [
         (
             Status::Damaged(digests),
             b"im: damaged 2 0 0a0a0a0a0a0a0a0a0a0a0a0a0a0a0a0a0a0a0a0a0a0a0a0a0a0a0a0a0a0a0a0a f1f1f1f1f1f1f1f1f1f1f1f1f1f1f1f1f1f1f1f1f1f1f1f1f1f1f1f1f1f1f1f1\n",
@@ -35,6 +31,20 @@ fn an_end_is_told_in_one_line(rt: HostRuntime) -> Result<(), Fail> {
             Status::Damaged(numbers),
             b"im: damaged 1 9 1048576 2097153\n",
         ),
+    ];
+    for (status, want) in cases {
+        assert_eq!(rt; status.told(rt.alloc())?.as_slice(), want);
+    }
+    Ok(())
+}
+
+#[test]
+fn other_ends_are_told_in_a_line_or_none(rt: HostRuntime) -> Result<(), Fail> {
+    let cases: [(Status, &[u8]); 6] = [
+        (Status::Ok, b""),
+        (Status::Usage, b"im: usage\n"),
+        (Status::Script { line: 3 }, b"im: script 3\n"),
+        (Status::ReadFault, b"im: read fault\n"),
         (Status::Memory, b"im: memory\n"),
         (
             Status::Kept {

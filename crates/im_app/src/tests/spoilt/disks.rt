@@ -21,8 +21,8 @@ fn disk_of(alloc: Global, log: &[u8], commits: &[u8], values: &[u8]) -> Result<M
     Ok(MemDisk::from_files(alloc, files, Vec::new(alloc))?)
 }
 
-// Opening makes the calls 1 to 3, and the `set` 4 to 9: the value log, the transaction log, the commit log, a
-// sync, the gate, a sync.
+// Opening makes the calls 1 to 3, a sync, the closed gate and a sync, and the `set` 4 to 9: the value log, the
+// transaction log, the commit log, a sync, the gate, a sync.
 #[test]
 fn a_disk_that_fails_holds_what_was_told(rt: HostRuntime) -> Result<(), Fail> {
     let cases: [(u64, &[u8]); 4] = [
@@ -41,6 +41,20 @@ fn a_disk_that_fails_holds_what_was_told(rt: HostRuntime) -> Result<(), Fail> {
         let (status, written, _) = run_over(&rt, b"a: header 9\n", disk)?;
         assert_eq!(rt; status, Status::Ok);
         assert_eq!(rt; written.as_slice(), found);
+    }
+    Ok(())
+}
+
+#[test]
+fn an_opening_that_fails_makes_no_call_behind(rt: HostRuntime) -> Result<(), Fail> {
+    for failing in [1u64, 2, 3] {
+        let mut calls = Vec::new(rt.alloc());
+        calls.push(failing)?;
+        let disk = MemDisk::new(rt.alloc(), calls)?;
+        let (status, written, disk) = run_over(&rt, b"a: set k=abc\n", disk)?;
+        assert_eq!(rt; status, Status::DiskFault);
+        assert!(rt; written.is_empty());
+        assert_eq!(rt; disk.time(), failing);
     }
     Ok(())
 }
