@@ -1,6 +1,6 @@
 ghost use Rattle.std.specs.Prelude.{◌≡◌, Option, None, IfOk, option_map};
 ghost use Rattle.im_model.specs.declared.headers.Header.{Header as TheHeader};
-ghost use Rattle.im_client.specs.Folds.{state_by, IsOutcome};
+ghost use Rattle.im_client.specs.Folds.{state_by, state_with, IsOutcome};
 
 use crate::checks::check_message;
 use crate::faults::LineFault;
@@ -9,6 +9,7 @@ use im_digest::Hash32;
 use im_model::headers::Header;
 use im_wire::errors::WireError;
 use im_wire::lines::read_line;
+use im_proof::proofs::DualProof;
 use im_wire::messages::Message;
 use std::alloc::{AllocError, Global};
 use std::marker::Model;
@@ -67,7 +68,10 @@ impl Client {
             Ok(None) => Ok(Outcome::Passed),
             Ok(Some(message)) => match check_message(hash, self.state.as_ref(), &message) {
                 Ok(()) => Ok(Outcome::Accepted { message }),
-                Err(fault) => Ok(Outcome::Refused { fault }),
+                Err(fault) => {
+                    drop(message);
+                    Ok(Outcome::Refused { fault })
+                }
             },
             Err(WireError::Syntax) => Ok(Outcome::Refused {
                 fault: LineFault::Syntax,
@@ -82,13 +86,35 @@ impl Client {
         ensures { self.new ≡ state_by self.old outcome }
     {
         match outcome {
-            Outcome::Accepted {
-                message: Message::State { header },
-            } if self.state.is_none() => self.state = Some(header),
-            Outcome::Accepted {
-                message: Message::Advance { dual, .. },
-            } => self.state = Some(dual.target),
-            _ => {}
+            Outcome::Accepted { message } => self.take(message),
+            Outcome::Passed | Outcome::Refused { .. } => {}
         }
     }
+
+    // Follows an accepted message.
+    fn take(&mut self, message: Message)
+        ensures { self.new ≡ state_with self.old message }
+    {
+        match message {
+            Message::State { header } => {
+                if self.state.is_none() {
+                    self.state = Some(header);
+                } else {
+                    drop(header);
+                }
+            }
+            Message::Advance { dual, anchor } => {
+                drop(anchor);
+                self.state = Some(target_of(dual));
+            }
+            other => drop(other),
+        }
+    }
+}
+
+// The target of a proof.
+fn target_of(dual: DualProof) -> Header
+    ensures { result ≡ dual.target }
+{
+    dual.target
 }

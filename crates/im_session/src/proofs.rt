@@ -29,7 +29,9 @@ fn message_text(alloc: Global, message: Message) -> Result<Vec<u8>, AllocError>
     ensures text { IfOk result (λ octets. octets.items ≡ text message) }
     ensures again { IfOk result (λ octets. HasMessage octets.items message) }
 {
-    write(alloc, &message)
+    let octets = write(alloc, &message);
+    drop(message);
+    octets
 }
 
 /// The reply to `state`: the header of the last transaction, which is copied. Nothing is hashed.

@@ -62,6 +62,7 @@ fn follow_lines<H: Hash32>(alloc: Global, hash: &H, lines: &[Octets]) -> Result<
     for (i, line) in lines.iter().enumerate() {
         let outcome = client.judge(alloc, hash, line.as_slice())?;
         if is_refused(&outcome) {
+            drop(outcome);
             return Err(KeptError::Line(i as u64 + 1));
         }
         client.follow(outcome);

@@ -91,7 +91,10 @@ fn take_line<H: Hash32, K: Sink, P: Keeper>(
     ensures keeper_once { P.faults keeper.new ≤ P.faults keeper.old + 1 }
 {
     let outcome = client.judge(alloc, hash, line)?;
-    keep_and_tell(alloc, sink, keeper, number, &outcome)?;
+    if let Err(stop) = keep_and_tell(alloc, sink, keeper, number, &outcome) {
+        drop(outcome);
+        return Err(stop);
+    }
     let refused = is_refused(&outcome);
     client.follow(outcome);
     Ok(refused)
