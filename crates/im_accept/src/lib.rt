@@ -5,5 +5,3 @@
 
 pub mod laws;
 pub mod numbers;
-#[cfg(test)]
-mod tests;

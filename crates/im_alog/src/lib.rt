@@ -3,5 +3,3 @@
 
 pub mod laying;
 pub mod reading;
-#[cfg(test)]
-mod tests;

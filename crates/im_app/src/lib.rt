@@ -4,7 +4,5 @@
 mod damage;
 mod run;
 pub mod status;
-#[cfg(test)]
-mod tests;
 pub mod top;
 mod verdict;

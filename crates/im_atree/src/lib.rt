@@ -5,6 +5,4 @@
 pub mod built;
 pub mod checks;
 pub mod growths;
-#[cfg(test)]
-mod tests;
 pub mod trees;

@@ -8,5 +8,3 @@ mod judging;
 mod last;
 pub mod laws;
 pub mod roots;
-#[cfg(test)]
-mod tests;

@@ -16,9 +16,6 @@ use im_octet::fields::eight;
 use im_proof::faults::DualFault;
 use std::alloc::{AllocError, Global};
 
-#[cfg(test)]
-mod tests;
-
 /// The Alh of transaction k: the digest of `k 8 | the Alh before it 32 | its inner digest 32`. It takes no
 /// memory, and costs one hash.
 pub fn step<H: Hash32>(hash: &H, k: u64, previous: &D32, inner: &D32) -> D32

@@ -7,6 +7,4 @@ pub mod clients;
 pub mod faults;
 pub mod laws;
 pub mod outcomes;
-#[cfg(test)]
-mod tests;
 pub mod texts;

@@ -4,5 +4,3 @@
 pub mod batches;
 pub mod laws;
 pub mod marks;
-#[cfg(test)]
-mod tests;

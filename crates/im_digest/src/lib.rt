@@ -7,9 +7,6 @@ ghost use Rattle.im_digest.specs.Digests.{sum_digest};
 
 use sha2::{Digest, Sha256};
 
-#[cfg(test)]
-mod tests;
-
 /// A digest: 32 octets.
 pub type D32 = [u8; 32];
 

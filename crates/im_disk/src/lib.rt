@@ -11,7 +11,3 @@ pub mod fuse;
 pub mod laws;
 pub mod memory;
 pub mod no_disk;
-#[cfg(test)]
-mod sync_tests;
-#[cfg(test)]
-mod tests;

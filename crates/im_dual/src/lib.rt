@@ -3,11 +3,7 @@
 #![tactic(auto)]
 
 mod advance;
-#[cfg(test)]
-mod attack;
 pub mod build;
 pub mod check;
 pub mod headers;
 pub mod laws;
-#[cfg(test)]
-mod tests;

@@ -11,5 +11,3 @@ pub mod keeper;
 pub mod lines;
 pub mod sink;
 pub mod source;
-#[cfg(test)]
-mod tests;

@@ -6,5 +6,3 @@ pub mod attrs;
 pub mod digests;
 pub mod laws;
 pub mod make;
-#[cfg(test)]
-mod tests;

@@ -8,5 +8,3 @@ pub mod damages;
 pub mod records;
 pub mod references;
 pub mod spans;
-#[cfg(test)]
-mod tests;

@@ -3,5 +3,3 @@
 
 pub mod frontiers;
 mod subtrees;
-#[cfg(test)]
-mod tests;

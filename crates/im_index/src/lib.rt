@@ -7,5 +7,3 @@ mod entries;
 pub mod index;
 mod reads;
 pub mod snapshot;
-#[cfg(test)]
-mod tests;

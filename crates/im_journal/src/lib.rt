@@ -7,5 +7,3 @@ pub mod journal;
 pub mod laws;
 mod pieces;
 mod steps;
-#[cfg(test)]
-mod tests;

@@ -8,5 +8,3 @@ pub mod laws;
 pub mod ledger;
 pub mod opening;
 mod records;
-#[cfg(test)]
-mod tests;

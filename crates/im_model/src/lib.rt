@@ -9,7 +9,5 @@ pub mod headers;
 pub mod laws;
 pub mod limits;
 pub mod paths;
-#[cfg(test)]
-mod tests;
 pub mod transactions;
 pub mod trees;

@@ -7,5 +7,3 @@ pub mod laws;
 pub mod paths;
 pub mod places;
 pub mod roots;
-#[cfg(test)]
-mod tests;

@@ -7,6 +7,4 @@ pub mod fields;
 pub mod laws;
 pub mod octets;
 pub mod reader;
-#[cfg(test)]
-mod tests;
 pub mod writer;

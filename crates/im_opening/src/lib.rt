@@ -12,7 +12,5 @@ pub mod reading;
 mod records;
 pub mod repair;
 mod source;
-#[cfg(test)]
-mod tests;
 mod transactions;
 mod values;

@@ -3,5 +3,3 @@
 
 pub mod history;
 pub mod laws;
-#[cfg(test)]
-mod tests;

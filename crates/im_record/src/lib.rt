@@ -9,6 +9,4 @@ pub mod keys;
 pub mod laws;
 mod refs;
 pub mod slots;
-#[cfg(test)]
-mod tests;
 pub mod writing;

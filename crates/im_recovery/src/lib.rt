@@ -2,5 +2,3 @@
 #![tactic(auto)]
 
 pub mod recovery;
-#[cfg(test)]
-mod tests;

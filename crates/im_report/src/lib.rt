@@ -4,5 +4,3 @@
 
 pub mod reads;
 pub mod replies;
-#[cfg(test)]
-mod tests;

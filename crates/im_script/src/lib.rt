@@ -4,14 +4,10 @@
 pub mod commands;
 mod fields;
 pub mod laws;
-#[cfg(test)]
-mod line_tests;
 pub mod lines;
 mod lookups;
 mod numbers;
 mod pres;
 pub mod scripts;
 mod sets;
-#[cfg(test)]
-mod tests;
 pub mod words;

@@ -5,5 +5,3 @@ mod answers;
 mod proofs;
 mod reads;
 pub mod serve;
-#[cfg(test)]
-mod tests;

@@ -2,6 +2,4 @@
 //! definitions in `specs/`, and a plain program that writes them.
 #![tactic(auto)]
 
-#[cfg(test)]
-mod tests;
 pub mod texts;

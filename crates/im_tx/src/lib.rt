@@ -7,5 +7,3 @@ mod lengths;
 pub mod prepare;
 pub mod prepared;
 pub mod reserved;
-#[cfg(test)]
-mod tests;

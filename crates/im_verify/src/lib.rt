@@ -7,6 +7,4 @@ mod kept;
 pub mod laws;
 mod lines;
 mod stops;
-#[cfg(test)]
-mod tests;
 pub mod verify;

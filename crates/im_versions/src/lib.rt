@@ -6,6 +6,4 @@ pub mod entries;
 pub mod laws;
 pub mod plain;
 pub mod refusals;
-#[cfg(test)]
-mod tests;
 pub mod versions;

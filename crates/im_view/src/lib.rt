@@ -2,6 +2,4 @@
 #![tactic(auto)]
 
 pub mod errors;
-#[cfg(test)]
-mod tests;
 pub mod view;

@@ -5,5 +5,3 @@ pub mod laws;
 pub mod octets;
 pub mod placing;
 pub mod showing;
-#[cfg(test)]
-mod tests;

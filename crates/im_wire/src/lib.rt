@@ -7,6 +7,4 @@ pub mod laws;
 pub mod lines;
 pub mod messages;
 pub mod reading;
-#[cfg(test)]
-mod tests;
 pub mod writing;

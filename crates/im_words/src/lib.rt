@@ -106,6 +106,3 @@ pub fn read_words(alloc: Global, words: &[String]) -> Result<Asked, WordsError>
     let matches = matched(alloc, words)?;
     Ok(asked(&matches))
 }
-
-#[cfg(test)]
-mod tests;
