@@ -6,11 +6,11 @@ ghost use Rattle.im_disk.specs.Causes.{HasCause};
 ghost use Rattle.im_disk.specs.Brought.{AllBrought, KeepsRest, Stays};
 
 use crate::disk::{Disk, DiskError};
+use im_edge::file_lock::folder_of;
 use im_edge::sink::{Writing, write_all};
 use std::alloc::Global;
 use std::fs::{Files, OpenFile, OpenOptions};
 use std::io::{ErrorKind, Read, Seek, SeekFrom};
-use std::path::Path;
 use std::{fs, io};
 
 /// A disk over the files of a folder, which are named by their numbers: `0`, `1` and so on. It opens
@@ -227,7 +227,7 @@ impl<'a, R: Files> FolderDisk<'a, R> {
             self.unsynced.names = false;
         }
         if self.unsynced.folder {
-            self.bring_folder(parent_of(self.folder))?;
+            self.bring_folder(folder_of(self.folder))?;
             self.unsynced.folder = false;
         }
         Ok(())
@@ -321,7 +321,7 @@ impl From<io::Error> for DiskError {
 }
 
 // The answer of a call, where a failure is counted.
-fn counted<T>(failures: &mut u64, answer: Result<T, DiskError>) -> Result<T, DiskError>
+pub(crate) fn counted<T>(failures: &mut u64, answer: Result<T, DiskError>) -> Result<T, DiskError>
     ensures same { result ≡ answer }
     ensures cause { HasCause failures.old failures.new result }
     ensures count { IsErrOf result Failed →
@@ -373,12 +373,4 @@ fn fill<S: Read>(reader: &mut S, buffer: &mut [u8]) -> Result<(), DiskError> {
         }
     }
     Ok(())
-}
-
-// The folder that names another one.
-fn parent_of(folder: &str) -> &str {
-    match Path::new(folder).parent() {
-        Some(parent) if !parent.as_str().is_empty() => parent.as_str(),
-        _ => ".",
-    }
 }

@@ -9,5 +9,6 @@ pub mod disk;
 pub mod folder;
 pub mod fuse;
 pub mod laws;
+pub mod locked_folder;
 pub mod memory;
 pub mod no_disk;

@@ -5,9 +5,11 @@
 
 pub mod clock;
 pub mod file_keeper;
+pub mod file_lock;
 pub mod fused_keeper;
 pub mod gate;
 pub mod keeper;
 pub mod lines;
+pub mod locked_keeper;
 pub mod sink;
 pub mod source;

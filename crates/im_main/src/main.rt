@@ -7,9 +7,11 @@ use clock::SystemClock;
 use im_app::status::Status;
 use im_app::top::top;
 use im_digest::Sha;
-use im_disk::folder::FolderDisk;
+use im_disk::locked_folder::LockedFolder;
 use im_edge::file_keeper::FileKeeper;
+use im_edge::file_lock::FileLock;
 use im_edge::gate::OpenGate;
+use im_edge::locked_keeper::LockedKeeper;
 use im_edge::sink::Writing;
 use im_edge::source::Reading;
 use std::env;
@@ -18,6 +20,9 @@ use std::process::ExitCode;
 
 // The folder in the working folder whose files are the store's.
 const STORED: &str = "im-data";
+
+// The file whose lock says that the store's folder is taken.
+const LOCK: &str = "im-data/lock";
 
 // The file in the working folder whose lines are what the client keeps.
 const KEPT: &str = "im-client.txt";
@@ -31,8 +36,11 @@ fn main(rt: HostRuntime) -> ExitCode {
     };
     let mut source = Reading::new(rt.reader());
     let mut sink = Writing::new(io::writer(&rt));
-    let disk = FolderDisk::new(&rt, rt.alloc(), STORED);
-    let mut keeper = FileKeeper::new(&rt, rt.alloc(), KEPT);
+    let disk = LockedFolder::new(&rt, rt.alloc(), STORED, LOCK);
+    let mut keeper = LockedKeeper::new(
+        FileKeeper::new(&rt, rt.alloc(), KEPT),
+        FileLock::new(&rt, KEPT),
+    );
     let done = top(
         &rt,
         rt.alloc(),
