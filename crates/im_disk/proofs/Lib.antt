@@ -1,3 +1,4 @@
+mod Silent
 pub mod Burning
 pub mod Growing
 pub mod Leaving

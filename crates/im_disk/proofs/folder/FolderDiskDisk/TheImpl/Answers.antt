@@ -1,14 +1,6 @@
 use Rattle.std.proofs.Common.{refl}
-use Rattle.std.specs.Prelude.{Result, Ok, Err, OnOk, IfOk}
+use Rattle.im_disk.proofs.Silent.{on_ok, if_ok}
 use Rattle.im_disk.proofs.folder.FolderDiskDisk.TheImpl.Goals as goal
-
-on_ok : {T E P : Type 0} (result : Result T E) → P → OnOk result P
-on_ok (Ok x) h = h
-on_ok (Err e) h = tt
-
-if_ok : {T E : Type 0} (P : T → Type 0) (result : Result T E) → ((x : T) → P x) → IfOk result P
-if_ok P (Ok x) h = h x
-if_ok P (Err e) h = tt
 
 pub write_at-tells : goal.write_at-tells
 write_at-tells g x c =
