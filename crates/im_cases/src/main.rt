@@ -1,25 +1,36 @@
-//! Runs the cases of the files `*.case` in the folder that it runs in through the top call, each over a disk in
-//! memory, and tells which differ.
+//! Runs the cases of the files `*.case` in the folder that it runs in through the top call, and tells where what
+//! came of them isn't what is wanted. `docs/CASES.md` says how a case is written.
 #![tactic(auto)]
 
 mod cases;
+mod comparing;
+mod doubles;
+mod feeding;
 mod folder;
+mod images;
+mod marks;
+mod octets;
+mod playing;
+mod reader;
 mod runs;
+mod shown;
+mod telling;
+mod texts;
+mod wanting;
+mod wrong;
 
+use std::process::ExitCode;
 use std::{fs, io};
 
-fn main(rt: HostRuntime) -> io::Result<()> {
+fn main(rt: HostRuntime) -> io::Result<ExitCode> {
+    let mut well = true;
     for name in &folder::case_files(&rt)? {
-        let text = fs::read_to_string(&rt, name.as_str())?;
-        let cases = cases::read(rt.alloc(), &text)?;
-        let mut bad = 0u64;
-        for case in &cases {
-            if let Some(told) = runs::difference(rt.alloc(), case)? {
-                println!(rt; "{name}: {told}")?;
-                bad = bad.saturating_add(1);
-            }
-        }
-        println!(rt; "{name}: {} cases, {bad} differ", cases.len())?;
+        let octets = fs::read(&rt, name.as_str())?;
+        well = telling::tell(&rt, name, &octets)? && well;
     }
-    Ok(())
+    Ok(if well {
+        ExitCode::SUCCESS
+    } else {
+        ExitCode::FAILURE
+    })
 }
