@@ -35,13 +35,18 @@ fn end(alloc: Global, wanted: &Wanted, came: &Answer) -> Difference {
     if wanted.code == came.code && wanted.told.as_slice() == told {
         return Ok(None);
     }
-    let wanted_text = String::from_utf8_lossy(alloc, &wanted.told)?;
-    let text = String::from_utf8_lossy(alloc, told)?;
-    Ok(Some(format!(in alloc;
-        "end: wanted {} {wanted_text}, came {} {text}",
-        wanted.code,
-        came.code
-    )?))
+    let wanted = end_text(alloc, wanted.code, &wanted.told)?;
+    let came = end_text(alloc, came.code, told)?;
+    Ok(Some(format!(in alloc; "end: wanted {wanted}, came {came}")?))
+}
+
+// An exit status and what is said, as a case says them.
+fn end_text(alloc: Global, code: u8, told: &[u8]) -> Result<String, AllocError> {
+    if told.is_empty() {
+        return code.to_string(alloc);
+    }
+    let told = shown::text_of(alloc, told)?;
+    format!(in alloc; "{code} {told}")
 }
 
 // Of two texts, by lines.

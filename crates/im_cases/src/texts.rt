@@ -4,8 +4,8 @@ use crate::wrong::Wrong;
 use im_cuts::{after, cut};
 use std::alloc::Global;
 
-// What a digest under the sum begins with, in hex.
-const ZEROS: &[u8; 62] = b"00000000000000000000000000000000000000000000000000000000000000";
+/// What a digest under the sum begins with, in hex.
+pub const ZEROS: &[u8; 62] = b"00000000000000000000000000000000000000000000000000000000000000";
 
 /// A text that stands for its name in braces, in the lines behind its own.
 #[derive(Drop)]
@@ -93,8 +93,8 @@ fn is_name_octet(octet: u8) -> bool {
     octet.is_ascii_lowercase() || octet.is_ascii_digit() || octet == b'-'
 }
 
-// 0-9 a-f
-fn is_hex_octet(octet: u8) -> bool {
+/// Whether an octet is one of 0-9 a-f.
+pub fn is_hex_octet(octet: u8) -> bool {
     octet.is_ascii_digit() || (b'a'..=b'f').contains(&octet)
 }
 
