@@ -1,16 +1,17 @@
 //! The runs of a case, one after the other, over one disk and one keeper.
 
-use crate::cases::{Case, Run};
+use crate::cases::{Case, Run, Wanted};
 use crate::comparing::{Difference, compare};
 use crate::feeding::input_of;
 use crate::images::{change, disk_of, durable_files_of, files_of};
-use crate::runs::{Kept, run_once};
+use crate::runs::{Answer, Kept, run_once};
 use crate::wrong::Fault;
 use im_disk::memory::MemDisk;
 use im_edge::fused_keeper::FusedKeeper;
 use im_edge::keeper::{Keeper, MemKeeper};
 use im_octet::octets::Octets;
 use std::alloc::{AllocError, Global};
+use std::mem;
 
 // What a run left.
 #[derive(Drop)]
@@ -85,11 +86,28 @@ impl Stage {
         self.keeper.calls_left = run.given.served.unwrap_or(u64::MAX);
         let disk = disk_of(self.alloc, files, &run.given.failing)?;
         let came = run_once(self.alloc, run, &input, disk, &mut self.keeper)?;
-        let kept = lines(self.alloc, &mut self.keeper.inner)?;
-        let told = compare(self.alloc, &run.wanted, &came, &kept);
-        self.disk = came.disk;
-        self.written = came.written;
+        let told = self.compare(&run.wanted, &came);
+        self.leave(came);
         told
+    }
+
+    // Tells what differs in what came.
+    fn compare(&mut self, wanted: &Wanted, came: &Answer) -> Difference {
+        let kept = lines(self.alloc, &mut self.keeper.inner)?;
+        compare(self.alloc, wanted, came, &kept)
+    }
+
+    // Leaves the disk, and what was written, to the next run.
+    fn leave(&mut self, came: Answer) {
+        let Answer {
+            disk,
+            written,
+            told,
+            ..
+        } = came;
+        drop(told);
+        drop(mem::replace(&mut self.disk, disk));
+        drop(mem::replace(&mut self.written, written));
     }
 }
 

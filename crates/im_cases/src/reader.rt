@@ -72,7 +72,7 @@ impl<'t> Reader<'t> {
                 if !self.add(line)? {
                     self.common
                         .push(line)
-                        .map_err(|_| Wrong::Memory.at(line.number))?;
+                        .map_err(|error| Wrong::from(error).at(line.number))?;
                 }
                 Ok(())
             }
@@ -106,7 +106,7 @@ impl<'t> Reader<'t> {
         let case = self.new_case(line).map_err(|wrong| wrong.at(line.number))?;
         self.cases
             .push(case)
-            .map_err(|_| Wrong::Memory.at(line.number))
+            .map_err(|error| Wrong::from(error).at(line.number))
     }
 
     // A case of this name, with no run yet.

@@ -10,7 +10,11 @@ use std::io;
 /// Runs the cases of a file, tells each difference and at the end how many agree, and says whether all do.
 pub fn tell(rt: &(impl Print + Alloc<A = Global>), name: &str, octets: &[u8]) -> io::Result<bool> {
     match cases_of(rt.alloc(), octets) {
-        Ok(cases) => tell_all(rt, name, &cases),
+        Ok(cases) => {
+            let well = tell_all(rt, name, &cases);
+            drop(cases);
+            well
+        }
         Err(Fault { line, wrong }) => {
             println!(rt; "{name} line {line}: {wrong}")?;
             tell_counts(rt, name, 0, 1)?;

@@ -100,19 +100,18 @@ pub fn is_hex_octet(octet: u8) -> bool {
 
 // What a text begins with, whose first octet is this one.
 fn front_of(text: &[u8], octet: u8) -> Front<'_> {
-    if let Some(digits) = digest_digits(text) {
-        return Front::Digest(digits);
-    }
-    match braced_name(text) {
-        Some(name) => Front::Name(name),
-        None => Front::Octet(octet),
-    }
+    let front = match octet {
+        b'<' => digest_digits(text).map(Front::Digest),
+        b'{' => braced_name(text).map(Front::Name),
+        _ => None,
+    };
+    front.unwrap_or(Front::Octet(octet))
 }
 
 // The two hex digits of a text that begins with `<xx>`.
 fn digest_digits(text: &[u8]) -> Option<&[u8]> {
-    let (digits, _) = cut(after(text, b"<")?, b'>')?;
-    if digits.len() == 2 && digits.iter().all(|octet| is_hex_octet(*octet)) {
+    let digits = after(text, b"<")?.get(..2)?;
+    if text.get(3) == Some(&b'>') && digits.iter().all(|octet| is_hex_octet(*octet)) {
         Some(digits)
     } else {
         None
