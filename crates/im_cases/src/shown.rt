@@ -10,6 +10,9 @@ const MOST: usize = 64;
 
 /// Octets in hex: the first ones, and two dots where more stand behind them.
 pub fn octets(alloc: Global, octets: &[u8]) -> Result<String, AllocError> {
+    if octets.is_empty() {
+        return "nothing".to_string(alloc);
+    }
     let (front, more) = match octets.get(..MOST) {
         Some(front) if octets.len() > MOST => (front, ".."),
         _ => (octets, ""),
@@ -24,6 +27,9 @@ pub fn line(alloc: Global, line: Option<&[u8]>) -> Result<String, AllocError> {
     let Some(line) = line else {
         return "nothing".to_string(alloc);
     };
+    if line == b"\n" {
+        return "an empty line".to_string(alloc);
+    }
     let (text, behind) = match line.strip_suffix(b"\n") {
         Some(text) => (text, ""),
         None => (line, " (without an LF)"),

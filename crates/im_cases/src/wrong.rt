@@ -5,7 +5,7 @@ use thiserror::Error;
 #[derive(Clone, Copy, Debug, PartialEq, Eq, Error)]
 pub enum Wrong {
     /// The octets of the file aren't UTF-8 from this line on.
-    #[error("no UTF-8")]
+    #[error("it isn't UTF-8")]
     Encoding,
     /// The line begins with no mark.
     #[error("no such mark")]
@@ -31,8 +31,8 @@ pub enum Wrong {
     /// A text is used that isn't named above.
     #[error("no text of this name stands above")]
     Unnamed,
-    /// A number isn't written in decimal digits, or is too large.
-    #[error("a number is written in decimal digits, and not too large")]
+    /// A number is wanted, and isn't written in decimal digits, or is too large.
+    #[error("a number is wanted here, in decimal digits, and not too large")]
     Number,
     /// A file's number is above 15.
     #[error("a file is one of 0 to 15")]
