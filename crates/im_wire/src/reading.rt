@@ -40,8 +40,13 @@ fn advance_of(alloc: Global, value: &Value) -> Result<Message, WireError>
     ensures { Gives result (advance_of (view value.now)) }
 {
     let anchor = anchor_field(alloc, value, "anchor")?;
-    let dual = dual_proof_field(alloc, value, "dual")?;
-    Ok(Message::Advance { dual, anchor })
+    match dual_proof_field(alloc, value, "dual") {
+        Ok(dual) => Ok(Message::Advance { dual, anchor }),
+        Err(error) => {
+            drop(anchor);
+            Err(error)
+        }
+    }
 }
 
 // The message that is an item.
@@ -50,15 +55,29 @@ fn item_of(alloc: Global, value: &Value) -> Result<Message, WireError>
     ensures { Gives result (item_of (view value.now)) }
 {
     let dual = dual_proof_field(alloc, value, "dual")?;
-    let entry = entry_field(alloc, value, "entry")?;
-    let index = u32_field(value, "index")?;
-    let path = digests_field(alloc, value, "path")?;
-    Ok(Message::Item {
-        dual,
-        entry,
-        index,
-        path,
-    })
+    let entry = match entry_field(alloc, value, "entry") {
+        Ok(entry) => entry,
+        Err(error) => {
+            drop(dual);
+            return Err(error);
+        }
+    };
+    match (
+        u32_field(value, "index"),
+        digests_field(alloc, value, "path"),
+    ) {
+        (Ok(index), Ok(path)) => Ok(Message::Item {
+            dual,
+            entry,
+            index,
+            path,
+        }),
+        (Err(error), _) | (_, Err(error)) => {
+            drop(dual);
+            drop(entry);
+            Err(error)
+        }
+    }
 }
 
 // The message of that type.
