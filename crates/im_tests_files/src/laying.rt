@@ -13,14 +13,14 @@ use std::test::Fail;
 
 // A disk whose file 3 holds 10, 11, 12 and 13, and file 5 seven octets. Its second changing call fails.
 fn disk(alloc: Global) -> Result<MemDisk, AllocError> {
-    let mut files = Vec::new(alloc);
-    for file in 0..6u8 {
-        files.push(match file {
-            3 => Octets::from_slice(alloc, &[10, 11, 12, 13])?,
-            5 => Octets::from_slice(alloc, b"1234567")?,
-            _ => Octets::new(alloc),
-        })?;
-    }
+    let files = vec![in alloc;
+        Octets::new(alloc),
+        Octets::new(alloc),
+        Octets::new(alloc),
+        Octets::from_slice(alloc, &[10, 11, 12, 13])?,
+        Octets::new(alloc),
+        Octets::from_slice(alloc, b"1234567")?,
+    ]?;
     MemDisk::from_files(alloc, files, vec![in alloc; 2]?)
 }
 

@@ -13,16 +13,20 @@ use im_vlog::showing::read_value;
 use std::alloc::{AllocError, Global};
 use std::test::Fail;
 
-// A transaction with the values ab, none, c, defg and h, of which value k goes to log (id + k) mod 4.
-fn record(alloc: Global, id: u8) -> Result<Record, AllocError> {
+// The values of transactions 1 and 2, and the logs to which they go: value k of transaction n to log (n + k) mod 4.
+const FIRST: &[(&str, u8)] = &[("ab", 1), ("", 2), ("c", 3), ("defg", 0), ("h", 1)];
+
+const SECOND: &[(&str, u8)] = &[("ab", 2), ("", 3), ("c", 0), ("defg", 1), ("h", 2)];
+
+fn record(alloc: Global, values: &[(&str, u8)]) -> Result<Record, AllocError> {
     let mut entries = Vec::new(alloc);
     let mut refs = Vec::new(alloc);
-    let mut log = id % 4;
-    for value in ["ab", "", "c", "defg", "h"] {
-        let entry = entry_of(alloc, &[], value.as_bytes())?;
-        entries.push(entry)?;
-        refs.push(placed(0, value.len() as u32, log, 0))?;
-        log = (log + 1) % 4;
+    for (value, log) in values {
+        let octets = value.as_bytes();
+        if octets.len() <= 4096 {
+            entries.push(entry_of(alloc, &[], octets)?)?;
+            refs.push(placed(0, octets.len() as u32, *log, 0))?;
+        }
     }
     Ok(Record {
         tx: Transaction {
@@ -38,7 +42,7 @@ fn record(alloc: Global, id: u8) -> Result<Record, AllocError> {
 #[test]
 fn a_log_gets_its_values(rt: HostRuntime) -> Result<(), Fail> {
     let alloc = rt.alloc();
-    let records = vec![in alloc; record(alloc, 1)?, record(alloc, 2)?]?;
+    let records = vec![in alloc; record(alloc, FIRST)?, record(alloc, SECOND)?]?;
     for (log, want) in [(0, "defgc"), (1, "abhdefg"), (2, "abh"), (3, "c"), (4, "")] {
         let octets = log_values(alloc, log, &records)?;
         assert!(rt; octets.as_slice() == want.as_bytes(), "log {log}");
