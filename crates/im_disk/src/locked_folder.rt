@@ -1,4 +1,4 @@
-ghost use Rattle.std.specs.Prelude.{◌≡◌, ◌<◌, ◌+◌, ◌⊎◌};
+ghost use Rattle.std.specs.Prelude.{◌≡◌, ◌<◌, ◌+◌, ◌-◌, ◌^◌, ◌⊎◌, min};
 ghost use Rattle.im_disk.specs.Causes.{HasCause};
 
 use crate::disk::{Disk, DiskError};
@@ -37,6 +37,13 @@ impl<'a, R: Files> LockedFolder<'a, R> {
             lock: FileLock::new(rt, lock),
             refused: 0,
         }
+    }
+
+    /// How often it has failed, or the lock couldn't be had, at most `u64::MAX`.
+    pub fn failures(&self) -> u64
+        ensures { result ≡ min (self.now.disk.failures + self.now.refused) (2 ^ 64 - 1) }
+    {
+        self.disk.failures().saturating_add(self.refused)
     }
 }
 

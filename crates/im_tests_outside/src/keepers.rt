@@ -97,7 +97,8 @@ fn lines_in_a_file(rt: HostRuntime) -> Result<(), Fail> {
     Ok(())
 }
 
-// Each line is synced, and one that can't be written is a failure.
+// The folder's names are synced before the first line, and each line; one that can't be written, or can't be synced, is a
+// failure, and the file is cut back.
 fn is_synced<R: Files>(rt: &R, alloc: Global) -> bool {
     let asked = Asked::new();
     let files = WatchedFiles {
@@ -106,12 +107,16 @@ fn is_synced<R: Files>(rt: &R, alloc: Global) -> bool {
     };
     let mut keeper = FileKeeper::new(&files, alloc, SYNCED_KEPT);
     let kept = keeper.append(b"one") == Ok(())
-        && asked.synced("t-")
+        && asked.synced("d+t-")
         && keeper.append(b"two") == Ok(())
         && asked.synced("t-");
     asked.fail(true);
-    kept && keeper.append(b"three") == Err(KeeperError::Failed)
-        && keeper.failures == 1
+    let unwritten = keeper.append(b"three") == Err(KeeperError::Failed);
+    asked.fail_behind(1);
+    let unsynced = keeper.append(b"four") == Err(KeeperError::Failed);
+    kept && unwritten
+        && unsynced
+        && keeper.failures == 2
         && has(alloc, &mut keeper, &[b"one", b"two"])
 }
 
@@ -119,6 +124,35 @@ fn is_synced<R: Files>(rt: &R, alloc: Global) -> bool {
 fn each_line_is_synced(rt: HostRuntime) -> Result<(), Fail> {
     make_folder(&rt, SYNCED)?;
     assert!(rt; is_synced(&rt, rt.alloc()));
+    assert!(rt; fs::read(&rt, SYNCED_KEPT)?.as_slice() == b"one\ntwo\n".as_slice());
     fs::remove_dir_all(&rt, SYNCED)?;
+    Ok(())
+}
+
+const ENDED: &str = "im_kept_ended";
+
+const ENDED_KEPT: &str = "im_kept_ended/kept.txt";
+
+// What a file holds, and what it holds once `one` was appended.
+const ENDS: [(&str, &str); 4] = [
+    ("", "one\n"),
+    ("zero\n", "zero\none\n"),
+    ("zero", "zero\none\n"),
+    ("\nzero", "\nzero\none\n"),
+];
+
+#[test]
+fn a_last_line_gets_the_end_that_it_lacks(rt: HostRuntime) -> Result<(), Fail> {
+    make_folder(&rt, ENDED)?;
+    for (before, after) in ENDS {
+        fs::write(&rt, ENDED_KEPT, before)?;
+        let added = FileKeeper::new(&rt, rt.alloc(), ENDED_KEPT).append(b"one");
+        let read = fs::read(&rt, ENDED_KEPT)?;
+        assert!(rt;
+            added == Ok(()) && read.as_slice() == after.as_bytes(),
+            "{before}"
+        );
+    }
+    fs::remove_dir_all(&rt, ENDED)?;
     Ok(())
 }

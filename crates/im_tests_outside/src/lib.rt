@@ -13,6 +13,8 @@ mod images;
 #[cfg(test)]
 mod keepers;
 #[cfg(test)]
+mod locks;
+#[cfg(test)]
 mod octets;
 #[cfg(test)]
 mod streams;

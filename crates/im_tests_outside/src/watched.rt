@@ -6,20 +6,21 @@ use std::fs::{Files, Metadata, OpenFile, OpenOptions};
 use std::io;
 use std::io::{Read, Seek, SeekFrom, Write};
 
-// What was asked of the files so far, and whether they fail from now on.
+// What was asked of the files so far, and when they fail.
 #[derive(Drop)]
 pub struct Asked {
     // The last sixteen octets of the syncs in their order: of each the last octet of its path, and
     // then `-` where it was of the data, and `+` where it was of all.
     syncs: Cell<u128>,
-    failing: Cell<bool>,
+    // How many writes and syncs succeed before all others fail.
+    left: Cell<u64>,
 }
 
 impl Asked {
     pub fn new() -> Self {
         Asked {
             syncs: Cell::new(0),
-            failing: Cell::new(false),
+            left: Cell::new(u64::MAX),
         }
     }
 
@@ -32,8 +33,14 @@ impl Asked {
         self.syncs.replace(0) == octets
     }
 
+    // So many writes and syncs succeed from here on, and then none.
+    pub fn fail_behind(&self, calls: u64) {
+        self.left.set(calls);
+    }
+
+    // Whether each write and sync fails from here on, or none does.
     pub fn fail(&self, failing: bool) {
-        self.failing.set(failing);
+        self.fail_behind(if failing { 0 } else { u64::MAX });
     }
 
     fn add(&self, last: u8, kind: u8) {
@@ -41,10 +48,13 @@ impl Asked {
     }
 
     fn answer(&self) -> io::Result<()> {
-        if self.failing.get() {
-            return Err(io::Error::from(io::ErrorKind::Other));
+        match self.left.get().checked_sub(1) {
+            Some(left) => {
+                self.left.set(left);
+                Ok(())
+            }
+            None => Err(io::Error::from(io::ErrorKind::Other)),
         }
-        Ok(())
     }
 }
 
