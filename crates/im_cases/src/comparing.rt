@@ -60,9 +60,7 @@ fn lines(alloc: Global, what: &str, wanted: &[u8], came: &[u8]) -> Difference {
     let wanted = shown::line(alloc, wanted.get(at).copied())?;
     let came = shown::line(alloc, came.get(at).copied())?;
     let number = at.saturating_add(1);
-    Ok(Some(format!(in alloc;
-        "{what} {number}: wanted {wanted}, came {came}"
-    )?))
+    Ok(Some(format!(in alloc; "{what} {number}: wanted {wanted}, came {came}")?))
 }
 
 // The lines of a text, each with its LF where it has one.
@@ -145,12 +143,14 @@ fn file(alloc: Global, wanted: &Holding, came: &[u8]) -> Difference {
         }
         Content::Octets(octets) if octets.as_slice() == came => Ok(None),
         Content::Octets(octets) => {
-            let at = octets.iter().zip(came).take_while(|(x, y)| **x == **y).count();
+            let at = octets
+                .iter()
+                .zip(came)
+                .take_while(|(x, y)| **x == **y)
+                .count();
             let wanted = shown::octets(alloc, octets.get(at..).unwrap_or(&[]))?;
             let came = shown::octets(alloc, came.get(at..).unwrap_or(&[]))?;
-            Ok(Some(format!(in alloc;
-                "file {file} from {at} on: wanted {wanted}, came {came}"
-            )?))
+            Ok(Some(format!(in alloc; "file {file} from {at} on: wanted {wanted}, came {came}")?))
         }
     }
 }
@@ -158,9 +158,9 @@ fn file(alloc: Global, wanted: &Holding, came: &[u8]) -> Difference {
 // Of a number, where one is wanted.
 fn count(alloc: Global, what: &str, wanted: Option<u64>, came: u64) -> Difference {
     match wanted {
-        Some(wanted) if wanted != came => Ok(Some(
-            format!(in alloc; "{what}: wanted {wanted}, came {came}")?,
-        )),
+        Some(wanted) if wanted != came => Ok(Some(format!(in alloc;
+            "{what}: wanted {wanted}, came {came}"
+        )?)),
         _ => Ok(None),
     }
 }

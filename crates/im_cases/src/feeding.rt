@@ -104,8 +104,7 @@ pub fn input_of(alloc: Global, input: &Input, before: &[u8]) -> Result<Vec<u8>, 
 
 // The octets of a piece, with what is replaced in them.
 fn exchanged(alloc: Global, piece: &Piece, before: &[u8]) -> Result<Vec<u8>, Fault> {
-    let mut octets =
-        octets_of(alloc, &piece.origin, before).map_err(|wrong| wrong.at(piece.line))?;
+    let mut octets = octets_of(alloc, &piece.origin, before).map_err(|wrong| wrong.at(piece.line))?;
     for exchange in &piece.exchanges {
         octets = replaced(alloc, &octets, exchange).map_err(|wrong| wrong.at(exchange.line))?;
     }

@@ -101,12 +101,7 @@ fn cut(file: &mut Vec<u8>, length: u64) -> Result<(), Wrong> {
 }
 
 // Writes a piece into one of the files.
-fn write(
-    files: &mut [Vec<u8>],
-    file: usize,
-    at: usize,
-    piece: &[u8],
-) -> Result<(), AllocError> {
+fn write(files: &mut [Vec<u8>], file: usize, at: usize, piece: &[u8]) -> Result<(), AllocError> {
     match files.get_mut(file) {
         Some(file) => put(file, at, piece),
         None => Ok(()),
@@ -125,11 +120,7 @@ fn put(file: &mut Vec<u8>, at: usize, octets: &[u8]) -> Result<(), AllocError> {
 }
 
 /// A disk with these files, whose changing calls of these numbers fail.
-pub fn disk_of(
-    alloc: Global,
-    files: Vec<Vec<u8>>,
-    failing: &[u64],
-) -> Result<MemDisk, AllocError> {
+pub fn disk_of(alloc: Global, files: Vec<Vec<u8>>, failing: &[u64]) -> Result<MemDisk, AllocError> {
     let mut first = Vec::new(alloc);
     for file in files {
         first.push(Octets::from_vec(file))?;

@@ -1,11 +1,10 @@
 //! What the marks of a run's lines say, in four groups: files, input, surroundings, and what is wanted.
 
 use crate::cases::{Change, Given, Hash, How, Run};
-use crate::feeding;
 use crate::octets::{file_number, number, octets};
 use crate::texts::Scope;
-use crate::wanting;
 use crate::wrong::Wrong;
+use crate::{feeding, wanting};
 
 /// Does to a run what a line of this mark says.
 pub fn apply(scope: Scope, run: &mut Run, mark: &str, rest: &str) -> Result<(), Wrong> {

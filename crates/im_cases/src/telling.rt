@@ -43,11 +43,7 @@ fn line_at(octets: &[u8], place: usize) -> u64 {
 }
 
 // Runs cases, tells each difference and how many agree, and says whether all do.
-fn tell_all(
-    rt: &(impl Print + Alloc<A = Global>),
-    name: &str,
-    cases: &[Case],
-) -> io::Result<bool> {
+fn tell_all(rt: &(impl Print + Alloc<A = Global>), name: &str, cases: &[Case]) -> io::Result<bool> {
     let mut agree = 0u64;
     let mut differ = 0u64;
     for case in cases {
@@ -65,7 +61,11 @@ fn tell_all(
 
 // Tells how many cases of a file agree, and how many differ where some do.
 fn tell_counts(rt: &impl Print, name: &str, agree: u64, differ: u64) -> io::Result<()> {
-    let agreeing = if agree == 1 { "case agrees" } else { "cases agree" };
+    let agreeing = if agree == 1 {
+        "case agrees"
+    } else {
+        "cases agree"
+    };
     match differ {
         0 => println!(rt; "{name}: {agree} {agreeing}"),
         1 => println!(rt; "{name}: {agree} {agreeing}, 1 differs"),
