@@ -5,7 +5,7 @@ ghost use Rattle.im_book.specs.Booked.{last_bl, IsBook};
 ghost use Rattle.im_digest.specs.Digests.{sum_digest};
 ghost use Rattle.im_model.specs.History.{IsHistory};
 
-use crate::values::{digest, setting};
+use crate::values::{are, digest, setting};
 use im_book::book::Book;
 use im_digest::{D32, Sum};
 use im_model::headers::Header;
@@ -87,16 +87,22 @@ fn is_plain(alloc: Global, book: &Book, k: u64, root: u8) -> Result<bool, AllocE
 // second stands over the tree of one leaf, 95: its inner string has also the tree's size and root, 136; with its
 // number and the Alh before it that is 1cd, of which cd is left. The third stands over 95 and cd, whose root is 1
 // and their sum: 63. Its inner string adds up to 105, and with its number and the Alh before it d5 is left.
-fn headers_of_three(alloc: Global) -> Result<bool, Fail> {
-    let book = Book::new(alloc, &Sum, three_over_growing_trees(alloc)?)?;
-    let alhs = [digest(0x95), digest(0xcd), digest(0xd5)];
+fn are_as_worked(alloc: Global, book: &Book) -> Result<bool, AllocError>
+    requires book { IsBook sum_digest book.now }
+    requires three { length book.now.transactions ≡ 3 }
+{
     Ok(
         book.len() == 3
-            && book.alhs() == alhs.as_slice()
-            && is_plain(alloc, &book, 1, 0)?
-            && is_plain(alloc, &book, 2, 0x95)?
-            && is_plain(alloc, &book, 3, 0x63)?,
+            && are(book.alhs(), &[0x95, 0xcd, 0xd5])
+            && is_plain(alloc, book, 1, 0)?
+            && is_plain(alloc, book, 2, 0x95)?
+            && is_plain(alloc, book, 3, 0x63)?,
     )
+}
+
+fn headers_of_three(alloc: Global) -> Result<bool, Fail> {
+    let book = Book::new(alloc, &Sum, three_over_growing_trees(alloc)?)?;
+    Ok(are_as_worked(alloc, &book)?)
 }
 
 fn no_headers_of_none(alloc: Global) -> Result<bool, AllocError> {

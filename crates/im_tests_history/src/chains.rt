@@ -3,7 +3,7 @@
 //! By the sum of octets an Alh is its number, the Alh before it and its inner digest, all added. In hex: 2 + a0 + a0
 //! is 42, and 3 + 42 + a1 is e6, modulo 100.
 
-use crate::values::digest;
+use crate::values::{are, digest};
 use im_chain::{check_linear, linear, step};
 use im_digest::Sum;
 use im_model::chains::chain_end;
@@ -19,7 +19,7 @@ fn terms_of_three(alloc: Global) -> Result<bool, AllocError> {
     Ok(
         step(&Sum, 2, &alhs[0], &inners[1]) == alhs[1]
             && chain_end(&Sum, &alhs[0], 1, &inners[1..]) == alhs[2]
-            && terms == [digest(0xa0), digest(0xa0), digest(0xa1)].as_slice()
+            && are(terms, &[0xa0, 0xa0, 0xa1])
             && check_linear(&Sum, 1, 3, &alhs[0], &alhs[2], terms) == Ok(())
             && check_linear(&Sum, 1, 2, &alhs[0], &alhs[1], terms)
                 == Err(DualFault::LinearLength { want: 2, got: 3 }),

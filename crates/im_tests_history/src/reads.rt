@@ -1,7 +1,8 @@
 //! What is told of keys: by the plain program, as it was worked by hand, and by an index and its snapshots, as by
 //! the plain program.
 
-ghost use Rattle.std.specs.Prelude.{◌≤◌, length, IfOk};
+ghost use Rattle.std.specs.Prelude.{◌≡◌, ◌≤◌, List, length, IfOk};
+ghost use Rattle.im_model.specs.declared.transactions.Transaction.{Transaction};
 ghost use Rattle.im_index.specs.Indexed.{IsIndexOf};
 
 use crate::values::{FOUR, Write, history_of};
@@ -14,7 +15,7 @@ use std::alloc::{AllocError, Global};
 use std::test::Fail;
 
 // Keys that begin with others.
-const FRONTS: &[&[Write]] = &[
+static FRONTS: &[&[Write]] = &[
     &[(b"", b"b", b"1")],
     &[(b"", b"abc", b"2")],
     &[(b"", b"a", b"3")],
@@ -23,7 +24,7 @@ const FRONTS: &[&[Write]] = &[
 ];
 
 // Entries that no index shows, and a deletion with a value.
-const HIDDEN: &[&[Write]] = &[
+static HIDDEN: &[&[Write]] = &[
     &[(b"", b"k", b"c")],
     &[(b"\x02", b"k", b"a")],
     &[(b"\x00\x02", b"k", b"")],
@@ -31,7 +32,7 @@ const HIDDEN: &[&[Write]] = &[
 ];
 
 // Transactions with overwrites, deletions and hidden entries.
-const TWELVE: &[&[Write]] = &[
+static TWELVE: &[&[Write]] = &[
     &[(b"", b"k", b"1")],
     &[(b"", b"j", b"2")],
     &[(b"", b"k", b"3"), (b"", b"ka", b"3")],
@@ -46,7 +47,7 @@ const TWELVE: &[&[Write]] = &[
     &[(b"\x02", b"z", b"12"), (b"", b"k", b"12")],
 ];
 
-const KEYS: &[&[u8]] = &[
+static KEYS: &[&[u8]] = &[
     b"", b"a", b"ab", b"abc", b"abcd", b"b", b"j", b"k", b"ka", b"kab", b"kk", b"z",
 ];
 
@@ -54,7 +55,7 @@ const KEYS: &[&[u8]] = &[
 // the live keys that begin with it.
 type Row<'a> = (usize, &'a [u8], &'a [u8]);
 
-const OF_FOUR: &[Row] = &[
+static OF_FOUR: &[Row] = &[
     (0, b"", b"||"),
     (3, b"", b"||j=b@2 k=c@3 "),
     (4, b"", b"||j=b@2 "),
@@ -70,14 +71,14 @@ const OF_FOUR: &[Row] = &[
     (4, b"z", b"||"),
 ];
 
-const OF_FRONTS: &[Row] = &[
+static OF_FRONTS: &[Row] = &[
     (5, b"", b"||a=3@3 ab=4@4 abc=5@5 b=1@1 "),
     (5, b"a", b"a=3@3 |a=3@3 |a=3@3 ab=4@4 abc=5@5 "),
     (5, b"ab", b"ab=4@4 |ab=4@4 |ab=4@4 abc=5@5 "),
     (5, b"abcd", b"||"),
 ];
 
-const OF_HIDDEN: &[Row] = &[
+static OF_HIDDEN: &[Row] = &[
     (3, b"", b"||k=c@1 "),
     (3, b"k", b"k=c@1 |k=c@1 |k=c@1 "),
     (4, b"k", b"k!a@4 |k=c@1 k!a@4 |"),
@@ -92,45 +93,45 @@ fn write_version(alloc: Global, text: &mut Vec<u8>, version: &Version) -> Result
     text.extend_from_slice(number.as_bytes())
 }
 
-// What is told of a key, with a | behind the first two parts of it.
-fn text_of(
-    alloc: Global,
-    last: &Option<Version>,
-    versions: &Versions,
-    shown: &Versions,
-) -> Result<Vec<u8>, AllocError> {
-    let mut text = Vec::new(alloc);
-    if let Some(version) = last {
-        write_version(alloc, &mut text, version)?;
+// Writes the last version of a key, where there is one.
+fn write_last(alloc: Global, text: &mut Vec<u8>, last: Option<Version>) -> Result<(), AllocError> {
+    match last {
+        Some(version) => write_version(alloc, text, &version),
+        None => Ok(()),
     }
+}
+
+// Writes a | and these versions.
+fn write_all(alloc: Global, text: &mut Vec<u8>, versions: Versions) -> Result<(), AllocError> {
     text.push(b'|')?;
     for version in versions.as_slice() {
-        write_version(alloc, &mut text, version)?;
+        write_version(alloc, text, version)?;
     }
-    text.push(b'|')?;
-    for version in shown.as_slice() {
-        write_version(alloc, &mut text, version)?;
-    }
-    Ok(text)
+    Ok(())
 }
 
 // What the plain program tells of a key.
 fn told_plainly(alloc: Global, past: &[Transaction], key: &[u8]) -> Result<Vec<u8>, AllocError> {
-    let last = plain::last_version(alloc, past, key)?;
-    let versions = plain::versions_of(alloc, past, key)?;
-    let shown = plain::scan(alloc, past, key)?;
-    text_of(alloc, &last, &versions, &shown)
+    let mut text = Vec::new(alloc);
+    write_last(alloc, &mut text, plain::last_version(alloc, past, key)?)?;
+    write_all(alloc, &mut text, plain::versions_of(alloc, past, key)?)?;
+    write_all(alloc, &mut text, plain::scan(alloc, past, key)?)?;
+    Ok(text)
 }
 
-// Whether the plain program tells these rows of a history.
-fn is_told(alloc: Global, writes: &[&[Write]], rows: &[Row]) -> Result<bool, Fail> {
-    let history = history_of(alloc, writes)?;
+fn are_told(alloc: Global, history: &[Transaction], rows: &[Row]) -> Result<bool, AllocError> {
     for (n, key, text) in rows {
         if *n > history.len() || told_plainly(alloc, &history[..*n], key)?.as_slice() != *text {
             return Ok(false);
         }
     }
     Ok(true)
+}
+
+// Whether the plain program tells these rows of a history.
+fn is_told(alloc: Global, writes: &[&[Write]], rows: &[Row]) -> Result<bool, Fail> {
+    let history = history_of(alloc, writes)?;
+    Ok(are_told(alloc, &history, rows)?)
 }
 
 fn all_is_told(alloc: Global) -> Result<bool, Fail> {
@@ -147,7 +148,18 @@ fn the_plain_program_tells_what_was_written(rt: HostRuntime) -> Result<(), Fail>
     Ok(())
 }
 
-// Whether a view tells of a key, after the first n transactions, what the plain program does.
+// What a view tells of a key after the first n transactions.
+fn told_by<V: KvView>(alloc: Global, view: &V, key: &[u8], n: u64) -> Result<Vec<u8>, Fail>
+    requires { (history : List Transaction) × V.stands view.now history × (n ≤ length history) }
+{
+    let mut text = Vec::new(alloc);
+    write_last(alloc, &mut text, view.get(alloc, key, n)?)?;
+    write_all(alloc, &mut text, view.versions(alloc, key, n)?)?;
+    write_all(alloc, &mut text, view.scan(alloc, key, n)?)?;
+    Ok(text)
+}
+
+// Whether it is what the plain program tells.
 fn agrees_on<V: KvView>(
     alloc: Global,
     view: &V,
@@ -158,10 +170,7 @@ fn agrees_on<V: KvView>(
     requires stands { V.stands view.now history.now }
     requires within { n ≤ length history.now }
 {
-    let last = view.get(alloc, key, n as u64)?;
-    let versions = view.versions(alloc, key, n as u64)?;
-    let shown = view.scan(alloc, key, n as u64)?;
-    let told = text_of(alloc, &last, &versions, &shown)?;
+    let told = told_by(alloc, view, key, n as u64)?;
     Ok(told.as_slice() == told_plainly(alloc, &history[..n], key)?.as_slice())
 }
 
@@ -204,14 +213,21 @@ fn snapshots_agree(alloc: Global, index: &Index, history: &[Transaction]) -> Res
     Ok(true)
 }
 
-// Whether the index of these writes and its snapshots tell what the plain program does.
+// Whether an index and its snapshots tell what the plain program does.
+fn both_agree(alloc: Global, index: &Index, history: &[Transaction]) -> Result<bool, Fail>
+    requires { IsIndexOf index.now history.now }
+{
+    Ok(agrees(alloc, index, history)? && snapshots_agree(alloc, index, history)?)
+}
+
+// Whether those of these writes do.
 fn all_agree(alloc: Global, writes: &[&[Write]]) -> Result<bool, Fail> {
     let history = history_of(alloc, writes)?;
     if history.len() > 1_048_576 {
         return Ok(false);
     }
     let index = index_of(alloc, &history)?;
-    Ok(agrees(alloc, &index, &history)? && snapshots_agree(alloc, &index, &history)?)
+    both_agree(alloc, &index, &history)
 }
 
 fn each_agrees(alloc: Global) -> Result<bool, Fail> {
@@ -231,20 +247,30 @@ fn an_index_and_its_snapshots_tell_what_the_plain_program_does(
     Ok(())
 }
 
-// Whether a snapshot after three transactions tells the same when the fourth was taken.
+// Whether a snapshot of an index tells the same when the next transaction was taken.
+fn stays(
+    alloc: Global,
+    index: &mut Index,
+    three: &[Transaction],
+    next: &Transaction,
+) -> Result<bool, Fail>
+    requires index { IsIndexOf index.old three.now }
+    requires three { length three.now ≡ 3 }
+{
+    let snapshot = index.snapshot(alloc, 3)?;
+    let before = index.taken() == 3 && agrees(alloc, &snapshot, three)?;
+    index.take(alloc, next)?;
+    let after = index.taken() == 4 && snapshot.taken() == 3;
+    Ok(before && after && agrees(alloc, &snapshot, three)?)
+}
+
 fn a_snapshot_stays(alloc: Global) -> Result<bool, Fail> {
     let history = history_of(alloc, FOUR)?;
     if history.len() != 4 {
         return Ok(false);
     }
-    let three = &history[..3];
-    let mut index = index_of(alloc, three)?;
-    let snapshot = index.snapshot(alloc, 3)?;
-    let counted = index.taken() == 3;
-    let before = agrees(alloc, &snapshot, three)?;
-    index.take(alloc, &history[3])?;
-    let after = agrees(alloc, &snapshot, three)?;
-    Ok(counted && before && after && index.taken() == 4 && snapshot.taken() == 3)
+    let mut index = index_of(alloc, &history[..3])?;
+    stays(alloc, &mut index, &history[..3], &history[3])
 }
 
 #[test]

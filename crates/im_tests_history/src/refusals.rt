@@ -25,14 +25,14 @@ use Condition::{Exists, Missing, Since};
 type Asked<'a> = (&'a [u8], Condition);
 
 // k is set, and then written in entries that no index shows.
-const HIDDEN: &[&[Write]] = &[
+static HIDDEN: &[&[Write]] = &[
     &[(b"", b"k", b"1")],
     &[(b"\x02", b"k", b"2")],
     &[(b"\x00\x02", b"k", b"")],
 ];
 
 // k and j are set, j is written in an entry that no index shows, and k is deleted.
-const MIXED: &[&[Write]] = &[
+static MIXED: &[&[Write]] = &[
     &[(b"", b"k", b"1")],
     &[(b"", b"j", b"2")],
     &[(b"\x02", b"j", b"3")],
@@ -42,7 +42,7 @@ const MIXED: &[&[Write]] = &[
 // How many transactions there are, what is asked behind them, and the refusal.
 type Row<'a> = (usize, &'a [Asked<'a>], &'a [u8]);
 
-const OF_FOUR: &[Row] = &[
+static OF_FOUR: &[Row] = &[
     (1, &[], b"none"),
     (1, &[(b"k", Missing)], b"exists k@1"),
     (1, &[(b"k", Exists)], b"none"),
@@ -75,7 +75,7 @@ const OF_FOUR: &[Row] = &[
     ),
 ];
 
-const OF_HIDDEN: &[Row] = &[
+static OF_HIDDEN: &[Row] = &[
     (3, &[(b"k", Since(1))], b"none"),
     (3, &[(b"k", Missing)], b"exists k@1"),
 ];
@@ -152,14 +152,19 @@ fn book_of(alloc: Global, writes: &[&[Write]]) -> Result<Book, Fail> {
     Ok(Book::of(history, Vec::new(alloc), Vec::new(alloc)))
 }
 
-// Whether both answer these rows.
+// Whether both answer this row.
+fn is_answered(alloc: Global, writes: &[&[Write]], row: &Row) -> Result<bool, Fail> {
+    let (n, asked, text) = *row;
+    if n > writes.len() {
+        return Ok(false);
+    }
+    let book = book_of(alloc, &writes[..n])?;
+    Ok(both_answer(alloc, &book, asked, text)?)
+}
+
 fn are_answered(alloc: Global, writes: &[&[Write]], rows: &[Row]) -> Result<bool, Fail> {
-    for (n, asked, text) in rows {
-        if *n > writes.len() {
-            return Ok(false);
-        }
-        let book = book_of(alloc, &writes[..*n])?;
-        if !both_answer(alloc, &book, asked, text)? {
+    for row in rows {
+        if !is_answered(alloc, writes, row)? {
             return Ok(false);
         }
     }
@@ -178,13 +183,14 @@ fn agree_on(alloc: Global, book: &Book, key: &[u8]) -> Result<bool, AllocError> 
     Ok(true)
 }
 
+// Whether both answer the same of each key.
+fn agree_on_each(alloc: Global, book: &Book) -> Result<bool, AllocError> {
+    Ok(agree_on(alloc, book, b"j")? && agree_on(alloc, book, b"k")? && agree_on(alloc, book, b"z")?)
+}
+
 fn agree(alloc: Global, writes: &[&[Write]]) -> Result<bool, Fail> {
     let book = book_of(alloc, writes)?;
-    Ok(
-        agree_on(alloc, &book, b"j")?
-            && agree_on(alloc, &book, b"k")?
-            && agree_on(alloc, &book, b"z")?,
-    )
+    Ok(agree_on_each(alloc, &book)?)
 }
 
 fn both_judge_by_the_last_version(alloc: Global) -> Result<bool, Fail> {

@@ -4,7 +4,9 @@
 //! leaves, and one more for each node. Of the digests 1 to 7, in hex: 1 + 2 + 1 is 4, 4 + 3 + 1 is 8, 3 + 4 + 1
 //! is 8, 4 + 8 + 1 is d, 5 + 6 + 1 is c, c + 7 + 1 is 14, and d + 14 + 1 is 22.
 
-use crate::values::{digest, one_to};
+ghost use Rattle.std.specs.Prelude.{◌≡◌, ◌≤◌, length};
+
+use crate::values::{are, digest, one_to};
 use im_atree::checks::{check_consistency, check_inclusion, check_last};
 use im_atree::trees::Tree;
 use im_digest::{Hash32, Sha, Sum};
@@ -121,44 +123,61 @@ fn roots_of_seven(tree: &Tree) -> bool {
         && tree.root_at(&Sum, 7) == digest(0x22)
 }
 
+// Whether the list from the first m to all seven has these terms, and passes its check from this older root.
+fn is_list(alloc: Global, tree: &Tree, m: u64, older: u8, terms: &[u8]) -> Result<bool, AllocError>
+    requires some { 1 ≤ m }
+    requires within { m ≤ 7 }
+    requires seven { length tree.now ≡ 7 }
+{
+    let list = tree.consistency(alloc, &Sum, m, 7)?;
+    let list = list.as_slice();
+    Ok(
+        are(list, terms)
+            && check_consistency(&Sum, m, 7, &digest(older), &digest(0x22), list) == Ok(()),
+    )
+}
+
 fn lists_of_seven(alloc: Global, tree: &Tree) -> Result<bool, AllocError> {
     if tree.size() != 7 {
         return Ok(false);
     }
-    let newer = digest(0x22);
-    let from_four = tree.consistency(alloc, &Sum, 4, 7)?;
-    let from_three = tree.consistency(alloc, &Sum, 3, 7)?;
-    let from_seven = tree.consistency(alloc, &Sum, 7, 7)?;
-    let four = from_four.as_slice();
-    let three = from_three.as_slice();
     Ok(
-        four == [digest(0x0d), digest(0x14)].as_slice()
-            && check_consistency(&Sum, 4, 7, &digest(0x0d), &newer, four) == Ok(())
-            && three == [digest(3), digest(4), digest(4), digest(0x14)].as_slice()
-            && check_consistency(&Sum, 3, 7, &digest(0x08), &newer, three) == Ok(())
-            && from_seven.is_empty(),
+        is_list(alloc, tree, 4, 0x0d, &[0x0d, 0x14])?
+            && is_list(alloc, tree, 3, 0x08, &[0x03, 0x04, 0x04, 0x14])?
+            && is_list(alloc, tree, 7, 0x22, &[])?,
     )
+}
+
+fn last_of_seven(alloc: Global, tree: &Tree) -> Result<bool, AllocError>
+    requires { length tree.now ≡ 7 }
+{
+    let last = tree.inclusion(alloc, &Sum, 7, 7)?;
+    let path = last.as_slice();
+    Ok(are(path, &[0x0c, 0x0d]) && check_last(&Sum, 7, &digest(0x22), &digest(7), path) == Ok(()))
+}
+
+fn sixth_of_seven(alloc: Global, tree: &Tree) -> Result<bool, AllocError>
+    requires { length tree.now ≡ 7 }
+{
+    let sixth = tree.inclusion(alloc, &Sum, 6, 7)?;
+    let path = sixth.as_slice();
+    Ok(check_inclusion(&Sum, 6, 7, &digest(0x22), &digest(6), path) == Ok(()))
 }
 
 fn paths_of_seven(alloc: Global, tree: &Tree) -> Result<bool, AllocError> {
     if tree.size() != 7 {
         return Ok(false);
     }
-    let root = digest(0x22);
-    let last = tree.inclusion(alloc, &Sum, 7, 7)?;
-    let sixth = tree.inclusion(alloc, &Sum, 6, 7)?;
-    let plain = path(alloc, &Sum, &one_to::<7>(), 6)?;
-    let (count, none) = (plain.len(), plain.is_empty());
-    let terms = [digest(0x0c), digest(0x0d)];
-    Ok(
-        last.as_slice() == terms.as_slice()
-            && check_last(&Sum, 7, &root, &digest(7), last.as_slice()) == Ok(())
-            && check_inclusion(&Sum, 6, 7, &root, &digest(6), sixth.as_slice()) == Ok(())
-            && check_path(&Sum, &digest(7), 6, 7, plain.as_slice(), &root) == Ok(())
-            && count == 2
-            && !none
-            && Digests::from_vec(plain.into_vec()).as_slice() == terms.as_slice(),
-    )
+    Ok(last_of_seven(alloc, tree)? && sixth_of_seven(alloc, tree)?)
+}
+
+// The path of the last of seven digests, without a tree that keeps them.
+fn path_over_seven(alloc: Global) -> Result<bool, AllocError> {
+    let built = path(alloc, &Sum, &one_to::<7>(), 6)?;
+    let passes = check_path(&Sum, &digest(7), 6, 7, built.as_slice(), &digest(0x22)) == Ok(());
+    let counted = built.len() == 2 && !built.is_empty();
+    let terms = Digests::from_vec(built.into_vec());
+    Ok(passes && counted && are(terms.as_slice(), &[0x0c, 0x0d]))
 }
 
 fn proofs_of_seven(alloc: Global) -> Result<bool, AllocError> {
@@ -169,6 +188,7 @@ fn proofs_of_seven(alloc: Global) -> Result<bool, AllocError> {
 #[test]
 fn the_tree_of_seven_gives_the_worked_proofs(rt: HostRuntime) -> Result<(), Fail> {
     assert!(rt; proofs_of_seven(rt.alloc())?);
+    assert!(rt; path_over_seven(rt.alloc())?);
     Ok(())
 }
 

@@ -21,6 +21,15 @@ pub(crate) fn digest(last: u8) -> D32 {
     octets
 }
 
+// Whether these are 31 zero octets each, and then these ones.
+pub(crate) fn are(digests: &[D32], lasts: &[u8]) -> bool {
+    digests.len() == lasts.len()
+        && digests
+            .iter()
+            .zip(lasts)
+            .all(|(octets, last)| *octets == digest(*last))
+}
+
 // The digests of 1 to N.
 pub(crate) fn one_to<const N: usize>() -> [D32; N]
     requires { N < 256 }
@@ -36,7 +45,7 @@ pub(crate) fn one_to<const N: usize>() -> [D32; N]
 pub(crate) type Write<'a> = (&'a [u8], &'a [u8], &'a [u8]);
 
 // k is set to a, j to b and k to c, and k is deleted.
-pub(crate) const FOUR: &[&[Write]] = &[
+pub(crate) static FOUR: &[&[Write]] = &[
     &[(b"", b"k", b"a")],
     &[(b"", b"j", b"b")],
     &[(b"", b"k", b"c")],
@@ -56,6 +65,15 @@ pub(crate) fn entry_of(alloc: Global, write: &Write) -> Result<Entry, Fail> {
     })
 }
 
+// The entries of these writes.
+fn entries_of(alloc: Global, writes: &[Write]) -> Result<Entries, Fail> {
+    let mut entries = Vec::new(alloc);
+    for write in writes {
+        entries.push(entry_of(alloc, write)?)?;
+    }
+    Ok(Entries::from_vec(entries))
+}
+
 // The transactions of these writes, at the time 0, over no tree.
 pub(crate) fn history_of(
     alloc: Global,
@@ -63,13 +81,10 @@ pub(crate) fn history_of(
 ) -> Result<Vec<Transaction>, Fail> {
     let mut history = Vec::new(alloc);
     for writes in transactions {
-        let mut entries = Vec::new(alloc);
-        for write in *writes {
-            entries.push(entry_of(alloc, write)?)?;
-        }
+        let entries = entries_of(alloc, writes)?;
         history.push(Transaction {
             ts: 0,
-            entries: Entries::from_vec(entries),
+            entries,
             bl: 0,
         })?;
     }
