@@ -1,5 +1,4 @@
 pub mod AdvanceLemmas
-pub mod ExampleLemmas
 pub mod KeptLemmas
 pub mod PassLemmas
 pub mod RecordLemmas

@@ -1,0 +1,24 @@
+//! Tests of the crates that a history stands on: what no run of the program shows.
+//!
+//! `trees` and `chains` have worked values of hash trees and chains, and compare the code with the plain program;
+//! `entries` has what becomes of drafts; `reads` and `refusals` have what is told of keys and preconditions, by the
+//! plain program, by an index and its snapshots, and by a book; `books` has the headers of a book; `attack` is the
+//! attack that was published against linear proofs.
+#![tactic(auto)]
+
+#[cfg(test)]
+mod attack;
+#[cfg(test)]
+mod books;
+#[cfg(test)]
+mod chains;
+#[cfg(test)]
+mod entries;
+#[cfg(test)]
+mod reads;
+#[cfg(test)]
+mod refusals;
+#[cfg(test)]
+mod trees;
+#[cfg(test)]
+mod values;

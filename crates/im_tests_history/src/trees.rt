@@ -1,0 +1,228 @@
+//! Hash trees: the plain program on worked values, and the code beside the plain program.
+//!
+//! By the sum of octets a leaf is its digest, and a node adds 1 to its two parts: so a root is the sum of its
+//! leaves, and one more for each node. Of the digests 1 to 7, in hex: 1 + 2 + 1 is 4, 4 + 3 + 1 is 8, 3 + 4 + 1
+//! is 8, 4 + 8 + 1 is d, 5 + 6 + 1 is c, c + 7 + 1 is 14, and d + 14 + 1 is 22.
+
+ghost use Rattle.std.specs.Prelude.{◌≡◌, ◌≤◌, length};
+
+use crate::values::{are, digest, one_to};
+use im_atree::checks::{check_consistency, check_inclusion, check_last};
+use im_atree::trees::Tree;
+use im_digest::{Hash32, Sha, Sum};
+use im_frontier::frontiers::Frontier;
+use im_model::growth::{newer_root, older_root};
+use im_model::paths::root_by_path;
+use im_model::trees::{leaf_digest, node_digest, plain_root, split};
+use im_mtree::digests::Digests;
+use im_mtree::faults::PathFault;
+use im_mtree::paths::{check_path, path};
+use im_mtree::roots::root;
+use im_proof::faults::DualFault;
+use std::alloc::{AllocError, Global};
+use std::test::Fail;
+
+// The root over the digests 1 to 7 by SHA-256, as Python's hashlib gives it.
+const BY_SHA: [u8; 32] = [
+    0x70, 0x48, 0x54, 0xe2, 0xaf, 0x8f, 0xfd, 0x06, 0x63, 0x0c, 0x51, 0x8e, 0x49, 0x39, 0xed, 0x42,
+    0x39, 0x22, 0xe4, 0x74, 0xfa, 0x35, 0xa2, 0xb4, 0x1b, 0x11, 0x7d, 0x87, 0xd8, 0x3a, 0xba, 0x59,
+];
+
+// The roots over the first 1 to the first 7 of these digests by the sum of octets.
+const BY_SUM: [u8; 7] = [0x01, 0x04, 0x08, 0x0d, 0x13, 0x1a, 0x22];
+
+fn plain_roots_are_as_worked() -> bool {
+    let digests = one_to::<7>();
+    let mut same = split(7) == 4
+        && leaf_digest(&Sum, &digest(7)) == digest(7)
+        && node_digest(&Sum, &digest(1), &digest(2)) == digest(4)
+        && plain_root(&Sha, &digests) == BY_SHA;
+    for (i, sum) in BY_SUM.iter().enumerate() {
+        same = same && plain_root(&Sum, &digests[..i + 1]) == digest(*sum);
+    }
+    same
+}
+
+fn plain_paths_lead_to_the_root() -> bool {
+    let third_of_four = [digest(0x04), digest(0x04)];
+    let last_of_seven = [digest(0x0c), digest(0x0d)];
+    root_by_path(&Sum, 4, 2, &digest(3), &third_of_four) == digest(0x0d)
+        && root_by_path(&Sum, 7, 6, &digest(7), &last_of_seven) == digest(0x22)
+}
+
+fn plain_lists_lead_to_both_roots() -> bool {
+    let known = digest(0x22);
+    let from_three = [digest(0x03), digest(0x04), digest(0x04), digest(0x14)];
+    let from_four = [digest(0x0d), digest(0x14)];
+    older_root(&Sum, 3, 7, &known, &from_three) == digest(0x08)
+        && newer_root(&Sum, 3, 7, &known, &from_three) == known
+        && older_root(&Sum, 4, 7, &known, &from_four) == digest(0x0d)
+        && newer_root(&Sum, 4, 7, &known, &from_four) == known
+        && older_root(&Sum, 7, 7, &known, &[]) == known
+        && newer_root(&Sum, 7, 7, &known, &[]) == known
+}
+
+#[test]
+fn the_plain_program_gives_the_worked_roots(rt: HostRuntime) {
+    assert!(rt; plain_roots_are_as_worked());
+    assert!(rt; plain_paths_lead_to_the_root());
+    assert!(rt; plain_lists_lead_to_both_roots());
+}
+
+// Whether the root over the first n of the digests 1 to 40 is the plain one, for each n, told afresh and by a
+// frontier that grows with them.
+fn roots_are_the_plain_ones<H: Hash32>(hash: &H) -> bool {
+    let digests = one_to::<40>();
+    let mut frontier = Frontier::new();
+    let mut same = true;
+    for n in 1..41usize {
+        let grown = frontier.size() == n as u64 - 1;
+        if grown {
+            frontier.append(hash, &digests[n - 1]);
+            let plain = plain_root(hash, &digests[..n]);
+            same = same && frontier.root(hash) == plain && root(hash, &digests[..n]) == plain;
+        }
+        same = same && grown;
+    }
+    drop(frontier);
+    same
+}
+
+// Whether a frontier that takes many digests at once gives the plain root.
+fn extended_is_the_plain_one<H: Hash32>(hash: &H) -> bool {
+    let digests = one_to::<40>();
+    let mut frontier = Frontier::new();
+    frontier.extend(hash, &digests[..13]);
+    frontier.extend(hash, &[]);
+    frontier.extend(hash, &digests[13..]);
+    let same = frontier.size() == 40 && frontier.root(hash) == plain_root(hash, &digests);
+    drop(frontier);
+    same
+}
+
+#[test]
+fn the_code_gives_the_plain_roots(rt: HostRuntime) {
+    assert!(rt; roots_are_the_plain_ones(&Sum) && roots_are_the_plain_ones(&Sha));
+    assert!(rt; extended_is_the_plain_one(&Sum) && extended_is_the_plain_one(&Sha));
+}
+
+// The tree of the digests 1 to 7.
+fn seven(alloc: Global) -> Result<Tree, AllocError> {
+    let mut tree = Tree::new(alloc);
+    for digest in &one_to::<7>() {
+        tree.append(digest)?;
+    }
+    Ok(tree)
+}
+
+fn roots_of_seven(tree: &Tree) -> bool {
+    tree.size() == 7
+        && tree.leaves()[6] == digest(7)
+        && tree.root_at(&Sum, 3) == digest(0x08)
+        && tree.root_at(&Sum, 4) == digest(0x0d)
+        && tree.root_at(&Sum, 7) == digest(0x22)
+}
+
+// Whether the list from the first m to all seven has these terms, and passes its check from this older root.
+fn is_list(alloc: Global, tree: &Tree, m: u64, older: u8, terms: &[u8]) -> Result<bool, AllocError>
+    requires some { 1 ≤ m }
+    requires within { m ≤ 7 }
+    requires seven { length tree.now ≡ 7 }
+{
+    let list = tree.consistency(alloc, &Sum, m, 7)?;
+    let list = list.as_slice();
+    Ok(
+        are(list, terms)
+            && check_consistency(&Sum, m, 7, &digest(older), &digest(0x22), list) == Ok(()),
+    )
+}
+
+fn lists_of_seven(alloc: Global, tree: &Tree) -> Result<bool, AllocError> {
+    if tree.size() != 7 {
+        return Ok(false);
+    }
+    Ok(
+        is_list(alloc, tree, 4, 0x0d, &[0x0d, 0x14])?
+            && is_list(alloc, tree, 3, 0x08, &[0x03, 0x04, 0x04, 0x14])?
+            && is_list(alloc, tree, 7, 0x22, &[])?,
+    )
+}
+
+fn last_of_seven(alloc: Global, tree: &Tree) -> Result<bool, AllocError>
+    requires { length tree.now ≡ 7 }
+{
+    let last = tree.inclusion(alloc, &Sum, 7, 7)?;
+    let path = last.as_slice();
+    Ok(are(path, &[0x0c, 0x0d]) && check_last(&Sum, 7, &digest(0x22), &digest(7), path) == Ok(()))
+}
+
+fn sixth_of_seven(alloc: Global, tree: &Tree) -> Result<bool, AllocError>
+    requires { length tree.now ≡ 7 }
+{
+    let sixth = tree.inclusion(alloc, &Sum, 6, 7)?;
+    let path = sixth.as_slice();
+    Ok(check_inclusion(&Sum, 6, 7, &digest(0x22), &digest(6), path) == Ok(()))
+}
+
+fn paths_of_seven(alloc: Global, tree: &Tree) -> Result<bool, AllocError> {
+    if tree.size() != 7 {
+        return Ok(false);
+    }
+    Ok(last_of_seven(alloc, tree)? && sixth_of_seven(alloc, tree)?)
+}
+
+// The path of the last of seven digests, without a tree that keeps them.
+fn path_over_seven(alloc: Global) -> Result<bool, AllocError> {
+    let built = path(alloc, &Sum, &one_to::<7>(), 6)?;
+    let passes = check_path(&Sum, &digest(7), 6, 7, built.as_slice(), &digest(0x22)) == Ok(());
+    let counted = built.len() == 2 && !built.is_empty();
+    let terms = Digests::from_vec(built.into_vec());
+    Ok(passes && counted && are(terms.as_slice(), &[0x0c, 0x0d]))
+}
+
+fn proofs_of_seven(alloc: Global) -> Result<bool, AllocError> {
+    let tree = seven(alloc)?;
+    Ok(roots_of_seven(&tree) && lists_of_seven(alloc, &tree)? && paths_of_seven(alloc, &tree)?)
+}
+
+#[test]
+fn the_tree_of_seven_gives_the_worked_proofs(rt: HostRuntime) -> Result<(), Fail> {
+    assert!(rt; proofs_of_seven(rt.alloc())?);
+    assert!(rt; path_over_seven(rt.alloc())?);
+    Ok(())
+}
+
+// Of trees of 2^64 - 1 leaves each path and list has a length too.
+fn lengths_of_64_bits() -> bool {
+    let root = digest(0);
+    let most = u64::MAX;
+    check_inclusion(&Sum, 1, most, &root, &root, &[])
+        == Err(DualFault::InclusionLength { want: 64, got: 0 })
+        && check_consistency(&Sum, 1, most, &root, &root, &[])
+            == Err(DualFault::ConsistencyLength { want: 65, got: 0 })
+        && check_last(&Sum, most, &root, &root, &[])
+            == Err(DualFault::LastLength { want: 63, got: 0 })
+}
+
+// The digests 93, 95 and 97 have the root c1, and 29 beside the last one: 93 + 95 + 1 is 29 and 29 + 97 + 1 is
+// c1, modulo 100.
+fn faults_of_a_path() -> bool {
+    let leaf = digest(0x97);
+    let terms = [digest(0x29), digest(0xff)];
+    let top = digest(0xc1);
+    let elsewhere = PathFault::Root {
+        want: top,
+        got: leaf,
+    };
+    check_path(&Sum, &leaf, 2, 3, &terms[..1], &top) == Ok(())
+        && check_path(&Sum, &leaf, 3, 3, &terms[..1], &top)
+            == Err(PathFault::Index { width: 3, got: 3 })
+        && check_path(&Sum, &leaf, 2, 3, &terms, &top) == Err(PathFault::Length { want: 1, got: 2 })
+        && check_path(&Sum, &leaf, 2, 3, &terms[1..], &top) == Err(elsewhere)
+}
+
+#[test]
+fn a_wrong_path_is_refused(rt: HostRuntime) {
+    assert!(rt; lengths_of_64_bits());
+    assert!(rt; faults_of_a_path());
+}
