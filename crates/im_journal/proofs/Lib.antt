@@ -7,7 +7,6 @@ pub mod Parts
 pub mod Placing
 pub mod Prefixes
 pub mod Same
-pub mod SampleLemmas
 pub mod Shown
 pub mod Torn
 pub mod Turns

@@ -1,4 +1,3 @@
-pub mod BlankLemmas
 pub mod CommitLemmas
 pub mod DurableLemmas
 pub mod GrowLemmas
