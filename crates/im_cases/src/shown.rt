@@ -27,7 +27,7 @@ pub fn line(alloc: Global, line: Option<&[u8]>) -> Result<String, AllocError> {
     let Some(line) = line else {
         return "nothing".to_string(alloc);
     };
-    if line == b"\n" {
+    if line == b"\n".as_slice() {
         return "an empty line".to_string(alloc);
     }
     let (text, behind) = match line.strip_suffix(b"\n") {
