@@ -1,5 +1,10 @@
 //! The journal and the ledger: a commit that succeeds, one whose disk fails, and values read back.
 
+ghost use Rattle.std.specs.Prelude.{List, IfOk};
+ghost use Rattle.im_draft.specs.declared.preconditions.Pre.{Pre as ThePre};
+ghost use Rattle.im_tx.specs.Asked.{IsAsked};
+ghost use Rattle.im_ledger.specs.Histories.{IsKept};
+
 use crate::samples::Shown::{self, Corrupt, Fault};
 use crate::samples::{BATCH, RECORD, disk_of, placed, shows, sum_is};
 use im_digest::{Hash32, Sum};
@@ -21,7 +26,9 @@ use std::alloc::Global;
 use std::test::Fail;
 
 // A disk as a ledger over one value log.
-fn opened<D: Disk, H: Hash32>(alloc: Global, hash: &H, disk: D) -> Result<KeptLedger<D>, Fail> {
+fn opened<D: Disk, H: Hash32>(alloc: Global, hash: &H, disk: D) -> Result<KeptLedger<D>, Fail>
+    ensures { IfOk result (IsKept D.told (H.digest hash.now)) }
+{
     match open_ledger(alloc, hash, disk, 1) {
         Ok(kept) => Ok(kept),
         Err(failed) => {
@@ -32,7 +39,9 @@ fn opened<D: Disk, H: Hash32>(alloc: Global, hash: &H, disk: D) -> Result<KeptLe
 }
 
 // The entries of `set k=abc`.
-fn entries(alloc: Global) -> Result<Entries, Fail> {
+fn entries(alloc: Global) -> Result<Entries, Fail>
+    ensures { IfOk result (λ entries. (pres : List ThePre) × IsAsked (record { entries = entries; pres = pres })) }
+{
     let attrs = Attrs {
         deleted: false,
         non_indexable: false,
