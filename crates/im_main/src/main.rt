@@ -14,9 +14,9 @@ use im_edge::gate::OpenGate;
 use im_edge::locked_keeper::LockedKeeper;
 use im_edge::sink::Writing;
 use im_edge::source::Reading;
-use std::env;
 use std::io::{self, Lock, Write};
 use std::process::ExitCode;
+use std::{env, fs};
 
 // The folder in the working folder whose files are the store's.
 const STORED: &str = "im-data";
@@ -27,7 +27,17 @@ const LOCK: &str = "im-data/lock";
 // The file in the working folder whose lines are what the client keeps.
 const KEPT: &str = "im-client.txt";
 
+// A folder that can be opened, and neither read nor written as a file is.
+const NOWHERE: &str = "/";
+
 fn main(rt: HostRuntime) -> ExitCode {
+    // A file that is opened gets the number of a standard end that is closed, and what was meant for that end
+    // would be written into it. These are opened before all files of the store, and that end fails instead.
+    let _ends = [
+        fs::open(&rt, NOWHERE),
+        fs::open(&rt, NOWHERE),
+        fs::open(&rt, NOWHERE),
+    ];
     let Ok(args) = env::args(&rt) else {
         return ended(&rt, Status::Usage);
     };
