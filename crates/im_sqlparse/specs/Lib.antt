@@ -1,0 +1,6 @@
+pub mod Lex
+pub mod Input
+pub mod Cursor
+pub mod Values
+pub mod Conditions
+pub mod Statements
