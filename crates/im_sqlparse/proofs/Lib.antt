@@ -1,2 +1,3 @@
-pub mod Turns
+pub mod Depth
 pub mod Digits
+pub mod Turns
