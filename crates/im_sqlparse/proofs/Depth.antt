@@ -1,5 +1,5 @@
 -- A factor by the depth that is left.
-use Rattle.std.proofs.Common.{◌≡◌, ℕ, zero, suc, ◌-◌, ◌<◌, Bool, true, false, cond, Err, ap, sym, ◌∙◌, refl, arith}
+use Rattle.std.proofs.Common.{◌≡◌, ℕ, zero, suc, ◌-◌, ◌<◌, Bool, true, false, cond, Err, ap, ◌∙◌, arith}
 use Rattle.im_sqlparse.specs.declared.errors.SyntaxKind.TheVariants.{Deep}
 use Rattle.im_sqlparse.specs.Input.{Input, kind, fault_at}
 use Rattle.im_sqlparse.specs.Conditions.{opens, factor, deeper, comparison}

@@ -1,6 +1,5 @@
 -- Numbers of digits.
-use Rattle.std.proofs.Common.{◌≡◌, ℕ, ◌+◌, ◌-◌, ◌*◌, ◌^◌, ◌<◌, ◌≤◌, List, [], ◌∷◌, fold, length, slice_index, subst, sym, arith}
-use Rattle.im_cuts.specs.Words.{number_value}
+use Rattle.std.proofs.Common.{◌≡◌, ℕ, ◌+◌, ◌-◌, ◌*◌, ◌^◌, ◌<◌, ◌≤◌, List, [], ◌∷◌, fold, length, slice_index, arith}
 
 -- more digits make no smaller number
 pub rising : (digits : List ℕ) (n : ℕ) → n ≤ fold (λ m d. m * 10 + (d - 48)) n digits

@@ -1,5 +1,5 @@
 -- Conditions. The first parameter says whether `_rev` may stand where a column may.
-use Rattle.std.specs.Prelude.{ℕ, zero, suc, Bool, true, false, ◌&&◌, ◌||◌, if◌then◌else◌, List, Option, Some, None, Ok, Err}
+use Rattle.std.specs.Prelude.{ℕ, zero, suc, Bool, ◌&&◌, ◌||◌, if◌then◌else◌, Option, Some, None}
 use Rattle.im_sqlparse.specs.declared.kinds.Kind.{Kind}
 use Rattle.im_sqlparse.specs.declared.kinds.Kind.TheVariants as k
 use Rattle.im_sqlparse.specs.declared.errors.SyntaxKind.TheVariants as fault
@@ -10,7 +10,7 @@ use Rattle.im_sqlparse.specs.declared.statements.Operand.TheVariants as operand
 use Rattle.im_sqlparse.specs.declared.statements.Condition.{Condition}
 use Rattle.im_sqlparse.specs.declared.statements.Condition.TheVariants as condition
 use Rattle.im_sqlparse.specs.Lex.{Text, same_kind}
-use Rattle.im_sqlparse.specs.Input.{Input, Reader, ◌>>=◌, ◌>>◌, ◌<$>◌, pure, refuse, fails, kind, sees, peek, here, take_token, eat, expect, separated}
+use Rattle.im_sqlparse.specs.Input.{Reader, ◌>>=◌, ◌>>◌, ◌<$>◌, pure, refuse, fails, kind, peek, here, take_token, eat, expect, separated}
 use Rattle.im_sqlparse.specs.Values.{column, value}
 
 unfoldable pub begins_column : Bool → Kind → Bool
@@ -64,8 +64,8 @@ unfoldable pub comparison : Bool → Reader Condition
 comparison rev = do
   what ← peek
   if begins_column rev what
-    then (do name ← column rev; of_column rev name)
-    else (do found ← value; compared rev (operand.Literal found))
+      then (do name ← column rev; of_column rev name)
+      else (do found ← value; compared rev (operand.Literal found))
 
 -- `NOT` or `(`, in which another condition stands
 unfoldable pub opens : Kind → Bool

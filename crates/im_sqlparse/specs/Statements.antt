@@ -1,5 +1,5 @@
 -- Statements.
-use Rattle.std.specs.Prelude.{◌≡◌, ℕ, zero, suc, ◌+◌, ◌-◌, ◌^◌, Bool, true, false, if◌then◌else◌, nat_lt, List, [], ◌∷◌, ◌++◌, length, Option, Some, None, Result, Ok, Err}
+use Rattle.std.specs.Prelude.{◌≡◌, ℕ, zero, suc, ◌-◌, ◌^◌, Bool, true, false, if◌then◌else◌, nat_lt, List, [], ◌∷◌, ◌++◌, length, Option, Some, None, Result, Ok, Err}
 use Rattle.im_sqlparse.specs.declared.kinds.Kind.{Kind}
 use Rattle.im_sqlparse.specs.declared.kinds.Kind.TheVariants as k
 use Rattle.im_sqlparse.specs.declared.errors.ParseError.{ParseError}
@@ -9,19 +9,14 @@ use Rattle.im_sqlparse.specs.declared.errors.SyntaxKind.TheVariants as fault
 use Rattle.im_sqlparse.specs.declared.statements.ColumnType.{ColumnType}
 use Rattle.im_sqlparse.specs.declared.statements.ColumnType.TheVariants as holds
 use Rattle.im_sqlparse.specs.declared.statements.ColumnDefinition.{ColumnDefinition}
-use Rattle.im_sqlparse.specs.declared.statements.Literal.{Literal}
 use Rattle.im_sqlparse.specs.declared.statements.Period.{Period}
 use Rattle.im_sqlparse.specs.declared.statements.Period.TheVariants as period
 use Rattle.im_sqlparse.specs.declared.statements.OrderTerm.{OrderTerm}
-use Rattle.im_sqlparse.specs.declared.statements.CreateTable.{CreateTable}
-use Rattle.im_sqlparse.specs.declared.statements.CreateIndex.{CreateIndex}
 use Rattle.im_sqlparse.specs.declared.statements.Insertion.{Insertion}
-use Rattle.im_sqlparse.specs.declared.statements.Delete.{Delete}
-use Rattle.im_sqlparse.specs.declared.statements.Select.{Select}
 use Rattle.im_sqlparse.specs.declared.statements.Stmt.{Stmt}
 use Rattle.im_sqlparse.specs.declared.statements.Stmt.TheVariants as stmt
 use Rattle.im_sqlparse.specs.Lex.{Text}
-use Rattle.im_sqlparse.specs.Input.{Input, Outcome, Reader, start_of, and_then, ◌>>=◌, ◌>>◌, ◌<$>◌, pure, refuse, fails, fault_at, left, sees, peek, take_token, eat, expect, separated}
+use Rattle.im_sqlparse.specs.Input.{Outcome, Reader, start_of, and_then, ◌>>=◌, ◌>>◌, ◌<$>◌, pure, refuse, fails, left, sees, peek, take_token, eat, expect, separated}
 use Rattle.im_sqlparse.specs.Values.{name, column, number, names, row}
 use Rattle.im_sqlparse.specs.Conditions.{filter}
 
@@ -145,8 +140,8 @@ unfoldable pub source : Reader (Text × Bool)
 source = do
   found ← eat k.Open
   if found
-    then (do expect k.History; expect k.Of; table ← name; expect k.Close; pure (table, true))
-    else (λ table. (table, false)) <$> name
+      then (do expect k.History; expect k.Of; table ← name; expect k.Close; pure (table, true))
+      else (λ table. (table, false)) <$> name
 
 abbrev pub most_number : ℕ
 most_number = 2 ^ 64 - 1

@@ -1,5 +1,5 @@
 -- Names, numbers and values.
-use Rattle.std.specs.Prelude.{ℕ, suc, ◌+◌, ◌-◌, ◌^◌, Bool, true, false, not, ◌&&◌, ◌||◌, if◌then◌else◌, ◌==◌, nat_lt, nat_le, List, [], ◌∷◌, length, take, drop, map, slice_index, codes, Option, Some, None, Result, Ok, Err, ℤ, pos, neg_ℤ}
+use Rattle.std.specs.Prelude.{ℕ, ◌-◌, ◌^◌, Bool, true, false, not, ◌&&◌, if◌then◌else◌, ◌==◌, nat_lt, nat_le, List, [], ◌∷◌, length, take, drop, map, slice_index, codes, Option, Some, None, Ok, ℤ, pos, neg_ℤ}
 use Rattle.std.specs.Char.{to_ascii_lowercase}
 use Rattle.std.specs.Result.{result_ok}
 use Rattle.hex.specs.Hex.{decode_of}
@@ -9,8 +9,8 @@ use Rattle.im_sqlparse.specs.declared.kinds.Kind.TheVariants as k
 use Rattle.im_sqlparse.specs.declared.errors.SyntaxKind.TheVariants as fault
 use Rattle.im_sqlparse.specs.declared.statements.Literal.{Literal}
 use Rattle.im_sqlparse.specs.declared.statements.Literal.TheVariants as literal
-use Rattle.im_sqlparse.specs.Lex.{Text, same_kind}
-use Rattle.im_sqlparse.specs.Input.{Input, Reader, ◌>>=◌, ◌>>◌, ◌<$>◌, pure, refuse, fails, fault_at, kind, spelling, next, sees, peek, take_token, eat, expect, separated}
+use Rattle.im_sqlparse.specs.Lex.{Text}
+use Rattle.im_sqlparse.specs.Input.{Input, Reader, ◌>>=◌, ◌>>◌, ◌<$>◌, pure, refuse, fails, spelling, next, sees, peek, take_token, expect, separated}
 
 -- a name has at most 48 characters, and is folded to lower case
 unfoldable pub name : Reader Text

@@ -70,11 +70,7 @@ fn not_null(tokens: &mut Tokens<'_>) -> Result<bool, ParseError>
 
 // The name of a column behind so many others.
 #[tactic(auto, unfolding(crate::specs::Statements::new_column))]
-fn new_column(
-    alloc: Global,
-    tokens: &mut Tokens<'_>,
-    count: usize,
-) -> Result<Name, ParseError>
+fn new_column(alloc: Global, tokens: &mut Tokens<'_>, count: usize) -> Result<Name, ParseError>
     ensures { Reads (spec.new_column count tokens.old) result tokens.new }
 {
     let too_many = tokens.fault(SyntaxKind::Number);
@@ -169,11 +165,7 @@ fn create_table(alloc: Global, tokens: &mut Tokens<'_>) -> Result<Stmt, ParseErr
 
 // Behind CREATE INDEX.
 #[tactic(auto, unfolding(crate::specs::Statements::create_index))]
-fn create_index(
-    alloc: Global,
-    tokens: &mut Tokens<'_>,
-    unique: bool,
-) -> Result<Stmt, ParseError>
+fn create_index(alloc: Global, tokens: &mut Tokens<'_>, unique: bool) -> Result<Stmt, ParseError>
     ensures { Reads (spec.create_index unique tokens.old) result tokens.new }
 {
     tokens.expect(Kind::On)?;

@@ -101,13 +101,22 @@ fn statements_are_read(rt: HostRuntime) -> Result<(), Fail> {
 #[test]
 fn the_first_fault_is_told(rt: HostRuntime) -> Result<(), Fail> {
     for (text, at, kind) in FAULTS {
-        assert!(rt; fault(rt.alloc(), text)? == Some(SqlSyntax { at, kind }), "{text}");
+        assert!(rt;
+            fault(rt.alloc(), text)? == Some(SqlSyntax { at, kind }),
+            "{text}"
+        );
     }
     Ok(())
 }
 
 // A text, with another one so many times between its front and its back.
-fn repeated(alloc: Global, front: &str, part: &str, times: usize, back: &str) -> Result<String, AllocError> {
+fn repeated(
+    alloc: Global,
+    front: &str,
+    part: &str,
+    times: usize,
+    back: &str,
+) -> Result<String, AllocError> {
     let mut text = String::from_str(alloc, front)?;
     for _ in 0..times {
         text.push_str(part)?;
@@ -118,12 +127,27 @@ fn repeated(alloc: Global, front: &str, part: &str, times: usize, back: &str) ->
 
 #[test]
 fn limits_are_64_columns_and_64_deep(rt: HostRuntime) -> Result<(), Fail> {
-    let column = (SyntaxKind::Number, "CREATE TABLE t (", "c INTEGER,", 16 + 64 * 10, "PRIMARY KEY c)");
-    let not = (SyntaxKind::Deep, "DELETE FROM t WHERE ", "NOT ", 20 + 64 * 4, "a = 1");
+    let column = (
+        SyntaxKind::Number,
+        "CREATE TABLE t (",
+        "c INTEGER,",
+        16 + 64 * 10,
+        "PRIMARY KEY c)",
+    );
+    let not = (
+        SyntaxKind::Deep,
+        "DELETE FROM t WHERE ",
+        "NOT ",
+        20 + 64 * 4,
+        "a = 1",
+    );
     let open = (SyntaxKind::Deep, "DELETE FROM t WHERE ", "(", 20 + 64, "");
     for (kind, front, part, at, back) in [column, not, open] {
         let text = repeated(rt.alloc(), front, part, 65, back)?;
-        assert!(rt; fault(rt.alloc(), text.as_str())? == Some(SqlSyntax { at, kind }), "{part}");
+        assert!(rt;
+            fault(rt.alloc(), text.as_str())? == Some(SqlSyntax { at, kind }),
+            "{part}"
+        );
     }
     for (front, part, back) in [(column.1, column.2, column.4), (not.1, not.2, not.4)] {
         let text = repeated(rt.alloc(), front, part, 64, back)?;

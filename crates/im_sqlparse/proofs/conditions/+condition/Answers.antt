@@ -1,4 +1,4 @@
-use Rattle.std.proofs.Common.{rules, arith, ◌≡◌, ◌<◌, true, false}
+use Rattle.std.proofs.Common.{rules, arith, ◌≡◌, true, false}
 use Rattle.std.proofs.lemmas.Grind.{common_steps}
 use Rattle.im_sqlparse.specs.declared.kinds.Kind.TheVariants.{And, Or}
 use Rattle.im_sqlparse.specs.declared.statements.Condition.{the_lemmas}

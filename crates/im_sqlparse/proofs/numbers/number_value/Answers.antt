@@ -1,4 +1,4 @@
-use Rattle.std.proofs.Common.{rules, ◌≡◌, ◌∙◌, sym, ap, subst, ◌<◌, ◌^◌, arith}
+use Rattle.std.proofs.Common.{rules, arith}
 use Rattle.std.proofs.lemmas.Grind.{common_steps}
 use Rattle.im_sqlparse.proofs.Digits.{stays_large, all_read}
 use Rattle.im_sqlparse.proofs.numbers.number_value.Goals as goal
