@@ -9,7 +9,6 @@ use Rattle.im_sqlparse.specs.declared.lex.Class.{Class}
 use Rattle.im_sqlparse.specs.declared.lex.Class.TheVariants as class
 use Rattle.im_sqlparse.specs.declared.kinds.Kind.{Kind}
 use Rattle.im_sqlparse.specs.declared.kinds.Kind.TheVariants as k
-use Rattle.im_sqlparse.specs.declared.kinds.TheConstants.{KEYWORDS}
 
 abbrev pub Text : Type 0
 Text = List ℕ
@@ -33,13 +32,27 @@ is_in class.Hex octet = is_ascii_hexdigit octet
 unfoldable pub skip : Text → Text
 skip text = drop (prefix_len (is_in class.Blank) text) text
 
+-- the keywords, which are written in any case and are never names
+abbrev pub keywords : List (Text × Kind)
+keywords =
+    (codes "AND", k.And) ∷ (codes "ASC", k.Asc) ∷ (codes "BEFORE", k.Before) ∷ (codes "BLOB", k.Blob) ∷
+    (codes "BOOLEAN", k.Boolean) ∷ (codes "BY", k.By) ∷ (codes "CREATE", k.Create) ∷ (codes "DELETE", k.Delete) ∷
+    (codes "DESC", k.Desc) ∷ (codes "EXISTS", k.Exists) ∷ (codes "FALSE", k.False) ∷ (codes "FROM", k.From) ∷
+    (codes "HISTORY", k.History) ∷ (codes "IF", k.If) ∷ (codes "INDEX", k.Index) ∷ (codes "INSERT", k.Insert) ∷
+    (codes "INTEGER", k.Integer) ∷ (codes "INTO", k.Into) ∷ (codes "IS", k.Is) ∷ (codes "KEY", k.Key) ∷
+    (codes "LIMIT", k.Limit) ∷ (codes "NOT", k.Not) ∷ (codes "NULL", k.Null) ∷ (codes "OF", k.Of) ∷
+    (codes "OFFSET", k.Offset) ∷ (codes "ON", k.On) ∷ (codes "OR", k.Or) ∷ (codes "ORDER", k.Order) ∷
+    (codes "PRIMARY", k.Primary) ∷ (codes "SELECT", k.Select) ∷ (codes "TABLE", k.Table) ∷ (codes "TRUE", k.True) ∷
+    (codes "TX", k.Tx) ∷ (codes "UNIQUE", k.Unique) ∷ (codes "UNTIL", k.Until) ∷ (codes "UPSERT", k.Upsert) ∷
+    (codes "VALUES", k.Values) ∷ (codes "VARCHAR", k.Varchar) ∷ (codes "WHERE", k.Where) ∷ []
+
 -- the kind of a word that begins with a letter: a keyword in any case, or else a word
 abbrev pub lookup : List (Text × Kind) → Text → Kind
 lookup [] word = k.Word
 lookup (entry ∷ entries) word = if str_eq_ignore_ascii_case entry.0 word then entry.1 else lookup entries word
 
 unfoldable pub keyword : Text → Kind
-keyword = lookup (map (λ entry. (entry.0.now, entry.1)) KEYWORDS)
+keyword = lookup keywords
 
 -- the longest word
 abbrev pub word_len : Text → ℕ
