@@ -71,31 +71,30 @@ comparison rev = do
 unfoldable pub opens : Kind → Bool
 opens what = same_kind what k.Not || same_kind what k.Open
 
-module _ (factor : Reader Condition) where
-  -- factors with AND between
-  unfoldable pub conjunction : Reader Condition
-  conjunction = condition.All <$> separated k.And factor
+-- factors with AND between
+unfoldable pub conjunction : Reader Condition → Reader Condition
+conjunction one = condition.All <$> separated k.And one
 
-  -- conjunctions with OR between
-  unfoldable pub disjunction : Reader Condition
-  disjunction = condition.Any <$> separated k.Or conjunction
+-- conjunctions of factors with OR between
+unfoldable pub disjunction : Reader Condition → Reader Condition
+disjunction one = condition.Any <$> separated k.Or (conjunction one)
 
-  -- behind NOT
-  unfoldable pub negation : Reader Condition
-  negation = condition.Not <$> factor
+-- behind NOT
+unfoldable pub negation : Reader Condition → Reader Condition
+negation one = condition.Not <$> one
 
-  -- behind an opening parenthesis
-  unfoldable pub nested : Reader Condition
-  nested = do
-    found ← disjunction
-    expect k.Close
-    pure found
+-- behind an opening parenthesis
+unfoldable pub nested : Reader Condition → Reader Condition
+nested one = do
+  found ← disjunction one
+  expect k.Close
+  pure found
 
-  -- NOT or a parenthesis, in which the factors stand
-  unfoldable pub deeper : Reader Condition
-  deeper = do
-    is_not ← eat k.Not
-    if is_not then negation else (take_token >> nested)
+-- NOT or a parenthesis, in which the factors stand
+unfoldable pub deeper : Reader Condition → Reader Condition
+deeper one = do
+  is_not ← eat k.Not
+  if is_not then negation one else (take_token >> nested one)
 
 -- a factor in which so many NOT and parentheses may stand in one another
 unfoldable pub factor : Bool → ℕ → Reader Condition

@@ -89,10 +89,6 @@ peek = λ i. Ok (kind i, i)
 abbrev pub here : Reader ℕ
 here = λ i. Ok (place i, i)
 
--- the token's octets, whatever its kind, without taking it
-abbrev pub spelled : Reader Text
-spelled = λ i. Ok (spelling i, i)
-
 -- the token's octets, whatever its kind
 abbrev pub take_token : Reader Text
 take_token = λ i. Ok (spelling i, next i)
