@@ -5,6 +5,7 @@ mod conditions;
 mod creations;
 pub mod errors;
 mod kinds;
+pub mod laws;
 mod lex;
 mod lists;
 mod numbers;
