@@ -1,0 +1,18 @@
+//! What holds of the grammar's rules alone.
+
+ghost use Rattle.std.specs.Prelude.{ℕ, Bool, true, false};
+ghost use Rattle.im_sqlparse.specs.declared.kinds.Kind.TheVariants as k;
+ghost use Rattle.im_sqlparse.specs.Conditions.{conjunction, factor};
+ghost use Rattle.im_sqlparse.specs.Lists.{IsWhole};
+ghost use Rattle.im_sqlparse.specs.Statements.{order_term};
+ghost use Rattle.im_sqlparse.specs.Values.{column, row, value};
+
+/// No list ends at its bound: each is one, and where its mark comes next a list again, however long it is.
+pub fn lists_are_whole()
+    ensures columns { (rev : Bool) → IsWhole k.Comma (column rev) }
+    ensures values { IsWhole k.Comma value }
+    ensures rows { IsWhole k.Comma row }
+    ensures terms { IsWhole k.Comma order_term }
+    ensures factors { (rev : Bool) (depth : ℕ) → IsWhole k.And (factor rev depth) }
+    ensures conjunctions { (rev : Bool) (depth : ℕ) → IsWhole k.Or (conjunction (factor rev depth)) }
+{}

@@ -1,0 +1,130 @@
+//! SELECT.
+
+ghost use Rattle.std.specs.Prelude.{◌≡◌, Bool};
+ghost use Rattle.im_sqlparse.specs.Statements as spec;
+ghost use Rattle.im_sqlparse.specs.Input.{Reads};
+
+use crate::conditions::filter;
+use crate::errors::ParseError;
+use crate::kinds::Kind;
+use crate::lists::{Listed, separated};
+use crate::numbers::number;
+use crate::statements::{Name, OrderTerm, Period, Select, Stmt};
+use crate::tokens::Tokens;
+use crate::values::{column, name};
+use sqlite_items::Items;
+use std::alloc::Global;
+
+// The columns that are shown: `*` is all.
+#[tactic(auto, unfolding(crate::specs::Statements::shown))]
+fn shown(alloc: Global, tokens: &mut Tokens<'_>) -> Result<Option<Items<Name>>, ParseError>
+    ensures { Reads (spec.shown tokens.old) result tokens.new }
+{
+    if tokens.eat(Kind::Star) {
+        return Ok(None);
+    }
+    let columns = separated::<Items<u8>>(alloc, tokens, true)?;
+    Ok(Some(columns))
+}
+
+// A table, and whether its history is meant.
+#[tactic(auto, unfolding(crate::specs::Statements::source))]
+fn source(alloc: Global, tokens: &mut Tokens<'_>) -> Result<(Name, bool), ParseError>
+    ensures { Reads (spec.source tokens.old) result tokens.new }
+{
+    if !tokens.eat(Kind::Open) {
+        return Ok((name(alloc, tokens)?, false));
+    }
+    tokens.expect(Kind::History)?;
+    tokens.expect(Kind::Of)?;
+    let table = name(alloc, tokens)?;
+    tokens.expect(Kind::Close)?;
+    Ok((table, true))
+}
+
+#[tactic(auto, unfolding(crate::specs::Statements::when))]
+fn when(tokens: &mut Tokens<'_>) -> Result<Period, ParseError>
+    ensures { Reads (spec.when tokens.old) result tokens.new }
+{
+    match tokens.peek() {
+        Kind::Before => {
+            tokens.take();
+            tokens.expect(Kind::Tx)?;
+            Ok(Period::Before(number(tokens, 1, u64::MAX)?))
+        }
+        Kind::Until => {
+            tokens.take();
+            tokens.expect(Kind::Tx)?;
+            Ok(Period::Until(number(tokens, 0, u64::MAX)?))
+        }
+        _ => Ok(Period::Now),
+    }
+}
+
+// A column, and whether the greatest comes first.
+#[tactic(auto, unfolding(crate::specs::Statements::order_term))]
+fn order_term(alloc: Global, tokens: &mut Tokens<'_>) -> Result<OrderTerm, ParseError>
+    ensures { Reads (spec.order_term tokens.old) result tokens.new }
+{
+    let column = column(alloc, tokens, true)?;
+    let descending = tokens.eat(Kind::Desc);
+    if !descending {
+        tokens.eat(Kind::Asc);
+    }
+    Ok(OrderTerm { column, descending })
+}
+
+impl Listed for OrderTerm {
+    ghost rule = { λ _. spec.order_term };
+
+    fn read(alloc: Global, tokens: &mut Tokens<'_>, _: bool) -> Result<Self, ParseError> {
+        order_term(alloc, tokens)
+    }
+}
+
+#[tactic(auto, unfolding(crate::specs::Statements::order))]
+fn order(alloc: Global, tokens: &mut Tokens<'_>) -> Result<Items<OrderTerm>, ParseError>
+    ensures { Reads (spec.order tokens.old) result tokens.new }
+{
+    if !tokens.eat(Kind::Order) {
+        return Ok(Items::new(alloc));
+    }
+    tokens.expect(Kind::By)?;
+    separated::<OrderTerm>(alloc, tokens, true)
+}
+
+// A number behind a keyword, if that comes next.
+#[tactic(auto, unfolding(crate::specs::Statements::count_behind))]
+fn count_behind(tokens: &mut Tokens<'_>, word: Kind) -> Result<Option<u64>, ParseError>
+    ensures { Reads (spec.count_behind word tokens.old) result tokens.new }
+{
+    if !tokens.eat(word) {
+        return Ok(None);
+    }
+    Ok(Some(number(tokens, 0, u64::MAX)?))
+}
+
+/// Behind SELECT.
+#[tactic(auto, unfolding(crate::specs::Statements::select))]
+pub fn select(alloc: Global, tokens: &mut Tokens<'_>) -> Result<Stmt, ParseError>
+    ensures { Reads (spec.select tokens.old) result tokens.new }
+{
+    let columns = shown(alloc, tokens)?;
+    tokens.expect(Kind::From)?;
+    let (table, history) = source(alloc, tokens)?;
+    let period = when(tokens)?;
+    let filter = filter(alloc, tokens, true)?;
+    let order = order(alloc, tokens)?;
+    let limit = count_behind(tokens, Kind::Limit)?;
+    let offset = count_behind(tokens, Kind::Offset)?;
+    Ok(Stmt::Select(Select {
+        columns,
+        table,
+        history,
+        period,
+        filter,
+        order,
+        limit,
+        offset,
+    }))
+}

@@ -1,0 +1,43 @@
+//! Statements that write rows.
+
+ghost use Rattle.std.specs.Prelude.{◌≡◌};
+ghost use Rattle.im_sqlparse.specs.Statements as spec;
+ghost use Rattle.im_sqlparse.specs.Input.{Reads};
+
+use crate::conditions::filter;
+use crate::errors::ParseError;
+use crate::kinds::Kind;
+use crate::lists::separated;
+use crate::statements::{Delete, Insertion, Literal, Stmt};
+use crate::tokens::Tokens;
+use crate::values::{name, names};
+use sqlite_items::Items;
+use std::alloc::Global;
+
+/// Behind UPSERT or INSERT.
+#[tactic(auto, unfolding(crate::specs::Statements::insertion))]
+pub fn insertion(alloc: Global, tokens: &mut Tokens<'_>) -> Result<Insertion, ParseError>
+    ensures { Reads (spec.insertion tokens.old) result tokens.new }
+{
+    tokens.expect(Kind::Into)?;
+    let table = name(alloc, tokens)?;
+    let columns = names(alloc, tokens)?;
+    tokens.expect(Kind::Values)?;
+    let rows = separated::<Items<Literal>>(alloc, tokens, false)?;
+    Ok(Insertion {
+        table,
+        columns,
+        rows,
+    })
+}
+
+/// Behind DELETE.
+#[tactic(auto, unfolding(crate::specs::Statements::deletion))]
+pub fn deletion(alloc: Global, tokens: &mut Tokens<'_>) -> Result<Stmt, ParseError>
+    ensures { Reads (spec.deletion tokens.old) result tokens.new }
+{
+    tokens.expect(Kind::From)?;
+    let table = name(alloc, tokens)?;
+    let filter = filter(alloc, tokens, false)?;
+    Ok(Stmt::Delete(Delete { table, filter }))
+}
