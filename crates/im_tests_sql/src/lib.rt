@@ -4,3 +4,5 @@
 
 #[cfg(test)]
 mod grammar;
+#[cfg(test)]
+mod types;

@@ -1,0 +1,5 @@
+pub mod Kinds
+pub mod Orders
+pub mod Reading
+pub mod Texts
+pub mod Total

@@ -1,0 +1,48 @@
+-- That the order of values is a total one, for the trait `Ord`.
+use Rattle.std.specs.Prelude.{◌≡◌, ℕ, ℤ, pos, true, false, List, [], refl}
+use Rattle.std.proofs.Common.{subst}
+use Rattle.std.specs.declared.cmp.Ordering.{Ordering}
+use Rattle.std.specs.declared.cmp.Ordering.TheVariants.{Less, Equal, Greater}
+use Rattle.std.specs.Ordering.{ordering_then, nat_cmp, int_cmp, on, then_cmp}
+use Rattle.std.specs.Cmp.{IsTotalOrder, then_total, on_total, nat_cmp_total, int_cmp_total}
+use Rattle.std.specs.Cmp.Lexicographic.{nat_list_cmp_total}
+use Rattle.im_sqltype.specs.Orders.{octets_cmp, rank_of, value_cmp}
+use Rattle.im_sqltype.specs.declared.values.Value.{Value}
+use Rattle.im_sqltype.specs.declared.values.Value.TheVariants.{Null, Integer, Boolean, Varchar, Blob}
+
+-- the number in a value, where false is 0 and true is 1
+abbrev number_in : Value → ℤ
+number_in (Integer number) = number
+number_in (Boolean true) = pos 1
+number_in value = pos 0
+
+-- the octets in a value
+abbrev octets_in : Value → List ℕ
+octets_in (Varchar octets) = octets
+octets_in (Blob octets) = octets
+octets_in value = []
+
+-- the same order, by rank, number and octets
+abbrev parts_cmp : Value → Value → Ordering
+parts_cmp = then_cmp (on rank_of nat_cmp) (then_cmp (on number_in int_cmp) (on octets_in octets_cmp))
+
+then-Equal : (o : Ordering) → ordering_then o Equal ≡ o
+then-Equal Less = refl
+then-Equal Equal = refl
+then-Equal Greater = refl
+
+parts_cmp-value_cmp : (x y : Value) → parts_cmp x y ≡ value_cmp x y
+parts_cmp-value_cmp (Integer x) (Integer y) = then-Equal (int_cmp x y)
+parts_cmp-value_cmp (Boolean false) (Boolean false) = refl
+parts_cmp-value_cmp (Boolean false) (Boolean true) = refl
+parts_cmp-value_cmp (Boolean true) (Boolean false) = refl
+parts_cmp-value_cmp (Boolean true) (Boolean true) = refl
+parts_cmp-value_cmp Null Null = refl
+parts_cmp-value_cmp (Varchar x) (Varchar y) = refl
+parts_cmp-value_cmp (Blob x) (Blob y) = refl
+parts_cmp-value_cmp x y = refl
+
+pub value_cmp-total : IsTotalOrder value_cmp
+value_cmp-total =
+    subst IsTotalOrder (λ i x y. parts_cmp-value_cmp x y i)
+    (then_total (on_total rank_of nat_cmp_total) (then_total (on_total number_in int_cmp_total) (on_total octets_in nat_list_cmp_total)))

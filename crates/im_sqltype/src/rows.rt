@@ -1,0 +1,43 @@
+use crate::values::Value;
+use std::marker::Model;
+
+/// Values in the order of their columns: of a key, or of a row. A clause sees the list of them.
+#[derive(Drop)]
+pub struct Row {
+    values: Vec<Value>,
+}
+
+impl Model for Row {
+    ghost use Rattle.std.specs.Prelude.{List};
+    ghost use Rattle.im_sqltype.specs.declared.values.Value.{Value as Cell};
+
+    ghost Value = { List Cell };
+
+    ghost view = { λ s. s.values.items };
+}
+
+impl Row {
+    ghost use Rattle.std.specs.Prelude.{◌≡◌};
+
+    /// The values of a vector, which is not copied.
+    pub fn from_vec(values: Vec<Value>) -> Self
+        ensures { result ≡ values.items }
+    {
+        Row { values }
+    }
+
+    /// Gives the vector back. It takes no memory.
+    pub fn into_vec(self) -> Vec<Value>
+        ensures { result.items ≡ self }
+    {
+        let Row { values } = self;
+        values
+    }
+
+    /// Lends the values.
+    pub fn as_slice(&self) -> &[Value]
+        ensures { result.now ≡ self.now }
+    {
+        self.values.as_slice()
+    }
+}

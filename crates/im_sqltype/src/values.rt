@@ -1,0 +1,35 @@
+ghost use Rattle.std.specs.Prelude.{◌≡◌};
+
+use im_octet::octets::Octets;
+
+/// A value of SQL.
+#[derive(Drop)]
+pub enum Value {
+    /// No value: what a column holds that isn't given.
+    Null,
+    /// A number.
+    Integer(i64),
+    /// False or true.
+    Boolean(bool),
+    /// A text, by its octets.
+    Varchar(Octets),
+    /// An octet string.
+    Blob(Octets),
+}
+
+impl Value {
+    ghost use Rattle.im_sqltype.specs.Orders.{rank_of};
+
+    /// Where the values of its kind stand among those of others: 0 for NULL, which is before all others.
+    pub(crate) fn rank(&self) -> u8
+        ensures { result ≡ rank_of self.now }
+    {
+        match self {
+            Value::Null => 0,
+            Value::Integer(_) => 1,
+            Value::Boolean(_) => 2,
+            Value::Varchar(_) => 3,
+            Value::Blob(_) => 4,
+        }
+    }
+}

@@ -1,0 +1,125 @@
+//! Values of each kind in rising order, with their texts.
+
+use im_octet::octets::Octets;
+use im_sqltype::kinds::Kind;
+use im_sqltype::reading::{ReadError, read_row, read_value};
+use im_sqltype::texts::{row_text, value_text};
+use im_sqltype::values::Value;
+use std::alloc::{AllocError, Global};
+use std::test::Fail;
+
+// A value, for constants.
+#[derive(Clone, Copy)]
+enum Sample {
+    Null,
+    Integer(i64),
+    Boolean(bool),
+    Varchar(&'static [u8]),
+    Blob(&'static [u8]),
+}
+
+// The values of each kind are in rising order.
+#[rattlefmt::skip]
+const SAMPLES: [(Kind, Sample, &[u8]); 20] = [
+    (Kind::Integer, Sample::Null, &[0]),
+    (Kind::Integer, Sample::Integer(-9223372036854775808), &[1, 0, 0, 0, 0, 0, 0, 0, 0]),
+    (Kind::Integer, Sample::Integer(-2), &[1, 127, 255, 255, 255, 255, 255, 255, 254]),
+    (Kind::Integer, Sample::Integer(-1), &[1, 127, 255, 255, 255, 255, 255, 255, 255]),
+    (Kind::Integer, Sample::Integer(0), &[1, 128, 0, 0, 0, 0, 0, 0, 0]),
+    (Kind::Integer, Sample::Integer(1), &[1, 128, 0, 0, 0, 0, 0, 0, 1]),
+    (Kind::Integer, Sample::Integer(9223372036854775807), &[1, 255, 255, 255, 255, 255, 255, 255, 255]),
+    (Kind::Boolean, Sample::Null, &[0]),
+    (Kind::Boolean, Sample::Boolean(false), &[1, 0]),
+    (Kind::Boolean, Sample::Boolean(true), &[1, 1]),
+    (Kind::Varchar, Sample::Null, &[0]),
+    (Kind::Varchar, Sample::Varchar(b""), &[1, 0, 0]),
+    (Kind::Varchar, Sample::Varchar(b"\0"), &[1, 0, 255, 0, 0]),
+    (Kind::Varchar, Sample::Varchar(b"a"), &[1, 97, 0, 0]),
+    (Kind::Varchar, Sample::Varchar(b"a\0b"), &[1, 97, 0, 255, 98, 0, 0]),
+    (Kind::Varchar, Sample::Varchar(b"ab"), &[1, 97, 98, 0, 0]),
+    (Kind::Blob, Sample::Null, &[0]),
+    (Kind::Blob, Sample::Blob(b"\x00\x00"), &[1, 0, 255, 0, 255, 0, 0]),
+    (Kind::Blob, Sample::Blob(b"\x01"), &[1, 1, 0, 0]),
+    (Kind::Blob, Sample::Blob(b"\xff"), &[1, 255, 0, 0]),
+];
+
+// No value of the kind has these texts.
+const OTHERS: [(Kind, &[u8]); 11] = [
+    (Kind::Integer, &[]),
+    (Kind::Integer, &[1, 128, 0, 0, 0, 0, 0, 0]),
+    (Kind::Integer, &[1, 128, 0, 0, 0, 0, 0, 0, 0, 0]),
+    (Kind::Boolean, &[1, 2]),
+    (Kind::Boolean, &[0, 0]),
+    (Kind::Boolean, &[2]),
+    (Kind::Varchar, &[1, 97]),
+    (Kind::Varchar, &[1, 97, 0]),
+    (Kind::Varchar, &[1, 97, 0, 1, 0, 0]),
+    (Kind::Blob, &[1, 97, 0, 0, 98]),
+    (Kind::Blob, &[1, 97, 0, 255]),
+];
+
+fn value_of(alloc: Global, sample: Sample) -> Result<Value, AllocError> {
+    Ok(match sample {
+        Sample::Null => Value::Null,
+        Sample::Integer(number) => Value::Integer(number),
+        Sample::Boolean(truth) => Value::Boolean(truth),
+        Sample::Varchar(octets) => Value::Varchar(Octets::from_slice(alloc, octets)?),
+        Sample::Blob(octets) => Value::Blob(Octets::from_slice(alloc, octets)?),
+    })
+}
+
+// Whether a value has this text, and is read back from it.
+fn is_kept(alloc: Global, kind: Kind, sample: Sample, text: &[u8]) -> Result<bool, Fail> {
+    let value = value_of(alloc, sample)?;
+    let written = value_text(alloc, &value)?;
+    let read = read_value(alloc, kind, text)?;
+    let kept = written.as_slice() == text && read == value;
+    drop(value);
+    drop(read);
+    Ok(kept)
+}
+
+// Whether the first value is below the second.
+fn is_below(alloc: Global, one: Sample, other: Sample) -> Result<bool, AllocError> {
+    let one = value_of(alloc, one)?;
+    let other = value_of(alloc, other)?;
+    let below = one < other;
+    drop(one);
+    drop(other);
+    Ok(below)
+}
+
+// Whether the row of 1, `a` and NULL has its text, and is read back from it.
+fn a_row_is_kept(alloc: Global) -> Result<bool, Fail> {
+    let text: [u8; 14] = [1, 128, 0, 0, 0, 0, 0, 0, 1, 1, 97, 0, 0, 0];
+    let one = value_of(alloc, Sample::Integer(1))?;
+    let other = value_of(alloc, Sample::Varchar(b"a"))?;
+    let row = [one, other, Value::Null];
+    let written = row_text(alloc, &row)?;
+    let read = read_row(alloc, &[Kind::Integer, Kind::Varchar, Kind::Blob], &text)?;
+    let kept = written.as_slice() == text.as_slice() && read.as_slice() == row.as_slice();
+    drop(row);
+    drop(read);
+    Ok(kept)
+}
+
+#[test]
+fn values_have_their_texts_and_are_read_back(rt: HostRuntime) -> Result<(), Fail> {
+    let mut before = None;
+    for (kind, sample, text) in SAMPLES {
+        assert!(rt; is_kept(rt.alloc(), kind, sample, text)?);
+        match before {
+            Some((other_kind, other)) if other_kind == kind => {
+                assert!(rt; is_below(rt.alloc(), other, sample)?);
+            }
+            _ => {}
+        }
+        before = Some((kind, sample));
+    }
+    for (kind, text) in OTHERS {
+        let read = read_value(rt.alloc(), kind, text);
+        assert!(rt; read.err() == Some(ReadError::NotText));
+    }
+    assert!(rt; a_row_is_kept(rt.alloc())?);
+    Ok(())
+}
