@@ -1,7 +1,5 @@
 //! Doubles of what the top call stands on: a source, a sink and a clock as a case asks for them.
 
-ghost use Rattle.std.specs.Prelude.{◌≡◌, ◌≤◌};
-
 use im_edge::clock::Clock;
 use im_edge::sink::{Given, Sink};
 use im_edge::source::{Source, Taken};
@@ -10,7 +8,7 @@ use im_edge::source::{Source, Taken};
 const BLOCK: u64 = 4096;
 
 /// A clock that gives a time, and each time behind it by a step later.
-#[derive(Clone, Copy, Debug, PartialEq, Eq)]
+#[derive(Clone, Copy)]
 pub struct Pace {
     /// The time that it gives next.
     pub next: i64,
@@ -43,10 +41,10 @@ pub struct Feed<'a> {
 
 impl<'a> Feed<'a> {
     /// A source of these octets and so many blocks.
-    pub fn new(octets: &'a [u8], blocks: u32, fails: bool) -> Self {
+    pub fn new(octets: &'a [u8], blocks: u64, fails: bool) -> Self {
         Feed {
             octets,
-            marks: u64::from(blocks) * BLOCK,
+            marks: blocks.saturating_mul(BLOCK),
             fails,
             failures: 0,
         }
@@ -95,30 +93,22 @@ impl Source for Feed<'_> {
 pub struct Narrow {
     /// What was written.
     pub written: Vec<u8>,
-    room: Option<u64>,
+    // Whether it takes one octet a call.
+    slow: bool,
+    // How many calls it still serves.
+    room: u64,
     failures: u64,
 }
 
 impl Narrow {
-    /// A sink with so much room.
+    /// A sink with so much room, and with all where none is told.
     pub fn new(written: Vec<u8>, room: Option<u64>) -> Self {
         Narrow {
             written,
-            room,
+            slow: room.is_some(),
+            room: room.unwrap_or(u64::MAX),
             failures: 0,
         }
-    }
-
-    // How much of a piece of so many octets it takes now.
-    fn taken(&mut self, length: usize) -> usize
-        ensures most { result ≤ length }
-        ensures failures { self.new.failures ≡ self.old.failures }
-    {
-        let Some(room) = self.room else {
-            return length;
-        };
-        self.room = Some(room.saturating_sub(1));
-        if room > 0 && length > 0 { 1 } else { 0 }
     }
 }
 
@@ -133,8 +123,9 @@ impl Sink for Narrow {
         if piece.is_empty() {
             return Given::Gave(0);
         }
-        let n = self.taken(piece.len());
-        if n > 0 && self.written.extend_from_slice(&piece[..n]).is_ok() {
+        let n = if self.slow { 1 } else { piece.len() };
+        if self.room > 0 && self.written.extend_from_slice(&piece[..n]).is_ok() {
+            self.room -= 1;
             return Given::Gave(n);
         }
         self.failures = self.failures.saturating_add(1);

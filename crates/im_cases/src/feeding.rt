@@ -1,128 +1,102 @@
-//! The marks that say what stands on the standard input of a run, and the octets that they make.
+//! What stands on the standard input of a run.
 
-ghost use Rattle.std.specs.Prelude.{◌≤◌, length, IfSome};
-
-use crate::cases::{Exchange, Input, Origin, Piece};
+use crate::lines::{Line, Run, push_text};
 use crate::octets::{number, octets};
 use crate::texts::Scope;
 use crate::wrong::{Fault, Wrong};
 use im_cuts::after;
 use std::alloc::Global;
 
-/// Takes what a line says of the standard input.
-pub fn feed(scope: Scope, input: &mut Input, mark: &str, rest: &str) -> Result<(), Wrong> {
-    match mark {
-        "with" => push_exchange(scope, input, rest),
-        "blocks" => {
-            input.blocks = u32::try_from(number(rest)?).map_err(|_| Wrong::Number)?;
-            Ok(())
-        }
-        "source" => {
-            input.fails = true;
-            if rest.trim() == "fails" {
-                Ok(())
-            } else {
-                Err(Wrong::Words)
-            }
-        }
-        _ => push_piece(scope, input, origin(scope, mark, rest)?),
-    }
+/// One text in place of another, at the first place where that stands.
+#[derive(Drop)]
+pub struct Exchange {
+    /// What stands there.
+    old: Vec<u8>,
+    /// What stands there instead.
+    new: Vec<u8>,
 }
 
-// Adds a piece.
-fn push_piece(scope: Scope, input: &mut Input, origin: Origin) -> Result<(), Wrong> {
-    input.pieces.push(Piece {
-        line: scope.line,
-        origin,
-        exchanges: Vec::new(scope.alloc),
-    })?;
-    Ok(())
-}
-
-// Where the octets of a piece come from.
-fn origin(scope: Scope, mark: &str, rest: &str) -> Result<Origin, Wrong> {
-    match mark {
-        ">" => {
-            let mut line = scope.text(rest)?;
-            line.push(b'\n')?;
-            Ok(Origin::Octets(line))
-        }
-        ">-" => Ok(Origin::Octets(scope.text(rest)?)),
-        ">x" => Ok(Origin::Octets(octets(scope.alloc, rest)?)),
-        _ => earlier(rest.trim()),
-    }
-}
-
-// The part of what the run before wrote that a word says: `all`, a line, or the first and the last one.
-fn earlier(word: &str) -> Result<Origin, Wrong> {
-    if word == "all" {
-        return Ok(Origin::All);
-    }
-    let (first, last) = word.split_once('-').unwrap_or((word, word));
-    Ok(Origin::Lines {
-        first: number(first)?,
-        last: number(last)?,
-    })
-}
-
-// Adds to the last piece what is replaced in it.
-fn push_exchange(scope: Scope, input: &mut Input, rest: &str) -> Result<(), Wrong> {
-    let (old, new) = sides(rest).ok_or(Wrong::Words)?;
+/// The exchange that the words `OLD => NEW` ask for, of which the second one may be empty.
+pub fn exchange_of(scope: Scope, rest: &str) -> Result<Exchange, Wrong> {
+    let (old, new) = match rest.split_once(" => ") {
+        Some(sides) => sides,
+        None => (rest.strip_suffix(" =>").ok_or(Wrong::Words)?, ""),
+    };
     if old.is_empty() {
         return Err(Wrong::Words);
     }
-    let exchange = Exchange {
-        line: scope.line,
+    Ok(Exchange {
         old: scope.text(old)?,
         new: scope.text(new)?,
+    })
+}
+
+/// The first and the last line, from 1, that a word asks for of what the run before wrote; none where it asks for all.
+pub fn earlier(word: &str) -> Result<Option<(u64, u64)>, Wrong> {
+    let word = word.trim();
+    if word == "all" {
+        return Ok(None);
+    }
+    let (first, last) = word.split_once('-').unwrap_or((word, word));
+    Ok(Some((number(first)?, number(last)?)))
+}
+
+// The octets so far, and where those of the nearest line begin.
+#[derive(Drop)]
+struct Input {
+    octets: Vec<u8>,
+    last: usize,
+}
+
+/// The octets that the lines of a run give, where the run before wrote these.
+pub fn input_of(run: Run, before: &[u8]) -> Result<Vec<u8>, Fault> {
+    let mut input = Input {
+        octets: Vec::new(run.alloc),
+        last: 0,
     };
-    let Some(piece) = input.pieces.last_mut() else {
-        return Err(Wrong::NoInput);
-    };
-    piece.exchanges.push(exchange)?;
+    for line in run.lines {
+        if let Err(wrong) = input.add(run.scope(*line), *line, before) {
+            return Err(wrong.at(line.number));
+        }
+    }
+    Ok(input.octets)
+}
+
+impl Input {
+    // Adds what a line gives.
+    fn add(&mut self, scope: Scope, line: Line, before: &[u8]) -> Result<(), Wrong> {
+        if line.mark == "with" {
+            let exchange = exchange_of(scope, line.rest)?;
+            self.octets = replaced(scope.alloc, &self.octets, self.last, &exchange)?;
+        } else if line.mark.starts_with('>') {
+            self.last = self.octets.len();
+            push(scope, &mut self.octets, line, before)?;
+        }
+        Ok(())
+    }
+}
+
+// Adds the octets that a line of input gives.
+fn push(scope: Scope, out: &mut Vec<u8>, line: Line, before: &[u8]) -> Result<(), Wrong> {
+    match line.mark {
+        ">x" => out.extend_from_slice(&octets(scope.alloc, line.rest)?)?,
+        ">|" => push_earlier(out, before, line.rest)?,
+        _ => push_text(scope, out, line)?,
+    }
     Ok(())
 }
 
-// The two sides of `OLD => NEW`, of which the second one may be empty.
-fn sides(text: &str) -> Option<(&str, &str)> {
-    match text.split_once(" => ") {
-        Some(sides) => Some(sides),
-        None => Some((text.strip_suffix(" =>")?, "")),
+// Adds the part of what the run before wrote that a word asks for.
+fn push_earlier(out: &mut Vec<u8>, before: &[u8], word: &str) -> Result<(), Wrong> {
+    match earlier(word)? {
+        None => out.extend_from_slice(before)?,
+        Some((first, last)) => push_lines(out, before, first, last)?,
     }
+    Ok(())
 }
 
-/// The octets of the pieces, where the run before wrote these.
-pub fn input_of(alloc: Global, input: &Input, before: &[u8]) -> Result<Vec<u8>, Fault> {
-    let mut out = Vec::new(alloc);
-    for piece in &input.pieces {
-        let octets = exchanged(alloc, piece, before)?;
-        out.extend_from_slice(&octets)
-            .map_err(|_| Wrong::Memory.at(piece.line))?;
-    }
-    Ok(out)
-}
-
-// The octets of a piece, with what is replaced in them.
-fn exchanged(alloc: Global, piece: &Piece, before: &[u8]) -> Result<Vec<u8>, Fault> {
-    let mut octets = octets_of(alloc, &piece.origin, before).map_err(|wrong| wrong.at(piece.line))?;
-    for exchange in &piece.exchanges {
-        octets = replaced(alloc, &octets, exchange).map_err(|wrong| wrong.at(exchange.line))?;
-    }
-    Ok(octets)
-}
-
-// The octets that a piece begins with.
-fn octets_of(alloc: Global, origin: &Origin, before: &[u8]) -> Result<Vec<u8>, Wrong> {
-    match origin {
-        Origin::Octets(octets) => Ok(Vec::from_slice(alloc, octets)?),
-        Origin::All => Ok(Vec::from_slice(alloc, before)?),
-        Origin::Lines { first, last } => lines_of(alloc, before, *first, *last),
-    }
-}
-
-// Some lines of a text, each with its LF where it has one.
-fn lines_of(alloc: Global, text: &[u8], first: u64, last: u64) -> Result<Vec<u8>, Wrong> {
-    let mut out = Vec::new(alloc);
+// Adds some lines of a text, each with its LF where it has one.
+fn push_lines(out: &mut Vec<u8>, text: &[u8], first: u64, last: u64) -> Result<(), Wrong> {
     let mut number = 0u64;
     for line in text.split_inclusive(|octet| *octet == b'\n') {
         number = number.saturating_add(1);
@@ -131,32 +105,26 @@ fn lines_of(alloc: Global, text: &[u8], first: u64, last: u64) -> Result<Vec<u8>
         }
     }
     if 0 < first && first <= last && last <= number {
-        Ok(out)
+        Ok(())
     } else {
         Err(Wrong::NoLine)
     }
 }
 
-// A text with another part in place of one that stands in it, at the first place.
-fn replaced(alloc: Global, text: &[u8], exchange: &Exchange) -> Result<Vec<u8>, Wrong> {
-    let Some(at) = place_of(text, &exchange.old) else {
-        return Err(Wrong::NotThere);
-    };
-    let (front, rest) = text.split_at(at);
-    let behind = after(rest, &exchange.old).ok_or(Wrong::NotThere)?;
+// A text with another part in place of one, at the first place from this one on.
+fn replaced(alloc: Global, text: &[u8], from: usize, asked: &Exchange) -> Result<Vec<u8>, Wrong> {
+    let (front, behind) = around(text, from, &asked.old).ok_or(Wrong::NotThere)?;
     let mut out = Vec::from_slice(alloc, front)?;
-    out.extend_from_slice(&exchange.new)?;
+    out.extend_from_slice(&asked.new)?;
     out.extend_from_slice(behind)?;
     Ok(out)
 }
 
-// The first place of a text where a part stands.
-fn place_of(text: &[u8], part: &[u8]) -> Option<usize>
-    ensures { IfSome result (λ at. at ≤ length text.now) }
-{
-    for at in 0..text.len() {
-        if text[at..].starts_with(part) {
-            return Some(at);
+// What stands in a text before and behind a part, at the first place from this one on.
+fn around<'t>(text: &'t [u8], from: usize, part: &[u8]) -> Option<(&'t [u8], &'t [u8])> {
+    for at in from..text.len() {
+        if let Some(behind) = after(&text[at..], part) {
+            return Some((&text[..at], behind));
         }
     }
     None

@@ -1,6 +1,7 @@
 //! The files that a disk begins a run with.
 
-use crate::cases::{Change, How};
+use crate::lines::{Line, Run};
+use crate::octets::{file_number, first_word, number, octets};
 use crate::wrong::{Fault, Wrong};
 use im_disk::calls::Call;
 use im_disk::memory::MemDisk;
@@ -10,30 +11,29 @@ use std::alloc::{AllocError, Global};
 // How many files a disk has.
 const FILES: usize = 16;
 
-/// A copy of each file, as reads give it.
-pub fn files_of(alloc: Global, disk: &MemDisk) -> Result<Vec<Vec<u8>>, AllocError> {
-    let mut files = Vec::new(alloc);
-    for file in 0..16u8 {
-        files.push(Vec::from_slice(alloc, disk.file(file))?)?;
+/// A copy of each file, as the disk's calls made them of what they were at first: all of the calls, or where some are
+/// lost those before the last sync that succeeded.
+pub fn files_of(alloc: Global, disk: &MemDisk, loses: bool) -> Result<Vec<Vec<u8>>, AllocError> {
+    let calls = disk.calls();
+    let count = if loses { last_sync(calls) } else { calls.len() };
+    let mut files = first_files_of(alloc, disk)?;
+    for call in calls.iter().take(count) {
+        if let Call::Wrote { file, at, piece } = call {
+            write(&mut files, *file as usize, *at as usize, piece.as_slice())?;
+        }
     }
     Ok(files)
 }
 
-/// A copy of each file, as it was when the last sync succeeded, and as it was at first where none did.
-pub fn durable_files_of(alloc: Global, disk: &MemDisk) -> Result<Vec<Vec<u8>>, AllocError> {
-    let mut files = first_files_of(alloc, disk)?;
-    let mut synced = first_files_of(alloc, disk)?;
-    for call in disk.calls() {
-        match call {
-            Call::Wrote { file, at, piece } => {
-                write(&mut files, *file as usize, *at as usize, piece.as_slice())?
-            }
-            Call::Synced => synced = copies(alloc, &files)?,
-            Call::Tore { .. } | Call::Missed => {}
+// How many calls stand before the last sync that succeeded.
+fn last_sync(calls: &[Call]) -> usize {
+    let mut last = 0;
+    for (at, call) in calls.iter().enumerate() {
+        if let Call::Synced = call {
+            last = at;
         }
     }
-    drop(files);
-    Ok(synced)
+    last
 }
 
 // A copy of each file, as it was at first.
@@ -47,57 +47,6 @@ fn first_files_of(alloc: Global, disk: &MemDisk) -> Result<Vec<Vec<u8>>, AllocEr
         files.push(Vec::from_slice(alloc, octets)?)?;
     }
     Ok(files)
-}
-
-// A copy of each file.
-fn copies(alloc: Global, files: &[Vec<u8>]) -> Result<Vec<Vec<u8>>, AllocError> {
-    let mut out = Vec::new(alloc);
-    for file in files {
-        out.push(Vec::from_slice(alloc, file)?)?;
-    }
-    Ok(out)
-}
-
-/// Changes the files, in this order.
-pub fn change(alloc: Global, files: &mut [Vec<u8>], changes: &[Change]) -> Result<(), Fault> {
-    for change in changes {
-        let Some(file) = files.get_mut(change.file) else {
-            return Err(Wrong::File.at(change.line));
-        };
-        change_file(alloc, file, &change.how).map_err(|wrong| wrong.at(change.line))?;
-    }
-    Ok(())
-}
-
-// Changes a file.
-fn change_file(alloc: Global, file: &mut Vec<u8>, how: &How) -> Result<(), Wrong> {
-    match how {
-        How::Holds(octets) => {
-            *file = Vec::from_slice(alloc, octets)?;
-            Ok(())
-        }
-        How::Spoilt { at, octets } => spoil(file, *at, octets),
-        How::Cut(length) => cut(file, *length),
-    }
-}
-
-// Puts octets in the place of others, which are there.
-fn spoil(file: &mut Vec<u8>, at: u64, octets: &[u8]) -> Result<(), Wrong> {
-    let length = file.len() as u64;
-    if at.saturating_add(octets.len() as u64) > length {
-        return Err(Wrong::Short);
-    }
-    put(file, at as usize, octets)?;
-    Ok(())
-}
-
-// Cuts a file that has as many octets.
-fn cut(file: &mut Vec<u8>, length: u64) -> Result<(), Wrong> {
-    if length > file.len() as u64 {
-        return Err(Wrong::Short);
-    }
-    file.truncate(length as usize);
-    Ok(())
 }
 
 // Writes a piece into one of the files.
@@ -119,12 +68,64 @@ fn put(file: &mut Vec<u8>, at: usize, octets: &[u8]) -> Result<(), AllocError> {
     Ok(())
 }
 
+/// Changes the files as the lines of a run ask.
+pub fn change_all(run: Run, files: &mut [Vec<u8>]) -> Result<(), Fault> {
+    for line in run.lines {
+        if let "file" | "spoil" | "cut" = line.mark {
+            if let Err(wrong) = change(run.alloc, files, *line) {
+                return Err(wrong.at(line.number));
+            }
+        }
+    }
+    Ok(())
+}
+
+// Changes a file as a line asks.
+fn change(alloc: Global, files: &mut [Vec<u8>], line: Line) -> Result<(), Wrong> {
+    let (number, behind) = first_word(line.rest);
+    let Some(file) = files.get_mut(file_number(number)? as usize) else {
+        return Err(Wrong::File);
+    };
+    match line.mark {
+        "file" => *file = octets(alloc, behind)?,
+        "spoil" => spoil(alloc, file, behind)?,
+        _ => cut(file, behind)?,
+    }
+    Ok(())
+}
+
+// Puts octets in the place of others, which are there.
+fn spoil(alloc: Global, file: &mut Vec<u8>, rest: &str) -> Result<(), Wrong> {
+    let (at, behind) = first_word(rest);
+    let at = number(at)?;
+    let octets = octets(alloc, behind)?;
+    if at.saturating_add(octets.len() as u64) > file.len() as u64 {
+        return Err(Wrong::Short);
+    }
+    put(file, at as usize, &octets)?;
+    Ok(())
+}
+
+// Cuts a file that has as many octets.
+fn cut(file: &mut Vec<u8>, rest: &str) -> Result<(), Wrong> {
+    let length = number(rest)?;
+    if length > file.len() as u64 {
+        return Err(Wrong::Short);
+    }
+    file.truncate(length as usize);
+    Ok(())
+}
+
 /// A disk with these files, whose changing calls of these numbers fail.
-pub fn disk_of(alloc: Global, files: Vec<Vec<u8>>, failing: &[u64]) -> Result<MemDisk, AllocError> {
+pub fn disk_of(
+    alloc: Global,
+    files: Vec<Vec<u8>>,
+    failing: Vec<u64>,
+) -> Result<MemDisk, AllocError> {
     let mut first = Vec::new(alloc);
     for file in files {
         first.push(Octets::from_vec(file))?;
     }
     first.truncate(FILES);
-    MemDisk::from_files(alloc, first, Vec::from_slice(alloc, failing)?)
+    MemDisk::from_files(alloc, first, failing)
 }

@@ -2,18 +2,20 @@
 //! is wanted. The folder is its first word, and else the one that it runs in. `docs/CASES.md` says how a case is written.
 #![tactic(auto)]
 
-mod cases;
 mod comparing;
 mod doubles;
 mod feeding;
 mod folder;
+mod given;
 mod images;
+mod lines;
 mod marks;
 mod octets;
 mod playing;
 mod reader;
-mod runs;
 mod shown;
+mod stage;
+mod stop;
 mod telling;
 mod texts;
 mod wanting;

@@ -1,19 +1,34 @@
+//! The numbers, files and octets that stand in lines.
+
+ghost use Rattle.std.specs.Prelude.{◌<◌, IfOk};
+
 use crate::wrong::Wrong;
 use hex::FromHexError;
 use std::alloc::Global;
 
+/// The first word, and what stands behind a blank.
+pub fn first_word(text: &str) -> (&str, &str) {
+    let text = text.trim_start();
+    text.split_once(' ').unwrap_or((text, ""))
+}
+
 /// The number that decimal digits say.
 pub fn number(text: &str) -> Result<u64, Wrong> {
-    if !text.bytes().all(|octet| octet.is_ascii_digit()) {
+    if text.starts_with('+') {
         return Err(Wrong::Number);
     }
-    text.parse::<u64>().map_err(|_| Wrong::Number)
+    match text.parse::<u64>() {
+        Ok(number) => Ok(number),
+        Err(_) => Err(Wrong::Number),
+    }
 }
 
 /// The number of a file of the disk.
-pub fn file_number(text: &str) -> Result<usize, Wrong> {
+pub fn file_number(text: &str) -> Result<u8, Wrong>
+    ensures { IfOk result (λ file. file < 16) }
+{
     match number(text)? {
-        file if file < 16 => Ok(file as usize),
+        file if file < 16 => Ok(file as u8),
         _ => Err(Wrong::File),
     }
 }
@@ -34,10 +49,8 @@ fn push_word(alloc: Global, out: &mut Vec<u8>, word: &str) -> Result<(), Wrong> 
         out.extend_from_slice(text.as_bytes())?;
         return Ok(());
     }
-    match word.split_once('*') {
-        Some((digits, count)) => push_times(out, &hex(alloc, digits)?, number(count)?),
-        None => push_times(out, &hex(alloc, word)?, 1),
-    }
+    let (digits, count) = word.split_once('*').unwrap_or((word, "1"));
+    push_times(out, &hex(alloc, digits)?, number(count)?)
 }
 
 // Adds some octets so many times.

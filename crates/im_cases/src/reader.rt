@@ -1,61 +1,70 @@
 //! The reader of a file of cases, line by line.
 
-use crate::cases::{Case, Run};
-use crate::marks;
+use crate::lines::Line;
+use crate::marks::check;
 use crate::texts::{Named, Scope, is_name};
 use crate::wrong::{Fault, Wrong};
 use std::alloc::Global;
-use std::mem;
 
-// A line that isn't passed over.
-#[derive(Clone, Copy)]
-struct Line<'t> {
-    // Its number, from 1.
-    number: u64,
-    // The mark that it begins with.
-    mark: &'t str,
-    // What stands behind the mark and a blank.
-    rest: &'t str,
+/// The lines of a file of cases, each of which can be read.
+#[derive(Drop)]
+pub struct Script<'t> {
+    /// The lines, the first one first.
+    pub lines: Vec<Line<'t>>,
+    /// The texts that are named.
+    pub named: Vec<Named>,
+}
+
+/// Reads the lines of a file, or tells the first one that can't be read.
+pub fn read(alloc: Global, text: &str) -> Result<Script<'_>, Fault> {
+    let mut reader = Reader {
+        alloc,
+        line: 0,
+        script: Script {
+            lines: Vec::new(alloc),
+            named: Vec::new(alloc),
+        },
+        case: 0,
+        runs: false,
+        common_input: false,
+        input: false,
+    };
+    let end = reader.read_lines(text);
+    let Reader { line, script, .. } = reader;
+    match end {
+        Ok(()) => Ok(script),
+        Err(wrong) => {
+            drop(script);
+            Err(wrong.at(line))
+        }
+    }
 }
 
 // What was read so far.
 #[derive(Drop)]
 struct Reader<'t> {
     alloc: Global,
-    named: Vec<Named>,
-    cases: Vec<Case>,
-    // The lines of the last case that hold for each run of it.
-    common: Vec<Line<'t>>,
-}
-
-/// Reads the cases of a file, or tells the first line that can't be read.
-pub fn read(alloc: Global, text: &str) -> Result<Vec<Case>, Fault> {
-    let mut reader = Reader {
-        alloc,
-        named: Vec::new(alloc),
-        cases: Vec::new(alloc),
-        common: Vec::new(alloc),
-    };
-    let end = reader.read_lines(text);
-    let Reader { cases, named, .. } = reader;
-    drop(named);
-    match end {
-        Ok(()) => Ok(cases),
-        Err(fault) => {
-            drop(cases);
-            Err(fault)
-        }
-    }
+    // The line that is read, from 1.
+    line: u64,
+    script: Script<'t>,
+    // The line that the last case begins at, and 0 where none does.
+    case: u64,
+    // Whether that case has a run.
+    runs: bool,
+    // Whether a line of input stands above its first run.
+    common_input: bool,
+    // Whether a line of input stands above, for the same run.
+    input: bool,
 }
 
 impl<'t> Reader<'t> {
     // Reads each line.
-    fn read_lines(&mut self, text: &'t str) -> Result<(), Fault> {
-        let mut number = 0u64;
+    fn read_lines(&mut self, text: &'t str) -> Result<(), Wrong> {
         for text in text.split_terminator('\n') {
-            number = number.saturating_add(1);
+            self.line = self.line.saturating_add(1);
             if !text.is_empty() && !text.starts_with('#') {
                 let (mark, rest) = text.split_once(' ').unwrap_or((text, ""));
+                let number = self.line;
                 self.read_line(Line { number, mark, rest })?;
             }
         }
@@ -63,35 +72,32 @@ impl<'t> Reader<'t> {
     }
 
     // Reads one line.
-    fn read_line(&mut self, line: Line<'t>) -> Result<(), Fault> {
+    fn read_line(&mut self, line: Line<'t>) -> Result<(), Wrong> {
         match line.mark {
-            "text" => self.name_text(line).map_err(|wrong| wrong.at(line.number)),
-            "=" => self.begin_case(line),
-            "$" => self.begin_run(line),
-            _ => {
-                if !self.add(line)? {
-                    self.common
-                        .push(line)
-                        .map_err(|error| Wrong::from(error).at(line.number))?;
-                }
-                Ok(())
-            }
+            "text" => self.name_text(line)?,
+            "=" => self.begin_case(line)?,
+            _ if self.case == 0 => return Err(Wrong::NoCase),
+            "$" => self.begin_run(),
+            _ => self.check(line)?,
         }
+        self.script.lines.push(line)?;
+        Ok(())
     }
 
     // Names a text.
     fn name_text(&mut self, line: Line) -> Result<(), Wrong> {
-        let scope = self.scope(line.number);
         let (name, text) = line.rest.split_once(' ').unwrap_or((line.rest, ""));
-        if !is_name(name.as_bytes()) {
+        let name = name.as_bytes();
+        if !is_name(name) {
             return Err(Wrong::Name);
         }
-        if scope.find(name.as_bytes()).is_some() {
+        let scope = self.scope();
+        if scope.find(name).is_some() {
             return Err(Wrong::Twice);
         }
         let text = scope.text(text)?;
-        let name = Vec::from_slice(self.alloc, name.as_bytes())?;
-        self.named.push(Named {
+        let name = Vec::from_slice(self.alloc, name)?;
+        self.script.named.push(Named {
             line: line.number,
             name,
             text,
@@ -100,97 +106,53 @@ impl<'t> Reader<'t> {
     }
 
     // Begins a case.
-    fn begin_case(&mut self, line: Line) -> Result<(), Fault> {
+    fn begin_case(&mut self, line: Line) -> Result<(), Wrong> {
         self.end_case()?;
-        self.common.clear();
-        let case = self.new_case(line).map_err(|wrong| wrong.at(line.number))?;
-        self.cases
-            .push(case)
-            .map_err(|error| Wrong::from(error).at(line.number))
-    }
-
-    // A case of this name, with no run yet.
-    fn new_case(&self, line: Line) -> Result<Case, Wrong> {
         if line.rest.is_empty() {
             return Err(Wrong::Nameless);
         }
-        Ok(Case {
-            name: String::from_str(self.alloc, line.rest)?,
-            line: line.number,
-            runs: Vec::new(self.alloc),
-        })
+        self.case = line.number;
+        self.runs = false;
+        self.input = false;
+        Ok(())
     }
 
     // Whether the last case has a run.
-    fn end_case(&self) -> Result<(), Fault> {
-        match self.cases.last() {
-            Some(case) if case.runs.is_empty() => Err(Wrong::NoRun.at(case.line)),
-            _ => Ok(()),
-        }
-    }
-
-    // Begins a run of the last case, for which the common lines hold.
-    fn begin_run(&mut self, line: Line) -> Result<(), Fault> {
-        self.push_run(line).map_err(|wrong| wrong.at(line.number))?;
-        let common = mem::replace(&mut self.common, Vec::new(self.alloc));
-        let done = self.add_all(&common);
-        self.common = common;
-        done
-    }
-
-    // Adds a run to the last case.
-    fn push_run(&mut self, line: Line) -> Result<(), Wrong> {
-        let words = words(self.alloc, line.rest)?;
-        let Some(case) = self.cases.last_mut() else {
-            return Err(Wrong::NoCase);
-        };
-        case.runs.push(Run::new(self.alloc, words))?;
-        Ok(())
-    }
-
-    // Does to the last run what these lines say.
-    fn add_all(&mut self, lines: &[Line]) -> Result<(), Fault> {
-        for line in lines {
-            self.add(*line)?;
+    fn end_case(&mut self) -> Result<(), Wrong> {
+        if self.case > 0 && !self.runs {
+            self.line = self.case;
+            return Err(Wrong::NoRun);
         }
         Ok(())
     }
 
-    // Does to the last run what a line says, if there is one in the last case.
-    fn add(&mut self, line: Line) -> Result<bool, Fault> {
-        let scope = Scope {
-            alloc: self.alloc,
-            line: line.number,
-            named: self.named.as_slice(),
-        };
-        let Some(case) = self.cases.last_mut() else {
-            return Err(Wrong::NoCase.at(line.number));
-        };
-        let Some(run) = case.runs.last_mut() else {
-            return Ok(false);
-        };
-        match marks::apply(scope, run, line.mark, line.rest) {
-            Ok(()) => Ok(true),
-            Err(wrong) => Err(wrong.at(line.number)),
+    // Begins a run of the last case, for which the lines above its first run hold.
+    fn begin_run(&mut self) {
+        if !self.runs {
+            self.runs = true;
+            self.common_input = self.input;
         }
+        self.input = self.common_input;
     }
 
-    // What the text of a line is read with.
-    fn scope(&self, line: u64) -> Scope<'_> {
+    // Checks a line of a run, or one that holds for each run of the last case.
+    fn check(&mut self, line: Line) -> Result<(), Wrong> {
+        check(self.scope(), line)?;
+        if line.mark == "with" && !self.input {
+            return Err(Wrong::NoInput);
+        }
+        if line.mark.starts_with('>') {
+            self.input = true;
+        }
+        Ok(())
+    }
+
+    // What the text of the line is read with.
+    fn scope(&self) -> Scope<'_> {
         Scope {
             alloc: self.alloc,
-            line,
-            named: self.named.as_slice(),
+            line: self.line,
+            named: self.script.named.as_slice(),
         }
     }
-}
-
-// The words of a command line: the program's name, and these.
-fn words(alloc: Global, rest: &str) -> Result<Vec<String>, Wrong> {
-    let mut words = Vec::new(alloc);
-    words.push(String::from_str(alloc, "im")?)?;
-    for word in rest.split_whitespace() {
-        words.push(String::from_str(alloc, word)?)?;
-    }
-    Ok(words)
 }

@@ -1,7 +1,7 @@
 //! How octets, lines and changing calls are shown.
 
 use crate::texts::{ZEROS, is_hex_octet};
-use im_cuts::after;
+use im_cuts::{after, cut};
 use im_disk::calls::Call;
 use std::alloc::{AllocError, Global};
 
@@ -13,30 +13,26 @@ pub fn octets(alloc: Global, octets: &[u8]) -> Result<String, AllocError> {
     if octets.is_empty() {
         return "nothing".to_string(alloc);
     }
-    let (front, more) = match octets.get(..MOST) {
-        Some(front) if octets.len() > MOST => (front, ".."),
-        _ => (octets, ""),
-    };
-    let mut out = hex::encode(alloc, front)?;
-    out.push_str(more)?;
+    let mut out = hex::encode(alloc, octets.get(..MOST).unwrap_or(octets))?;
+    if octets.len() > MOST {
+        out.push_str("..")?;
+    }
     Ok(out)
 }
 
-/// A line of a text: without its LF, and with a word where it lacks one.
-pub fn line(alloc: Global, line: Option<&[u8]>) -> Result<String, AllocError> {
-    let Some(line) = line else {
-        return "nothing".to_string(alloc);
-    };
-    if line == b"\n".as_slice() {
-        return "an empty line".to_string(alloc);
+/// The line that begins at a place of a text: without its LF, and with a word where it lacks one.
+pub fn line(alloc: Global, text: &[u8], start: usize) -> Result<String, AllocError> {
+    let text = text.get(start..).unwrap_or(&[]);
+    match cut(text, b'\n') {
+        Some(([], _)) => "an empty line".to_string(alloc),
+        Some((line, _)) => text_of(alloc, line),
+        None if text.is_empty() => "nothing".to_string(alloc),
+        None => {
+            let mut out = text_of(alloc, text)?;
+            out.push_str(" (without an LF)")?;
+            Ok(out)
+        }
     }
-    let (text, behind) = match line.strip_suffix(b"\n") {
-        Some(text) => (text, ""),
-        None => (line, " (without an LF)"),
-    };
-    let mut out = text_of(alloc, text)?;
-    out.push_str(behind)?;
-    Ok(out)
 }
 
 /// A text, in which digests under the sum are shown as `<xx>`.
@@ -48,45 +44,38 @@ pub fn text_of(alloc: Global, text: &[u8]) -> Result<String, AllocError> {
 fn shortened(alloc: Global, text: &[u8]) -> Result<Vec<u8>, AllocError> {
     let mut out = Vec::new(alloc);
     let mut done = 0;
-    for (at, octet) in text.iter().enumerate() {
+    for at in 0..text.len() {
         if at >= done {
-            match digest_digits(&text[at..]) {
-                Some(digits) => {
-                    done = at.saturating_add(ZEROS.len() + 2);
-                    push_digest(&mut out, digits)?;
-                }
-                None => out.push(*octet)?,
-            }
+            let taken = push_front(&mut out, &text[at..])?;
+            done = at.saturating_add(taken);
         }
     }
     Ok(out)
 }
 
-// The last two hex digits of a digest under the sum that a text begins with.
-fn digest_digits(text: &[u8]) -> Option<&[u8]> {
-    let digits = after(text, ZEROS)?.get(..2)?;
-    if digits.iter().all(|octet| is_hex_octet(*octet)) {
-        Some(digits)
-    } else {
-        None
+// Adds the first octet of a text, or `<xx>` for a digest under the sum, and tells how many octets it stands for.
+fn push_front(out: &mut Vec<u8>, text: &[u8]) -> Result<usize, AllocError> {
+    if let Some([first, second, ..]) = after(text, ZEROS) {
+        if is_hex_octet(*first) && is_hex_octet(*second) {
+            out.extend_from_slice(&[b'<', *first, *second, b'>'])?;
+            return Ok(64);
+        }
     }
-}
-
-// Adds `<xx>`.
-fn push_digest(out: &mut Vec<u8>, digits: &[u8]) -> Result<(), AllocError> {
-    out.push(b'<')?;
-    out.extend_from_slice(digits)?;
-    out.push(b'>')?;
-    Ok(())
+    out.extend_from_slice(text.get(..1).unwrap_or(text))?;
+    Ok(1)
 }
 
 /// Adds the line of each changing call.
 pub fn push_calls(alloc: Global, out: &mut String, calls: &[Call]) -> Result<(), AllocError> {
     for call in calls {
         match call {
-            Call::Wrote { file, at, piece } => {
-                push_write(alloc, out, *file as usize, *at, piece.as_slice())?
-            }
+            Call::Wrote { file, at, piece } => push_write(
+                alloc,
+                out,
+                *file,
+                *at,
+                piece.as_slice(),
+            )?,
             Call::Synced => out.push_str("sync\n")?,
             Call::Tore { .. } | Call::Missed => out.push_str("fail\n")?,
         }
@@ -98,7 +87,7 @@ pub fn push_calls(alloc: Global, out: &mut String, calls: &[Call]) -> Result<(),
 pub fn push_write(
     alloc: Global,
     out: &mut String,
-    file: usize,
+    file: u8,
     at: u64,
     octets: &[u8],
 ) -> Result<(), AllocError> {

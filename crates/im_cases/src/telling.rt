@@ -1,62 +1,77 @@
 //! What is told of a file of cases: each case that differs, and how many agree.
 
-use crate::cases::Case;
+use crate::lines::{Line, before};
 use crate::playing::play;
-use crate::reader::read;
+use crate::reader::{Script, read};
+use crate::texts::{Named, line_at};
 use crate::wrong::{Fault, Wrong};
 use std::alloc::Global;
 use std::io;
 
 /// Runs the cases of a file, tells each difference and at the end how many agree, and says whether all do.
 pub fn tell(rt: &(impl Print + Alloc<A = Global>), name: &str, octets: &[u8]) -> io::Result<bool> {
-    match cases_of(rt.alloc(), octets) {
-        Ok(cases) => {
-            let well = tell_all(rt, name, &cases);
-            drop(cases);
+    match script_of(rt.alloc(), octets) {
+        Ok(script) => {
+            let well = tell_all(rt, name, &script);
+            drop(script);
             well
         }
         Err(Fault { line, wrong }) => {
-            println!(rt; "{name} line {line}: {wrong}")?;
+            let words = wrong.words();
+            println!(rt; "{name} line {line}: {words}")?;
             tell_counts(rt, name, 0, 1)?;
             Ok(false)
         }
     }
 }
 
-// The cases that a file's octets say.
-fn cases_of(alloc: Global, octets: &[u8]) -> Result<Vec<Case>, Fault> {
+// The lines that a file's octets say.
+fn script_of(alloc: Global, octets: &[u8]) -> Result<Script<'_>, Fault> {
     match str::from_utf8(octets) {
         Ok(text) => read(alloc, text),
-        Err(error) => Err(Wrong::Encoding.at(line_at(octets, error.valid_up_to()))),
+        Err(error) => Err(Wrong::Encoding.at(line_at(octets, error.valid_up_to()).0)),
     }
-}
-
-// The number of the line that a place is in, from 1.
-fn line_at(octets: &[u8], place: usize) -> u64 {
-    let mut line = 1u64;
-    for octet in octets.iter().take(place) {
-        if *octet == b'\n' {
-            line = line.saturating_add(1);
-        }
-    }
-    line
 }
 
 // Runs cases, tells each difference and how many agree, and says whether all do.
-fn tell_all(rt: &(impl Print + Alloc<A = Global>), name: &str, cases: &[Case]) -> io::Result<bool> {
+fn tell_all(
+    rt: &(impl Print + Alloc<A = Global>),
+    name: &str,
+    script: &Script,
+) -> io::Result<bool> {
     let mut agree = 0u64;
     let mut differ = 0u64;
-    for case in cases {
-        match play(rt.alloc(), case)? {
-            Some(told) => {
-                println!(rt; "{name}: {}, {told}", case.name)?;
+    for (at, line) in script.lines.iter().enumerate() {
+        if line.mark == "=" {
+            if tell_case(rt, name, &script.named, &script.lines[at..])? {
+                agree = agree.saturating_add(1);
+            } else {
                 differ = differ.saturating_add(1);
             }
-            None => agree = agree.saturating_add(1),
         }
     }
     tell_counts(rt, name, agree, differ)?;
     Ok(differ == 0)
+}
+
+// Runs the case that these lines begin with, tells where it differs, and says whether it agrees.
+fn tell_case(
+    rt: &(impl Print + Alloc<A = Global>),
+    name: &str,
+    named: &[Named],
+    lines: &[Line],
+) -> io::Result<bool> {
+    let Some((first, behind)) = lines.split_first() else {
+        return Ok(true);
+    };
+    match play(rt.alloc(), named, before(behind, "="))? {
+        Some(told) => {
+            let case = first.rest;
+            println!(rt; "{name}: {case}, {told}")?;
+            Ok(false)
+        }
+        None => Ok(true),
+    }
 }
 
 // Tells how many cases of a file agree, and how many differ where some do.
@@ -66,9 +81,9 @@ fn tell_counts(rt: &impl Print, name: &str, agree: u64, differ: u64) -> io::Resu
     } else {
         "cases agree"
     };
-    match differ {
-        0 => println!(rt; "{name}: {agree} {agreeing}"),
-        1 => println!(rt; "{name}: {agree} {agreeing}, 1 differs"),
-        _ => println!(rt; "{name}: {agree} {agreeing}, {differ} differ"),
+    if differ == 0 {
+        return println!(rt; "{name}: {agree} {agreeing}");
     }
+    let differing = if differ == 1 { "differs" } else { "differ" };
+    println!(rt; "{name}: {agree} {agreeing}, {differ} {differing}")
 }

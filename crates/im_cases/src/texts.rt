@@ -29,28 +29,16 @@ pub struct Scope<'a> {
     pub named: &'a [Named],
 }
 
-// What a text begins with.
-#[derive(Clone, Copy)]
-enum Front<'t> {
-    // A digest under the sum, by the hex digits of its last octet.
-    Digest(&'t [u8]),
-    // The name of a text, in braces.
-    Name(&'t [u8]),
-    // An octet that stands for itself.
-    Octet(u8),
-}
-
 impl<'a> Scope<'a> {
     /// The octets that a text says.
     pub fn text(self, text: &str) -> Result<Vec<u8>, Wrong> {
         let mut out = Vec::new(self.alloc);
         let octets = text.as_bytes();
         let mut done = 0;
-        for (at, octet) in octets.iter().enumerate() {
+        for at in 0..octets.len() {
             if at >= done {
-                let front = front_of(&octets[at..], *octet);
-                done = at.saturating_add(length(front));
-                self.push_front(&mut out, front)?;
+                let taken = self.push_front(&mut out, &octets[at..])?;
+                done = at.saturating_add(taken);
             }
         }
         Ok(out)
@@ -66,31 +54,31 @@ impl<'a> Scope<'a> {
         None
     }
 
-    // Adds what the front of a text stands for.
-    fn push_front(self, out: &mut Vec<u8>, front: Front) -> Result<(), Wrong> {
-        match front {
-            Front::Digest(digits) => {
-                out.extend_from_slice(ZEROS)?;
-                out.extend_from_slice(digits)?;
-            }
-            Front::Name(name) => {
-                let text = self.find(name).ok_or(Wrong::Unnamed)?;
-                out.extend_from_slice(text)?;
-            }
-            Front::Octet(octet) => out.push(octet)?,
+    // Adds what the front of a text stands for, and tells how many octets stand for it.
+    fn push_front(self, out: &mut Vec<u8>, text: &[u8]) -> Result<usize, Wrong> {
+        if let Some(digits) = digest_digits(text) {
+            out.extend_from_slice(ZEROS)?;
+            out.extend_from_slice(digits)?;
+            return Ok(4);
         }
-        Ok(())
+        if let Some(name) = braced_name(text) {
+            let text = self.find(name).ok_or(Wrong::Unnamed)?;
+            out.extend_from_slice(text)?;
+            return Ok(name.len().saturating_add(2));
+        }
+        out.extend_from_slice(text.get(..1).unwrap_or(text))?;
+        Ok(1)
     }
 }
 
 /// Whether a text may be named so.
 pub fn is_name(name: &[u8]) -> bool {
-    !name.is_empty() && name.iter().all(|octet| is_name_octet(*octet))
-}
-
-// a-z 0-9 -
-fn is_name_octet(octet: u8) -> bool {
-    octet.is_ascii_lowercase() || octet.is_ascii_digit() || octet == b'-'
+    for octet in name {
+        if !octet.is_ascii_lowercase() && !octet.is_ascii_digit() && *octet != b'-' {
+            return false;
+        }
+    }
+    !name.is_empty()
 }
 
 /// Whether an octet is one of 0-9 a-f.
@@ -98,23 +86,13 @@ pub fn is_hex_octet(octet: u8) -> bool {
     octet.is_ascii_digit() || (b'a'..=b'f').contains(&octet)
 }
 
-// What a text begins with, whose first octet is this one.
-fn front_of(text: &[u8], octet: u8) -> Front<'_> {
-    let front = match octet {
-        b'<' => digest_digits(text).map(Front::Digest),
-        b'{' => braced_name(text).map(Front::Name),
-        _ => None,
-    };
-    front.unwrap_or(Front::Octet(octet))
-}
-
 // The two hex digits of a text that begins with `<xx>`.
 fn digest_digits(text: &[u8]) -> Option<&[u8]> {
-    let digits = after(text, b"<")?.get(..2)?;
-    if text.get(3) == Some(&b'>') && digits.iter().all(|octet| is_hex_octet(*octet)) {
-        Some(digits)
-    } else {
-        None
+    match text {
+        [b'<', first, second, b'>', ..] if is_hex_octet(*first) && is_hex_octet(*second) => {
+            text.get(1..3)
+        }
+        _ => None,
     }
 }
 
@@ -124,11 +102,15 @@ fn braced_name(text: &[u8]) -> Option<&[u8]> {
     if is_name(name) { Some(name) } else { None }
 }
 
-// How many octets the front of a text has.
-fn length(front: Front) -> usize {
-    match front {
-        Front::Digest(_) => 4,
-        Front::Name(name) => name.len().saturating_add(2),
-        Front::Octet(_) => 1,
+/// The number of the line that a place of a text is in, from 1, and where that line begins.
+pub fn line_at(text: &[u8], place: usize) -> (u64, usize) {
+    let mut number = 1u64;
+    let mut start = 0usize;
+    for (at, octet) in text.iter().take(place).enumerate() {
+        if *octet == b'\n' {
+            number = number.saturating_add(1);
+            start = at.saturating_add(1);
+        }
     }
+    (number, start)
 }
