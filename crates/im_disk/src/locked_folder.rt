@@ -1,5 +1,6 @@
-ghost use Rattle.std.specs.Prelude.{◌≡◌, ◌<◌, ◌+◌, ◌-◌, ◌^◌, ◌⊎◌, min};
+ghost use Rattle.std.specs.Prelude.{◌≡◌, ◌<◌, ◌+◌, ◌-◌, ◌^◌, ◌⊎◌, min, true, OnOk, IsSome, slice_set};
 ghost use Rattle.im_disk.specs.Causes.{HasCause};
+ghost use Rattle.im_disk.specs.Brought.{AllBrought};
 
 use crate::disk::{Disk, DiskError};
 use crate::folder::{FolderDisk, counted};
@@ -55,6 +56,7 @@ where
     fn hold(&mut self) -> Result<(), DiskError>
         ensures disk { self.new.disk ≡ self.old.disk }
         ensures cause { HasCause self.old.refused self.new.refused result }
+        ensures locked { OnOk result (IsSome self.new.lock.held) }
     {
         let answer = self.lock.hold().map_err(DiskError::from);
         counted(&mut self.refused, answer)
@@ -75,6 +77,7 @@ where
         requires { file < 16 }
         ensures cause { HasCause (self.old.disk.failures + self.old.refused) (self.new.disk.failures + self.new.refused) result }
         ensures held { (self.new.refused ≡ self.old.refused) ⊎ (self.new.disk ≡ self.old.disk) }
+        ensures locked { OnOk result (IsSome self.new.lock.held) }
     {
         self.hold()?;
         self.disk.len(file)
@@ -84,6 +87,7 @@ where
         requires { file < 16 }
         ensures cause { HasCause (self.old.disk.failures + self.old.refused) (self.new.disk.failures + self.new.refused) result }
         ensures held { (self.new.refused ≡ self.old.refused) ⊎ (self.new.disk ≡ self.old.disk) }
+        ensures locked { OnOk result (IsSome self.new.lock.held) }
     {
         self.hold()?;
         self.disk.read(file, at, buffer)
@@ -93,6 +97,8 @@ where
         requires { file < 16 }
         ensures cause { HasCause (self.old.disk.failures + self.old.refused) (self.new.disk.failures + self.new.refused) result }
         ensures held { (self.new.refused ≡ self.old.refused) ⊎ (self.new.disk ≡ self.old.disk) }
+        ensures locked { OnOk result (IsSome self.new.lock.held) }
+        ensures marked { OnOk result (self.new.disk.unsynced.files ≡ slice_set self.old.disk.unsynced.files file true) }
     {
         self.hold()?;
         self.disk.write_at(file, at, piece)
@@ -101,6 +107,8 @@ where
     fn sync(&mut self) -> Result<(), DiskError>
         ensures cause { HasCause (self.old.disk.failures + self.old.refused) (self.new.disk.failures + self.new.refused) result }
         ensures held { (self.new.refused ≡ self.old.refused) ⊎ (self.new.disk ≡ self.old.disk) }
+        ensures locked { OnOk result (IsSome self.new.lock.held) }
+        ensures brought { OnOk result (AllBrought self.new.disk.unsynced) }
     {
         self.hold()?;
         self.disk.sync()

@@ -1,4 +1,4 @@
-ghost use Rattle.std.specs.Prelude.{◌≡◌};
+ghost use Rattle.std.specs.Prelude.{◌≡◌, OnOk, IsSome};
 
 use std::alloc::Global;
 use std::fs::{File, Files, OpenOptions, TryLockError};
@@ -36,8 +36,8 @@ pub struct FileLock<'a, R: Files> {
     rt: &'a R,
     /// Where the file is.
     pub path: &'a str,
-    // The file, once it is locked.
-    held: Option<R::File>,
+    /// The file, once it is locked.
+    pub held: Option<R::File>,
 }
 
 impl<'a, R: Files> FileLock<'a, R> {
@@ -62,6 +62,7 @@ where
     /// system does.
     pub fn hold(&mut self) -> io::Result<()>
         ensures path { self.new.path ≡ self.old.path }
+        ensures held { OnOk result (IsSome self.new.held) }
     {
         if self.held.is_none() {
             let file = opened(self.rt, self.path)?;

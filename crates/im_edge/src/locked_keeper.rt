@@ -1,4 +1,4 @@
-ghost use Rattle.std.specs.Prelude.{◌≡◌, ◌+◌, ◌++◌, ◌∷◌, ◌⊎◌, [], IfOk, IfSome, OnOk, OnErr};
+ghost use Rattle.std.specs.Prelude.{◌≡◌, ◌+◌, ◌++◌, ◌∷◌, ◌⊎◌, [], IfOk, IfSome, IsSome, OnOk, OnErr};
 ghost use Rattle.std.specs.Option.{option_map};
 ghost use Rattle.im_edge.specs.Keepers.{KeepCause};
 
@@ -42,6 +42,7 @@ where
     fn hold(&mut self) -> Result<(), KeeperError>
         ensures inner { self.new.inner ≡ self.old.inner }
         ensures cause { KeepCause self.old.failures self.new.failures result }
+        ensures locked { OnOk result (IsSome self.new.lock.held) }
     {
         let answer = self.lock.hold().map_err(KeeperError::from);
         counted(&mut self.failures, answer)
@@ -61,6 +62,7 @@ where
         ensures kept { K.kept self.new.inner ≡ K.kept self.old.inner }
         ensures cause { KeepCause (K.faults self.old.inner + self.old.failures) (K.faults self.new.inner + self.new.failures) result }
         ensures held { (self.new.failures ≡ self.old.failures) ⊎ (self.new.inner ≡ self.old.inner) }
+        ensures locked { OnOk result (IsSome self.new.lock.held) }
     {
         self.hold()?;
         self.inner.lines(alloc)
@@ -71,6 +73,7 @@ where
         ensures err { OnErr result (K.kept self.new.inner ≡ K.kept self.old.inner) }
         ensures cause { KeepCause (K.faults self.old.inner + self.old.failures) (K.faults self.new.inner + self.new.failures) result }
         ensures held { (self.new.failures ≡ self.old.failures) ⊎ (self.new.inner ≡ self.old.inner) }
+        ensures locked { OnOk result (IsSome self.new.lock.held) }
     {
         self.hold()?;
         self.inner.append(line)
