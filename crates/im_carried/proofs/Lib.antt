@@ -1,0 +1,6 @@
+pub mod ChainLemmas
+pub mod AdvanceLemmas
+pub mod OpenLemmas
+pub mod HeldLemmas
+pub mod ShowLemmas
+pub mod PassLemmas

@@ -1,0 +1,11 @@
+//! Whether two things that one digest was shown for are equal: they are, or there are two unequal strings of
+//! one digest.
+#![tactic(auto)]
+
+pub mod entries;
+pub mod headers;
+pub mod nodes;
+mod parts;
+mod ranges;
+pub mod same;
+mod strings;

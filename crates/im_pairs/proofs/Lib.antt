@@ -1,0 +1,5 @@
+pub mod PairLemmas
+pub mod FieldLemmas
+pub mod UpLemmas
+pub mod HeaderLemmas
+pub mod EntryLemmas

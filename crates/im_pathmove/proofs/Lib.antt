@@ -1,0 +1,3 @@
+pub mod CarryLemmas
+pub mod WalkLemmas
+pub mod TurnLemmas
