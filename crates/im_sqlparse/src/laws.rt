@@ -7,7 +7,8 @@ ghost use Rattle.im_sqlparse.specs.Lists.{IsWhole};
 ghost use Rattle.im_sqlparse.specs.Statements.{order_term};
 ghost use Rattle.im_sqlparse.specs.Values.{column, row, value};
 
-/// No list ends at its bound: each is one, and where its mark comes next a list again, however long it is.
+/// No list with a mark between its items ends at its bound: each is one item, and where its mark comes next a list
+/// again, however long it is. Of the columns of CREATE TABLE, whose rule has a bound of its own, no law speaks.
 pub fn lists_are_whole()
     ensures columns { (rev : Bool) → IsWhole k.Comma (column rev) }
     ensures values { IsWhole k.Comma value }

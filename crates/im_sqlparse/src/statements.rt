@@ -1,6 +1,7 @@
 use sqlite_items::{Boxed, Items};
 
-/// A name, in lower case: 1 to 48 of a-z, 0-9 and `_`, a letter first. In a SELECT it may be `_rev`.
+/// A name, in lower case: 1 to 48 of a-z, 0-9 and `_`, a letter first. Where a column of a SELECT stands it may be
+/// `_rev`.
 pub type Name = Items<u8>;
 
 /// A value as it is written.
@@ -71,9 +72,9 @@ pub enum Operand {
 /// Which rows are meant. Conditions stand in one another at most 64 deep, by `NOT` and parentheses.
 #[derive(Drop)]
 pub enum Condition {
-    /// One of these holds. There are two or more.
+    /// One of these holds. There are one or more.
     Any(Items<Condition>),
-    /// All of these hold. There are two or more.
+    /// All of these hold. There are one or more.
     All(Items<Condition>),
     /// It doesn't hold.
     Not(Boxed<Condition>),

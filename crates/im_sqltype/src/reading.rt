@@ -163,7 +163,7 @@ fn read_front(alloc: Global, kind: Kind, text: &[u8]) -> Result<Option<(Value, &
 ///
 /// # Errors
 ///
-/// `NotText` where no value of this kind, nor NULL, has this text.
+/// `NotText` where no value of this kind, nor NULL, has this text. `Memory` where memory runs out.
 #[tactic(auto, using(crate::proofs::RowLemmas::whole_values))]
 pub fn read_value(alloc: Global, kind: Kind, text: &[u8]) -> Result<Value, ReadError>
     ensures value { IfOk result (λ value. IsOfKind kind value × (text.now ≡ value_text value)) }
@@ -205,7 +205,7 @@ fn read_values<'t>(
 ///
 /// # Errors
 ///
-/// `NotText` where no values of these kinds have these texts.
+/// `NotText` where no values of these kinds have these texts. `Memory` where memory runs out.
 #[tactic(auto, using(crate::proofs::RowLemmas::whole_rows))]
 pub fn read_row(alloc: Global, kinds: &[Kind], text: &[u8]) -> Result<Row, ReadError>
     ensures row { IfOk result (λ row. AreOfKinds kinds.now row × (text.now ≡ row_text row)) }
