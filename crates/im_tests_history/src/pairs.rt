@@ -5,13 +5,21 @@
 //! over 1 and 3 is 5, and one over it and 2 is 8 too, as the root of three is; so the path 3, 2 passes, and its
 //! node next to the root is of 5 and 2, the list's of 4 and 3.
 
-use crate::values::{are, digest};
+ghost use Rattle.std.specs.Prelude.{◌≡◌, []};
+ghost use Rattle.im_digest.specs.Digests.{sum_digest};
+ghost use Rattle.im_model.specs.Entries.{entry_digest};
+ghost use Rattle.im_model.specs.Paths.{up};
+
+use crate::values::{are, digest, entry_of};
 use im_atree::growths::terms_between;
 use im_digest::{D32, Sum};
+use im_entry::digests::digest as digest_of;
+use im_forge::entries::same_entry;
 use im_forge::headers::same_header;
 use im_forge::nodes::same_node;
 use im_forge::same::Same;
 use im_header::alh;
+use im_model::entries::Entry;
 use im_model::growth::older_root;
 use im_model::headers::Header;
 use im_model::limits::Metadata;
@@ -171,9 +179,36 @@ fn a_header_is_itself(alloc: Global) -> Result<bool, AllocError> {
     }
 }
 
+// The root over one entry, by the empty path.
+fn root_over(entry: &Entry) -> D32
+    ensures { result ≡ up sum_digest 1 0 (entry_digest sum_digest entry.now) [] }
+{
+    let leaf = digest_of(&Sum, entry);
+    root_by_path(&Sum, 1, 0, &leaf, &[])
+}
+
+// Two entries of one transaction each, that set k to values of one sum.
+fn entries_are_compared(alloc: Global) -> Result<bool, Fail> {
+    let entry = entry_of(alloc, &(b"", b"k", b"ab"))?;
+    let other = entry_of(alloc, &(b"", b"k", b"ba"))?;
+    if root_over(&entry) != root_over(&other) {
+        return Ok(false);
+    }
+    if terms_of(0, 1) != 0 {
+        return Ok(false);
+    }
+    match same_entry(alloc, &Sum, 1, 0, &entry, &[], &other, &[])? {
+        Same::Pair { x, y } => {
+            Ok(x.as_slice() == b"ab".as_slice() && y.as_slice() == b"ba".as_slice())
+        }
+        Same::Equal => Ok(false),
+    }
+}
+
 #[test]
 fn things_of_one_sum_are_told_apart(rt: HostRuntime) -> Result<(), Fail> {
     assert!(rt; nodes_are_compared(rt.alloc())?);
     assert!(rt; headers_are_compared(rt.alloc())? && a_header_is_itself(rt.alloc())?);
+    assert!(rt; entries_are_compared(rt.alloc())?);
     Ok(())
 }
