@@ -3,7 +3,7 @@
 //! `trees` and `chains` have worked values of hash trees and chains, and compare the code with the plain program;
 //! `entries` has what becomes of drafts; `reads` and `refusals` have what is told of keys and preconditions, by the
 //! plain program, by an index and its snapshots, and by a book; `books` has the headers of a book; `attack` is the
-//! attack that was published against linear proofs.
+//! attack that was published against linear proofs; `pairs` has paths that are carried, and two strings of one digest.
 #![tactic(auto)]
 
 #[cfg(test)]
@@ -14,6 +14,8 @@ mod books;
 mod chains;
 #[cfg(test)]
 mod entries;
+#[cfg(test)]
+mod pairs;
 #[cfg(test)]
 mod reads;
 #[cfg(test)]
