@@ -17,7 +17,8 @@ use Rattle.im_mtree.proofs.InclusionLemmas.{inclusion-exact, inclusion-leads}
 use Rattle.im_proof.specs.Built.{path_of, growth_first, growth_rest, consistency}
 use Rattle.im_proof.specs.TreeChecks.{inclusion_checks, consistency_checks, last_checks, bl_checks}
 use Rattle.im_proof.specs.declared.faults.DualFault.TheVariants.{ConsistencyLength, ConsistencyOld, ConsistencyNew, BlAlh}
-use Rattle.im_proof.proofs.HoldLemmas.{bytes-same, one-holds, two-hold, three-hold, when-true, when-false}
+use Rattle.im_octet.proofs.Common.{bytes-same}
+use Rattle.im_mtree.proofs.CheckLemmas.{one-holds, two-hold, three-hold, when-true, when-false}
 use Rattle.im_atree.proofs.GrowLemmas.{less}
 use Rattle.im_atree.proofs.BuiltLemmas.{Steps, low-steps, high-steps, whole-list, list_whole, list_grown}
 

@@ -7,7 +7,8 @@ use Rattle.im_model.specs.Chains.{link_string, chain}
 use Rattle.im_mtree.specs.Checks.{first_fail}
 use Rattle.im_proof.specs.Built.{linear_terms, AreLinked}
 use Rattle.im_proof.specs.ChainChecks.{linear_checks}
-use Rattle.im_proof.proofs.HoldLemmas.{bytes-same, three-hold}
+use Rattle.im_octet.proofs.Common.{bytes-same}
+use Rattle.im_mtree.proofs.CheckLemmas.{three-hold}
 
 -- a chain from the Alh at place i along the next j inner digests
 pub chain-linked : (hash : Hash) (alhs inners : List (List ℕ)) → AreLinked hash alhs inners → (j i : ℕ) → i + j < length alhs → i + j < length inners

@@ -1,4 +1,3 @@
-pub mod NamedLemmas
 pub mod OutcomeLemmas
 pub mod TextLemmas
 pub mod OutcomeSome

@@ -20,20 +20,11 @@ use Rattle.im_proof.specs.declared.proofs.AdvanceProof.{AdvanceProof}
 use Rattle.im_proof.specs.declared.proofs.DualProof.{DualProof}
 use Rattle.im_proof.specs.declared.faults.DualFault.{DualFault}
 use Rattle.im_proof.specs.declared.faults.DualFault.TheVariants.{Source, Target, Order, Shrink, AdvanceLength, AdvanceCount, AdvanceEnd}
-use Rattle.im_proof.proofs.HoldLemmas.{bytes-same, one-holds, two-hold, two-then, both-hold, when-true, when-false}
+use Rattle.im_octet.proofs.Common.{bytes-same}
+use Rattle.im_mtree.proofs.CheckLemmas.{one-holds, two-hold, two-then, both-hold, when-true, when-false}
+use Rattle.im_proof.proofs.NamedLemmas.{holds_named}
 use Rattle.im_chain.proofs.LinearLemmas.{chain-linked, linear_passes}
 use Rattle.im_atree.proofs.PassLemmas.{not-none, path-in_front, inclusion-passes, consistency-passes, last-passes, bl-passes}
-
-named-step : {F G : Type 0} → (name : F → G) (holds : Bool) (f : F) (r : Result (Unit {0}) F) (s : Result (Unit {0}) G) → (r ≡ Ok tt → s ≡ Ok tt)
-    → (if holds then r else Err f) ≡ Ok tt → (if holds then s else Err (name f)) ≡ Ok tt
-named-step name true f r s next e = next e
-named-step name false f r s next e = absurd cc
-
--- checks that hold do so by other names
-named-hold : {F G : Type 0} → (name : F → G) (checks : List (Check F)) → first_fail checks ≡ Ok tt → first_fail (as_faults name checks) ≡ Ok tt
-named-hold name [] e = refl
-named-hold name (check ∷ checks) e =
-    named-step name (check.0) (check.1) (first_fail checks) (first_fail (as_faults name checks)) (named-hold name checks) e
 
 -- the paths of an advance lead to the root
 paths-pass : (hash : Hash) (alhs inners : List (List ℕ)) (size : ℕ) (top : List ℕ) → AreLinked hash alhs inners → size ≤ length alhs → (0 < size → top ≡ root hash (take size alhs))
@@ -144,8 +135,8 @@ unfolding both_headers_checks
 headers-pass source target p q order shrink =
     let of_source : List (Check DualFault) = as_faults Source (header_checks source) in
     let of_target : List (Check DualFault) = as_faults Target (header_checks target) in
-    both-hold of_source (of_target ++ order_checks source target) (named-hold Source (header_checks source) p)
-    (both-hold of_target (order_checks source target) (named-hold Target (header_checks target) q)
+    both-hold of_source (of_target ++ order_checks source target) (holds_named Source (header_checks source) p)
+    (both-hold of_target (order_checks source target) (holds_named Target (header_checks target) q)
     (two-hold (nat_le source.id target.id) (nat_le source.bl_tx_id target.bl_tx_id) (Order source.id target.id) (Shrink source.bl_tx_id target.bl_tx_id)
     (le-leb source.id target.id order) (le-leb source.bl_tx_id target.bl_tx_id shrink)))
 

@@ -16,7 +16,7 @@ use Rattle.im_proof.specs.HeaderChecks.{header_checks}
 use Rattle.im_proof.specs.Duals.{dual_checks}
 use Rattle.im_proof.specs.Built.{inners_from, inners_of, dual_of, AreLinked, IsRecorded}
 use Rattle.im_proof.specs.declared.faults.HeaderFault.TheVariants.{Version, Entries, Tree}
-use Rattle.im_proof.proofs.HoldLemmas.{three-hold}
+use Rattle.im_mtree.proofs.CheckLemmas.{three-hold}
 use Rattle.im_dual.proofs.PassLemmas.{dual_passes}
 
 -- the Alh, and that of one more transaction

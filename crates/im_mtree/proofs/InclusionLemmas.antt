@@ -13,6 +13,7 @@ use Rattle.im_model.proofs.Steps.{up-leaf, up-left, up-right}
 use Rattle.im_mtree.specs.Checks.{first_fail}
 use Rattle.im_mtree.specs.Inclusion.{inclusion_within, inclusion}
 use Rattle.im_mtree.specs.PathChecks.{path_checks}
+use Rattle.im_mtree.proofs.CheckLemmas.{three-hold}
 
 few-within : (room : ℕ) (hash : Hash) (digests : List (List ℕ)) (i : ℕ) → length digests ≤ 1 → inclusion_within room hash digests i ≡ []
 unfolding inclusion_within
@@ -212,13 +213,6 @@ path_exact hash digests path i h e = sym (length-reverse path) ∙ ap (λ p. len
 pub path_leads : (hash : Hash) (digests path : List (List ℕ)) (i : ℕ) → i < length digests → reverse path ≡ inclusion hash digests i
     → up hash (length digests) i (get_or digests i []) (reverse path) ≡ root hash digests
 path_leads hash digests path i h e = ap (λ p. up hash (length digests) i (get_or digests i []) p) e ∙ inclusion-leads hash digests i h
-
--- three checks that hold leave no fault
-three-hold : {F : Type 0} → (a b c : Bool) (f g h : F) → a ≡ true → b ≡ true → c ≡ true → first_fail ((a, f) ∷ (b, g) ∷ (c, h) ∷ []) ≡ Ok tt
-three-hold a b c f g h p q r =
-    ap (λ x. first_fail ((x, f) ∷ (b, g) ∷ (c, h) ∷ [])) p
-    ∙ ap (λ x. first_fail ((x, g) ∷ (c, h) ∷ [])) q
-    ∙ ap (λ x. first_fail ((x, h) ∷ [])) r
 
 -- the path of a leaf passes its check
 pub inclusion-passes : (hash : Hash) (digests : List (List ℕ)) (i : ℕ) → i < length digests

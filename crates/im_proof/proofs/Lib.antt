@@ -1,2 +1,2 @@
 pub mod HeaderLemmas
-pub mod HoldLemmas
+pub mod NamedLemmas

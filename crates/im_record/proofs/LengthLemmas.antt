@@ -9,7 +9,7 @@ use Rattle.im_format.specs.Reading.{Slot, slot_at}
 use Rattle.im_format.specs.declared.damages.Damage.{Damage}
 use Rattle.im_format.specs.declared.references.ValueRef.{ValueRef}
 use Rattle.im_record.specs.Slots.{HaveLengths, ref_part, slot_checks_by}
-use Rattle.im_record.proofs.FailLemmas.{fail_both, then_check}
+use Rattle.im_mtree.proofs.CheckLemmas.{fail_both, then_check}
 
 -- the checks of a reference of transaction id, where its log is one, and has so many octets
 abbrev pub ref_list : List ℕ → ℕ → ℕ → ValueRef → Bool → ℕ → List (Check Damage)

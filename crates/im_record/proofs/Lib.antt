@@ -1,6 +1,5 @@
 pub mod AtLemmas
 pub mod BackLemmas
-pub mod FailLemmas
 pub mod LengthLemmas
 pub mod NumberLemmas
 pub mod PartLemmas

@@ -22,7 +22,7 @@ use Rattle.im_record.specs.Back.{FitsEntry, FitsRecord, FitsRef, HasAt, Holds, I
 use Rattle.im_record.specs.Slots.{AreAttributes}
 use Rattle.im_record.proofs.AtLemmas.{HasAt-front, HasAt-back, HasAt-moved, HasAt-within}
 use Rattle.im_record.proofs.BackLemmas.{entry-back, length-entry, length-head, record-back}
-use Rattle.im_record.proofs.FailLemmas.{all-hold, both-hold, none-fails}
+use Rattle.im_mtree.proofs.CheckLemmas.{all-hold, both-hold, none-fails}
 use Rattle.im_record.proofs.NumberLemmas.{Put, put}
 
 -- equal octets are found equal

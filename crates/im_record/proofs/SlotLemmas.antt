@@ -5,7 +5,7 @@ use Rattle.im_format.specs.Damages.{slot_key_checks}
 use Rattle.im_format.specs.Reading.{number2, slot_at}
 use Rattle.im_format.specs.declared.damages.Damage.{Damage}
 use Rattle.im_record.specs.Slots.{md_part, key_part, ref_part, slot_checks_by}
-use Rattle.im_record.proofs.FailLemmas.{fail_append}
+use Rattle.im_mtree.proofs.CheckLemmas.{fail_append}
 
 -- the checks of the key
 pub key-part : (log : List ℕ) (keys : List (List ℕ)) (at : ℕ)

@@ -26,7 +26,7 @@ use Rattle.im_record.specs.Back.{AreOctets, HasAt, IsWritten, record_in}
 use Rattle.im_record.specs.Slots.{AreAttributes, ref_at}
 use Rattle.im_record.proofs.AtLemmas.{HasAt-both, HasAt-moved, length-field2, length-field4, length-field8, length-signed}
 use Rattle.im_record.proofs.BackLemmas.{length-entry, length-head}
-use Rattle.im_record.proofs.FailLemmas.{AllHold, all-hold, each-holds}
+use Rattle.im_mtree.proofs.CheckLemmas.{AllHold, all-hold, each-holds}
 use Rattle.im_record.proofs.NumberLemmas.{Put, put}
 use Rattle.im_record.proofs.PassLemmas.{IsFineSlot}
 use Rattle.im_record.proofs.ThereLemmas.{HasAt-number2, HasAt-number4, HasAt-number8, HasAt-octet, HasAt-octets, HasAt-signed, length-octets_at, signed-fits}

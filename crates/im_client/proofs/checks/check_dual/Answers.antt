@@ -1,7 +1,7 @@
 use Rattle.std.proofs.Common.{sym}
 use Rattle.im_proof.specs.Duals.{dual_checks}
 use Rattle.im_client.specs.declared.faults.LineFault.TheVariants.{Dual}
-use Rattle.im_client.proofs.NamedLemmas.{holds_named, fails_named}
+use Rattle.im_proof.proofs.NamedLemmas.{holds_named, fails_named}
 use Rattle.im_client.proofs.checks.check_dual.Goals as goal
 
 pub returns-in-Ok : goal.returns-in-Ok
