@@ -3,14 +3,14 @@ use Rattle.std.proofs.Common.{◌≡◌, ◌≤◌, ℕ, zero, suc, List, [], �
 use Rattle.std.specs.Fmt.{decimal}
 use Rattle.std.specs.List.{flat_map}
 use Rattle.std.proofs.lemmas.Fmt.{decimal_injective}
-use Rattle.im_cuts.specs.Cuts.{Lacks}
-use Rattle.im_cuts.specs.Lines.{AreTexts}
-use Rattle.im_cuts.proofs.CutLemmas.{append-same, cut-unique, head-is, Lacks-append}
-use Rattle.im_cuts.proofs.LineLemmas.{texts-unique}
-use Rattle.im_cuts.proofs.WordLemmas.{Lacks-word}
+use Rattle.im_text.specs.Cuts.{Lacks}
+use Rattle.im_text.specs.Lines.{AreTexts}
+use Rattle.im_text.proofs.CutLemmas.{append-same, cut-unique, head-is, Lacks-append}
+use Rattle.im_text.proofs.LineLemmas.{texts-unique}
+use Rattle.im_text.proofs.WordLemmas.{Lacks-word}
 use Rattle.im_digest.specs.Digests.{Hash}
 use Rattle.im_model.specs.declared.transactions.Transaction.{Transaction}
-use Rattle.im_talk.specs.Fields.{is_session_octet, IsSession}
+use Rattle.im_text.specs.Fields.{is_session_octet, IsSession}
 use Rattle.im_script.specs.Script.{IsScript, Say}
 use Rattle.im_script.specs.declared.commands.Line.{Line}
 use Rattle.im_report.specs.Report.{Answered, Report, reply_line, written}

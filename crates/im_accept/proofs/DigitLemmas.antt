@@ -6,10 +6,9 @@ use Rattle.std.specs.Char.{is_ascii_digit}
 use Rattle.std.proofs.lemmas.Bool.{and_from, le-leb}
 use Rattle.std.proofs.lemmas.Bool.Decides.{nat_tests}
 use Rattle.std.proofs.lemmas.Fmt.{decimal_nonempty, length-decimal-le}
-use Rattle.im_cuts.specs.Cuts.{Lacks}
-use Rattle.im_cuts.specs.Words.{is_word}
-use Rattle.im_cuts.proofs.CutLemmas.{Lacks-of}
-use Rattle.im_wire.specs.Lines.{IsDigits}
+use Rattle.im_text.specs.Cuts.{Lacks}
+use Rattle.im_text.specs.Words.{is_word, IsDigits}
+use Rattle.im_text.proofs.CutLemmas.{Lacks-of}
 
 glyph-digit : (d : ℕ) → d < 10 → is_ascii_digit (digit_glyph false d) ≡ true
 glyph-digit d h = grind (arith, nat_tests)

@@ -10,11 +10,11 @@ use Rattle.hex.specs.Hex.{encode_lower, encode_with, lower_digits}
 use Rattle.json.specs.Print.{escape, escape_byte, escape_letter, quoted}
 use Rattle.serde_json.specs.Data.{Data, Items, Members, no_items, item, no_members, member, null, boolean, number, string, array, object, unsigned, negative, float, Num}
 use Rattle.serde_json.specs.Written.{comma_if, compact_text, items_text, members_text, number_text}
-use Rattle.im_cuts.specs.Cuts.{Lacks}
-use Rattle.im_cuts.proofs.CutLemmas.{Lacks-append, Lacks-of}
+use Rattle.im_text.specs.Cuts.{Lacks}
+use Rattle.im_text.proofs.CutLemmas.{Lacks-append, Lacks-of}
 use Rattle.im_model.specs.declared.headers.Header.{Header as TheHeader}
-use Rattle.im_talk.specs.Fields.{is_bare, is_bare_octet}
-use Rattle.im_talk.specs.Texts.{header_text, header_front, header_middle, header_back}
+use Rattle.im_text.specs.Fields.{is_bare, is_bare_octet}
+use Rattle.im_wire.specs.Headers.{header_text, header_front, header_middle, header_back}
 use Rattle.im_wire.specs.Texts.{text, message_data}
 use Rattle.im_wire.specs.declared.messages.Message.{Message}
 use Rattle.im_report.specs.Reads.{octets_text}

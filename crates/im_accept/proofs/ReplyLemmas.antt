@@ -4,8 +4,8 @@ use Rattle.std.specs.Fmt.{decimal}
 use Rattle.std.specs.List.{flat_map}
 use Rattle.std.proofs.lemmas.List.Folds.{list_all-append}
 use Rattle.hex.specs.Hex.{encode_lower}
-use Rattle.im_cuts.specs.Cuts.{Lacks}
-use Rattle.im_cuts.proofs.CutLemmas.{Lacks-append}
+use Rattle.im_text.specs.Cuts.{Lacks}
+use Rattle.im_text.proofs.CutLemmas.{Lacks-append}
 use Rattle.im_digest.specs.Digests.{Hash}
 use Rattle.im_model.specs.Headers.{alh}
 use Rattle.im_model.specs.History.{header_of, transaction_of}
@@ -21,7 +21,7 @@ use Rattle.im_versions.specs.declared.versions.Version.{Version}
 use Rattle.im_versions.specs.declared.refusals.PlaceError.{PlaceError}
 use Rattle.im_versions.specs.declared.refusals.PlaceError.TheVariants as place
 use Rattle.im_proof.specs.declared.proofs.DualProof.{DualProof}
-use Rattle.im_talk.specs.Texts.{header_text}
+use Rattle.im_wire.specs.Headers.{header_text}
 use Rattle.im_wire.specs.Texts.{text}
 use Rattle.im_wire.specs.declared.messages.Message.TheVariants as says
 use Rattle.im_script.specs.declared.commands.Command.{Command}

@@ -10,7 +10,7 @@ use Rattle.im_model.specs.declared.transactions.Transaction.{Transaction}
 use Rattle.im_model.proofs.HistoryLemmas.{IsHistory-take}
 use Rattle.im_plain.proofs.HeaderLemmas.{header-prefix}
 use Rattle.im_mtree.specs.Checks.{first_fail}
-use Rattle.im_talk.specs.Fields.{IsSession}
+use Rattle.im_text.specs.Fields.{IsSession}
 use Rattle.im_wire.specs.Lines.{is_open, IsReply}
 use Rattle.im_wire.specs.Messages.{HasMessage}
 use Rattle.im_wire.specs.Texts.{text}

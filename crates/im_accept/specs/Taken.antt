@@ -5,7 +5,7 @@ use Rattle.im_digest.specs.Digests.{Hash}
 use Rattle.im_model.specs.History.{header_of}
 use Rattle.im_model.specs.declared.headers.Header.{Header as TheHeader}
 use Rattle.im_model.specs.declared.transactions.Transaction.{Transaction}
-use Rattle.im_talk.specs.Fields.{IsSession}
+use Rattle.im_text.specs.Fields.{IsSession}
 use Rattle.im_wire.specs.Lines.{is_open, IsLine}
 use Rattle.im_wire.specs.Texts.{text}
 use Rattle.im_wire.specs.declared.messages.Message.{Message}

@@ -1,7 +1,7 @@
 //! What holds of the definitions. Each function does nothing, and its contract is the law.
 
 ghost use Rattle.std.specs.Prelude.{◌≡◌, ℕ, List, map, true};
-ghost use Rattle.im_cuts.specs.Lines.{AreTexts};
+ghost use Rattle.im_text.specs.Lines.{AreTexts};
 ghost use Rattle.im_digest.specs.Digests.{Hash};
 ghost use Rattle.im_model.specs.declared.transactions.Transaction.{Transaction};
 ghost use Rattle.im_report.specs.Report.{Report};

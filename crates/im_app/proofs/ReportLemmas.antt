@@ -11,7 +11,7 @@ use Rattle.im_format.specs.Batches.{gate_of}
 use Rattle.im_format.specs.Standing.{HasBatches, Stands}
 use Rattle.im_format.specs.declared.records.Record.{Record}
 use Rattle.im_model.specs.declared.transactions.Transaction.{Transaction}
-use Rattle.im_talk.specs.Fields.{IsSession}
+use Rattle.im_text.specs.Fields.{IsSession}
 use Rattle.im_script.specs.declared.commands.Line.{Line}
 use Rattle.im_accept.specs.Taken.{HaveSessions}
 use Rattle.im_accept.proofs.CutLemmas.{report-texts, script-sessions}

@@ -1,7 +1,7 @@
 -- What a run of a script does.
 use Rattle.std.specs.Prelude.{◌≡◌, ◌⊎◌, ℤ, ℕ, ◌≤◌, ◌<◌, List, [], ◌++◌, length, map, take, drop, All, Option, Some, IfSome, Result, Ok, Err}
 use Rattle.std.specs.Io.KnownBytes.{Appends}
-use Rattle.im_cuts.specs.Lines.{AreTexts}
+use Rattle.im_text.specs.Lines.{AreTexts}
 use Rattle.im_edge.specs.Counts.{Rose}
 use Rattle.im_digest.specs.Digests.{Hash}
 use Rattle.im_disk.specs.Disk.{Files, Told, after, seen}

@@ -2,7 +2,7 @@ ghost use Rattle.std.specs.Prelude.{◌≡◌, ◌++◌, codes, IfOk, OnOk};
 ghost use Rattle.im_app.specs.Damages.{damage_words, difference_words};
 
 use im_format::damages::{Damage, Difference};
-use im_talk::texts::{push_hex, push_number};
+use im_text::writing::{push_hex, push_number};
 use std::alloc::{AllocError, Global};
 
 // Adds what was wanted and what was found.

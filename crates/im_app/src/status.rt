@@ -3,7 +3,7 @@ ghost use Rattle.im_app.specs.Statuses.{behind_words, code_of, text_of, words_of
 
 use crate::damage::damage_text;
 use im_format::damages::Damage;
-use im_talk::texts::push_number;
+use im_text::writing::push_number;
 use std::alloc::{AllocError, Global};
 
 /// How a run of the program ended. The program's exit status is the number at each.

@@ -4,7 +4,7 @@ use crate::lines::{Line, Run, push_text};
 use crate::octets::{number, octets};
 use crate::texts::Scope;
 use crate::wrong::{Fault, Wrong};
-use im_cuts::after;
+use im_text::cuts::after;
 use std::alloc::Global;
 
 /// One text in place of another, at the first place where that stands.

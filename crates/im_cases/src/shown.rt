@@ -1,8 +1,8 @@
 //! How octets, lines and changing calls are shown.
 
 use crate::texts::{ZEROS, is_hex_octet};
-use im_cuts::{after, cut};
 use im_disk::calls::Call;
+use im_text::cuts::{after, cut};
 use std::alloc::{AllocError, Global};
 
 // How many octets are shown.

@@ -1,7 +1,7 @@
 //! Texts as they stand in a file of cases: `<xx>` is a digest under the sum, and `{NAME}` a named text.
 
 use crate::wrong::Wrong;
-use im_cuts::{after, cut};
+use im_text::cuts::{after, cut};
 use std::alloc::Global;
 
 /// What a digest under the sum begins with, in hex.

@@ -7,13 +7,13 @@ use Rattle.std.specs.Char.{is_ascii_digit}
 use Rattle.std.specs.Str.{is_utf8}
 use Rattle.serde_json.specs.Data.{Data}
 use Rattle.serde_json.specs.Read.{read}
-use Rattle.im_cuts.specs.Cuts.{IsCut, Lacks}
-use Rattle.im_cuts.specs.Words.{is_word}
-use Rattle.im_cuts.proofs.DecideLemmas.{CutOrNone, cut-tells, truth}
+use Rattle.im_text.specs.Cuts.{IsCut, Lacks}
+use Rattle.im_text.specs.Words.{is_word}
+use Rattle.im_text.proofs.DecideLemmas.{CutOrNone, cut-tells, truth}
 use Rattle.im_digest.specs.Digests.{Hash}
 use Rattle.im_model.specs.declared.headers.Header.{Header}
 use Rattle.im_mtree.specs.Checks.{first_fail}
-use Rattle.im_talk.specs.Fields.{is_session_octet}
+use Rattle.im_text.specs.Fields.{is_session_octet}
 use Rattle.im_wire.specs.Lines.{IsLine, IsReply, IsShown, is_open}
 use Rattle.im_wire.specs.Messages.{HasMessage, message_of}
 use Rattle.im_wire.specs.declared.messages.Message.{Message}

@@ -7,7 +7,7 @@ use crate::outcomes::Outcome;
 use im_digest::D32;
 use im_mtree::faults::PathFault;
 use im_proof::faults::{DualFault, HeaderFault};
-use im_talk::texts::{push_hex, push_number};
+use im_text::writing::{push_hex, push_number};
 use im_wire::messages::Message;
 use std::alloc::{AllocError, Global};
 

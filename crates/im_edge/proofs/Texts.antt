@@ -1,7 +1,7 @@
 -- Texts of lines that are read one after the other.
 use Rattle.std.proofs.Common.{◌≡◌, ◌∙◌, ◌==◌, ◌++◌, ◌∷◌, List, [], ℕ, length, true, refl, ap, subst, sym, append-nil, append_assoc, arith}
 use Rattle.std.proofs.lemmas.Bool.{eqb-true}
-use Rattle.im_cuts.specs.Lines.{AreTexts}
+use Rattle.im_text.specs.Lines.{AreTexts}
 
 -- one text more stands behind those that were read
 pub one-more : (octets : List ℕ) (read now : List (List ℕ)) (text : List ℕ) (tail : List (List ℕ)) → now ≡ read ++ text ∷ [] → AreTexts octets (read ++ text ∷ tail)

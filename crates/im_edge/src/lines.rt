@@ -1,9 +1,9 @@
 //! Lines of a text, each ended by LF.
 ghost use Rattle.std.specs.Prelude.{◌≡◌, [], ◌∷◌, ◌++◌, IfOk};
-ghost use Rattle.im_cuts.specs.Lines.{AreTexts};
+ghost use Rattle.im_text.specs.Lines.{AreTexts};
 
-use im_cuts::first_line;
 use im_octet::octets::Octets;
+use im_text::cuts::first_line;
 use std::alloc::{AllocError, Global};
 
 /// A copy of the text of each line, without its LF. The last line may lack its LF where it isn't empty.

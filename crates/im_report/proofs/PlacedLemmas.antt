@@ -3,7 +3,7 @@ use Rattle.std.proofs.Common.{◌≡◌, ◌==◌, ◌||◌, ℕ, List, ◌∷�
 use Rattle.std.specs.Fmt.{decimal}
 use Rattle.std.proofs.lemmas.Slice.Eq.{bytes_eq-Decides}
 use Rattle.std.specs.Str.{bytes_eq}
-use Rattle.im_cuts.proofs.CutLemmas.{heads-differ}
+use Rattle.im_text.proofs.CutLemmas.{heads-differ}
 use Rattle.im_digest.specs.Digests.{Hash}
 use Rattle.im_model.specs.History.{header_of, transaction_of}
 use Rattle.im_model.specs.declared.entries.Entry.{Entry}

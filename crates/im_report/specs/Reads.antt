@@ -4,7 +4,7 @@ use Rattle.std.specs.List.{flat_map}
 use Rattle.std.specs.Fmt.{decimal}
 use Rattle.hex.specs.Hex.{encode_lower}
 use Rattle.im_model.specs.declared.transactions.Transaction.{Transaction}
-use Rattle.im_talk.specs.Fields.{is_bare}
+use Rattle.im_text.specs.Fields.{is_bare}
 use Rattle.im_report.specs.Replies.{beyond_reply, full_reply}
 use Rattle.im_versions.specs.Versions.{last_version, versions_of, IsScan}
 use Rattle.im_versions.specs.declared.versions.Version.{Version}

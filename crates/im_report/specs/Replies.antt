@@ -11,7 +11,7 @@ use Rattle.im_model.specs.declared.headers.Header.{Header}
 use Rattle.im_model.specs.declared.transactions.Transaction.{Transaction}
 use Rattle.im_draft.specs.declared.refusals.PrepareError.{PrepareError}
 use Rattle.im_draft.specs.declared.refusals.PrepareError.TheVariants.{Memory, NoEntries, TooMany, KeyEmpty, KeyLong, ValueLong, Twice}
-use Rattle.im_talk.specs.Texts.{header_text}
+use Rattle.im_wire.specs.Headers.{header_text}
 use Rattle.im_proof.specs.Built.{dual_of, inners_of, path_of}
 use Rattle.im_proof.specs.declared.proofs.DualProof.{DualProof}
 use Rattle.im_wire.specs.Texts.{text}

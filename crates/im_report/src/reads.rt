@@ -2,8 +2,8 @@ ghost use Rattle.std.specs.Prelude.{ℕ, List, ◌≡◌, ◌≢◌, ◌++◌, c
 ghost use Rattle.std.specs.Fmt.{decimal};
 ghost use Rattle.im_report.specs.Reads.{history_reply, octets_text, place_reply, scan_reply, scanned_text, value_reply, version_text};
 
-use im_script::words::is_bare;
-use im_talk::texts::{push_hex, push_number};
+use im_text::words::is_bare;
+use im_text::writing::{push_hex, push_number};
 use im_versions::refusals::PlaceError;
 use im_versions::versions::Version;
 use std::alloc::{AllocError, Global};

@@ -7,7 +7,8 @@ use im_digest::Hash32;
 use im_draft::refusals::PrepareError;
 use im_header::alh;
 use im_model::headers::Header;
-use im_talk::texts::{header_json, push_hex, push_number};
+use im_text::writing::{push_hex, push_number};
+use im_wire::writing::header_json;
 use std::alloc::{AllocError, Global};
 
 // A text and a number.

@@ -1,6 +1,6 @@
 -- What a set asks for: preconditions, then entries.
 use Rattle.std.proofs.Common.{◌≡◌, ℕ, List, [], ◌∷◌, ◌++◌, inr, refl, subst, sym, ap, ◌∙◌, append-nil, append_assoc}
-use Rattle.im_cuts.proofs.CutLemmas.{head-is}
+use Rattle.im_text.proofs.CutLemmas.{head-is}
 use Rattle.im_draft.specs.declared.drafts.Draft.{Draft}
 use Rattle.im_draft.specs.declared.preconditions.Pre.{Pre}
 use Rattle.im_script.specs.Script.{IsPre, ArePres, AreFields, AreAsked}

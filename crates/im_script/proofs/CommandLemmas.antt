@@ -1,11 +1,11 @@
 -- Commands by their words, and where a text is none.
 use Rattle.std.proofs.Common.{◌≡◌, ◌==◌, ℕ, List, [], ◌∷◌, ◌++◌, codes, false, Option, Some, None, inl, inr, refl, subst, sym, ap₂}
-use Rattle.im_cuts.specs.Finds.{Finds}
-use Rattle.im_cuts.specs.Words.{IsNumber}
-use Rattle.im_cuts.proofs.CutLemmas.{append-same, head-is, heads-differ}
+use Rattle.im_text.specs.Finds.{Finds}
+use Rattle.im_text.specs.Words.{IsNumber}
+use Rattle.im_text.proofs.CutLemmas.{append-same, head-is, heads-differ}
 use Rattle.im_draft.specs.declared.drafts.Draft.{Draft}
 use Rattle.im_draft.specs.declared.preconditions.Pre.{Pre}
-use Rattle.im_talk.specs.Fields.{IsOctets}
+use Rattle.im_text.specs.Fields.{IsOctets}
 use Rattle.im_script.specs.declared.commands.Command.{Command}
 use Rattle.im_script.specs.declared.commands.Command.TheVariants.{Set, Get, Scan, History, Header, State, Prove, Advance, Item, Link}
 use Rattle.im_script.specs.Script.{AreAsked, AreNumbers, IsItem, IsLookup, IsCommand}

@@ -5,12 +5,12 @@ use Rattle.std.proofs.lemmas.Bool.Decides.{eqb_tells}
 use Rattle.std.specs.Char.{is_ascii_digit}
 use Rattle.hex.specs.Hex.{decode_of}
 use Rattle.hex.specs.declared.error.FromHexError.{FromHexError}
-use Rattle.im_cuts.specs.Cuts.{IsCut, Lacks}
-use Rattle.im_cuts.specs.Words.{IsNumber, is_word, number_value}
-use Rattle.im_cuts.proofs.CutLemmas.{append-same, heads-differ}
-use Rattle.im_cuts.proofs.DecideLemmas.{CutOrNone, cut-tells, truth}
-use Rattle.im_cuts.proofs.WordLemmas.{number-unique}
-use Rattle.im_talk.specs.Fields.{IsOctets, is_bare}
+use Rattle.im_text.specs.Cuts.{IsCut, Lacks}
+use Rattle.im_text.specs.Words.{IsNumber, is_word, number_value}
+use Rattle.im_text.proofs.CutLemmas.{append-same, heads-differ}
+use Rattle.im_text.proofs.DecideLemmas.{CutOrNone, cut-tells, truth}
+use Rattle.im_text.proofs.WordLemmas.{number-unique}
+use Rattle.im_text.specs.Fields.{IsOctets, is_bare}
 use Rattle.im_script.specs.Arguments.{IsFirstField, IsIndex}
 
 -- something has the property, or nothing has it

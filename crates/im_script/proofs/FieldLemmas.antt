@@ -5,13 +5,13 @@ use Rattle.std.proofs.lemmas.List.Sums.{list_all-from_AllPass}
 use Rattle.std.specs.List.{list_all}
 use Rattle.hex.specs.Hex.{is_hex_digit, decode_of}
 use Rattle.hex.proofs.HexLemmas.{decode_of-ok, decode_of-same}
-use Rattle.im_cuts.specs.Cuts.{Lacks, IsCut}
-use Rattle.im_cuts.proofs.CutLemmas.{Lacks-of, Lacks-append, Lacks-mark, append-same, cut-unique, head-is, heads-differ}
-use Rattle.im_cuts.proofs.WordLemmas.{Lacks-word}
+use Rattle.im_text.specs.Cuts.{Lacks, IsCut}
+use Rattle.im_text.proofs.CutLemmas.{Lacks-of, Lacks-append, Lacks-mark, append-same, cut-unique, head-is, heads-differ}
+use Rattle.im_text.proofs.WordLemmas.{Lacks-word}
 use Rattle.im_draft.specs.Drafts.{no_attributes}
 use Rattle.im_draft.specs.declared.drafts.Attrs.{Attrs}
 use Rattle.im_draft.specs.declared.drafts.Draft.{Draft}
-use Rattle.im_talk.specs.Fields.{is_bare, is_bare_octet, is_session_octet, IsSession, IsOctets}
+use Rattle.im_text.specs.Fields.{is_bare, is_bare_octet, is_session_octet, IsSession, IsOctets}
 use Rattle.im_script.specs.Script.{hidden, IsField, IsMark}
 
 bare-each : (text : List ℕ) → is_bare text ≡ true → list_all is_bare_octet text ≡ true

@@ -1,12 +1,12 @@
 -- Whether a text says what a set asks for, and what that is.
 use Rattle.std.proofs.Common.{◌≡◌, ◌≤◌, ℕ, zero, suc, List, [], ◌∷◌, ◌++◌, length, codes, inl, inr, refl, sym, subst, ap, ◌∙◌, arith}
-use Rattle.im_cuts.specs.Words.{IsNumber}
+use Rattle.im_text.specs.Words.{IsNumber}
 use Rattle.im_draft.specs.Drafts.{no_attributes}
 use Rattle.im_draft.specs.declared.drafts.Attrs.{Attrs}
 use Rattle.im_draft.specs.declared.drafts.Draft.{Draft}
 use Rattle.im_draft.specs.declared.preconditions.Pre.{Pre}
 use Rattle.im_draft.specs.declared.preconditions.Pre.TheVariants.{Exists, Missing, Since}
-use Rattle.im_talk.specs.Fields.{IsOctets}
+use Rattle.im_text.specs.Fields.{IsOctets}
 use Rattle.im_script.specs.Script.{hidden, AreAsked, AreFields, IsField, IsPre}
 use Rattle.im_script.proofs.Decisions.{Decided, after-decided, behind-shorter, by-cut, decided-by, decided-else, first-field, number-decided, octets-decided}
 use Rattle.im_script.proofs.FieldLemmas.{IsMarkCut, field-bad-key, field-bad-value, field-no-cut, field-of}

@@ -1,10 +1,10 @@
 -- Lines, and where a text is none.
 use Rattle.std.proofs.Common.{◌≡◌, ℕ, List, ◌∷◌, subst, sym, ◌∙◌}
-use Rattle.im_cuts.specs.Cuts.{IsCut}
-use Rattle.im_cuts.proofs.CutLemmas.{cut-unique, head-is}
+use Rattle.im_text.specs.Cuts.{IsCut}
+use Rattle.im_text.proofs.CutLemmas.{cut-unique, head-is}
 use Rattle.im_script.specs.declared.commands.Command.{Command}
 use Rattle.im_script.specs.declared.commands.Line.{Line}
-use Rattle.im_talk.specs.Fields.{IsSession}
+use Rattle.im_text.specs.Fields.{IsSession}
 use Rattle.im_script.specs.Script.{IsCommand, IsLine}
 use Rattle.im_script.proofs.FieldLemmas.{session-lacks}
 

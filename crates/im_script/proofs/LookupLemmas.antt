@@ -1,6 +1,6 @@
 -- Octets that are looked for and a transaction, and where a text is none.
 use Rattle.std.proofs.Common.{◌≡◌, ℕ, List, Option, subst, sym, ◌∙◌}
-use Rattle.im_talk.specs.Fields.{IsOctets}
+use Rattle.im_text.specs.Fields.{IsOctets}
 use Rattle.im_script.specs.Script.{IsAt, IsLookup}
 use Rattle.im_script.specs.Arguments.{IsFirstField}
 use Rattle.im_script.proofs.FieldLemmas.{octets-lack-space, octets-unique}

@@ -1,11 +1,11 @@
 -- Numbers parted by spaces, and where a text is none.
 use Rattle.std.proofs.Common.{◌≡◌, ℕ, List, [], ◌∷◌, ◌++◌, codes, Option, Some, None, inl, inr, refl, subst, sym, ap, ◌∙◌, append_assoc}
 use Rattle.std.specs.Char.{is_ascii_digit}
-use Rattle.im_cuts.specs.Cuts.{Lacks, IsCut}
-use Rattle.im_cuts.specs.Finds.{Finds}
-use Rattle.im_cuts.specs.Words.{IsNumber}
-use Rattle.im_cuts.proofs.CutLemmas.{append-same, cut-unique}
-use Rattle.im_cuts.proofs.WordLemmas.{Lacks-word, number-unique}
+use Rattle.im_text.specs.Cuts.{Lacks, IsCut}
+use Rattle.im_text.specs.Finds.{Finds}
+use Rattle.im_text.specs.Words.{IsNumber}
+use Rattle.im_text.proofs.CutLemmas.{append-same, cut-unique}
+use Rattle.im_text.proofs.WordLemmas.{Lacks-word, number-unique}
 use Rattle.im_script.specs.Script.{AreNumbers, IsAt, IsItem}
 use Rattle.im_script.specs.declared.commands.Command.{Command}
 use Rattle.im_script.specs.Arguments.{IsFieldEnd, IsFirstField, IsIndex, IsItemCommand}

@@ -1,14 +1,14 @@
 -- Preconditions, and where a text is none.
 use Rattle.std.proofs.Common.{◌≡◌, ℕ, List, ◌∷◌, ◌++◌, codes, refl, subst, sym, ap, ap₂, ◌∙◌}
 use Rattle.std.specs.Char.{is_ascii_digit}
-use Rattle.im_cuts.specs.Cuts.{Lacks, IsCut}
-use Rattle.im_cuts.specs.Words.{IsNumber}
-use Rattle.im_cuts.proofs.CutLemmas.{Lacks-append, Lacks-mark, append-same, cut-unique, heads-differ}
-use Rattle.im_cuts.proofs.WordLemmas.{Lacks-word, number-unique}
+use Rattle.im_text.specs.Cuts.{Lacks, IsCut}
+use Rattle.im_text.specs.Words.{IsNumber}
+use Rattle.im_text.proofs.CutLemmas.{Lacks-append, Lacks-mark, append-same, cut-unique, heads-differ}
+use Rattle.im_text.proofs.WordLemmas.{Lacks-word, number-unique}
 use Rattle.im_draft.specs.declared.drafts.Draft.{Draft}
 use Rattle.im_draft.specs.declared.preconditions.Pre.{Pre}
 use Rattle.im_draft.specs.declared.preconditions.Pre.TheVariants.{Exists, Missing, Since}
-use Rattle.im_talk.specs.Fields.{IsOctets}
+use Rattle.im_text.specs.Fields.{IsOctets}
 use Rattle.im_script.specs.Script.{IsField, IsPre}
 use Rattle.im_script.proofs.FieldLemmas.{field-lacks-colon, octets-lack-at, octets-lack-space, octets-unique}
 

@@ -4,20 +4,20 @@ use Rattle.std.specs.Str.{bytes_eq}
 use Rattle.std.proofs.lemmas.Bool.{both_ways}
 use Rattle.std.proofs.lemmas.Bool.Decides.{eqb_tells}
 use Rattle.std.proofs.lemmas.Slice.Eq.{bytes_eq-Decides}
-use Rattle.im_cuts.specs.Cuts.{IsCut, Lacks}
-use Rattle.im_cuts.specs.Finds.{Finds}
-use Rattle.im_cuts.specs.Lines.{AreTexts}
-use Rattle.im_cuts.specs.Words.{IsNumber, is_word}
-use Rattle.im_cuts.proofs.CutLemmas.{Lacks-mark, append-same, heads-differ}
-use Rattle.im_cuts.proofs.LineLemmas.{texts-exist}
-use Rattle.im_talk.specs.Fields.{IsOctets, is_session_octet}
+use Rattle.im_text.specs.Cuts.{IsCut, Lacks}
+use Rattle.im_text.specs.Finds.{Finds}
+use Rattle.im_text.specs.Lines.{AreTexts}
+use Rattle.im_text.specs.Words.{IsNumber, is_word}
+use Rattle.im_text.proofs.CutLemmas.{Lacks-mark, append-same, heads-differ}
+use Rattle.im_text.proofs.LineLemmas.{texts-exist}
+use Rattle.im_text.specs.Fields.{IsOctets, is_session_octet}
 use Rattle.im_script.specs.declared.commands.Command.{Command}
 use Rattle.im_script.specs.declared.commands.Command.TheVariants.{Set, Get, Scan, History, Header, State, Prove, Advance, Item, Link}
 use Rattle.im_script.specs.declared.commands.Line.{Line}
 use Rattle.im_script.specs.Script.{deletion, AreNumbers, IsAt, IsCommand, IsLine, IsLookup, IsPassedOver, IsScript, MayFollow, Say, Stop, StopsAfter}
 use Rattle.im_script.specs.Arguments.{IsSet, IsDelete, IsGet, IsScanCommand, IsHistoryCommand, IsHeader, IsIndex, IsState, IsProve, IsAdvance, IsItemCommand, IsLink}
 use Rattle.im_script.proofs.CommandLemmas.{advance-no-numbers, found-set, found-delete, found-get, found-scan, found-history, found-header, found-state, found-prove, found-advance, found-item, found-link, prove-no-numbers}
-use Rattle.im_cuts.proofs.DecideLemmas.{truth}
+use Rattle.im_text.proofs.DecideLemmas.{truth}
 use Rattle.im_script.proofs.Decisions.{Decided, after-decided, by-cut, decided-by, decided-else, first-field, index-decided, number-decided, octets-decided}
 use Rattle.im_script.proofs.FieldsDecided.{AsksBoth, asked-decided}
 use Rattle.im_script.proofs.LineLemmas.{line-bad-command, line-bad-session, line-no-space}

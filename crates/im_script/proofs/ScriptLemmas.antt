@@ -2,8 +2,8 @@
 use Rattle.std.proofs.Common.{◌≡◌, ℕ, suc, ◌+◌, ◌<◌, ◌==◌, List, [], ◌∷◌, ◌++◌, length, true, inl, inr, refl, subst, sym, ap, ◌∙◌, arith, append-nil, append_assoc}
 use Rattle.std.proofs.lemmas.Bool.{eqb-true}
 use Rattle.im_script.specs.declared.commands.Line.{Line}
-use Rattle.im_cuts.specs.Lines.{AreTexts, IsFirstText}
-use Rattle.im_cuts.proofs.LineLemmas.{texts-exist, texts-more}
+use Rattle.im_text.specs.Lines.{AreTexts, IsFirstText}
+use Rattle.im_text.proofs.LineLemmas.{texts-exist, texts-more}
 use Rattle.im_script.specs.Script.{Say, Stop, IsScript, StopsAfter}
 use Rattle.im_script.specs.Arguments.{IsTaken, IsRefused}
 

@@ -1,8 +1,8 @@
 -- Lists of fields, and where a text is none.
 use Rattle.std.proofs.Common.{◌≡◌, ◌==◌, ℕ, List, [], ◌∷◌, ◌++◌, length, true, inl, inr, refl, subst, sym, ap, ap₂, ◌∙◌, append-nil, append_assoc, arith}
 use Rattle.std.proofs.lemmas.Bool.{eqb-true}
-use Rattle.im_cuts.specs.Cuts.{Lacks}
-use Rattle.im_cuts.proofs.CutLemmas.{Lacks-mark, cut-unique, head-is}
+use Rattle.im_text.specs.Cuts.{Lacks}
+use Rattle.im_text.proofs.CutLemmas.{Lacks-mark, cut-unique, head-is}
 use Rattle.im_draft.specs.declared.drafts.Draft.{Draft}
 use Rattle.im_script.specs.Script.{IsField, AreFields}
 use Rattle.im_script.specs.Arguments.{IsFieldEnd, IsFirstField}

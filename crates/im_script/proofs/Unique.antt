@@ -1,16 +1,16 @@
 -- A script is read in one way.
 use Rattle.std.proofs.Common.{◌≡◌, ℕ, zero, suc, List, [], ◌∷◌, ◌++◌, Option, true, false, inl, inr, refl, subst, sym, ap, ap₂, ◌∙◌}
 use Rattle.std.proofs.lemmas.Bool.{and_parts, both_ways}
-use Rattle.im_cuts.specs.Words.{is_word}
-use Rattle.im_cuts.proofs.CutLemmas.{cut-unique, head-is}
-use Rattle.im_cuts.proofs.WordLemmas.{number-unique}
+use Rattle.im_text.specs.Words.{is_word}
+use Rattle.im_text.proofs.CutLemmas.{cut-unique, head-is}
+use Rattle.im_text.proofs.WordLemmas.{number-unique}
 use Rattle.im_draft.specs.declared.drafts.Draft.{Draft}
 use Rattle.im_draft.specs.declared.preconditions.Pre.{Pre}
 use Rattle.im_script.specs.declared.commands.Command.{Command}
 use Rattle.im_script.specs.declared.commands.Command.TheVariants.{Set, Get, Scan, History, Header, State, Prove, Advance, Item, Link}
 use Rattle.im_script.specs.declared.commands.Line.{Line}
-use Rattle.im_talk.specs.Fields.{is_session_octet, IsSession}
-use Rattle.im_cuts.proofs.LineLemmas.{texts-unique}
+use Rattle.im_text.specs.Fields.{is_session_octet, IsSession}
+use Rattle.im_text.proofs.LineLemmas.{texts-unique}
 use Rattle.im_script.specs.Script.{deletion, IsCommand, IsLine, IsPassedOver, Say, Stop, IsScript, StopsAfter}
 use Rattle.im_script.proofs.FieldLemmas.{octets-unique, session-lacks}
 use Rattle.im_script.proofs.AskedLemmas.{asked-unique}

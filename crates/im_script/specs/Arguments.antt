@@ -1,8 +1,8 @@
 -- What parts of a script say, for private clauses.
 use Rattle.std.specs.Prelude.{◌≡◌, ◌⊎◌, ◌<◌, ◌^◌, ℕ, List, [], ◌∷◌, ◌++◌, Option}
-use Rattle.im_cuts.specs.Cuts.{Lacks}
-use Rattle.im_cuts.specs.Words.{IsNumber}
-use Rattle.im_talk.specs.Fields.{IsOctets}
+use Rattle.im_text.specs.Cuts.{Lacks}
+use Rattle.im_text.specs.Words.{IsNumber}
+use Rattle.im_text.specs.Fields.{IsOctets}
 use Rattle.im_draft.specs.declared.drafts.Draft.{Draft}
 use Rattle.im_draft.specs.declared.preconditions.Pre.{Pre}
 use Rattle.im_script.specs.Script.{deletion, AreAsked, AreNumbers, IsItem, IsLookup, IsLine, IsPassedOver, MayFollow}

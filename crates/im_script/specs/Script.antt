@@ -1,13 +1,13 @@
 -- What a script says, by what its text is.
 use Rattle.std.specs.Prelude.{◌≡◌, ◌⊎◌, ◌<◌, ◌^◌, ℕ, zero, suc, List, [], ◌∷◌, ◌++◌, Option, Some, None, codes, true, false}
-use Rattle.im_cuts.specs.Lines.{AreTexts}
-use Rattle.im_cuts.specs.Words.{IsNumber}
+use Rattle.im_text.specs.Lines.{AreTexts}
+use Rattle.im_text.specs.Words.{IsNumber}
 use Rattle.im_draft.specs.Drafts.{no_attributes}
 use Rattle.im_draft.specs.declared.drafts.Attrs.{Attrs}
 use Rattle.im_draft.specs.declared.drafts.Draft.{Draft}
 use Rattle.im_draft.specs.declared.preconditions.Pre.{Pre}
 use Rattle.im_draft.specs.declared.preconditions.Pre.TheVariants.{Exists, Missing, Since}
-use Rattle.im_talk.specs.Fields.{IsSession, IsOctets}
+use Rattle.im_text.specs.Fields.{IsSession, IsOctets}
 use Rattle.im_script.specs.declared.commands.Command.{Command}
 use Rattle.im_script.specs.declared.commands.Command.TheVariants.{Set, Get, Scan, History, Header, State, Prove, Advance, Item, Link}
 use Rattle.im_script.specs.declared.commands.Line.{Line}

@@ -10,4 +10,3 @@ mod numbers;
 mod pres;
 pub mod scripts;
 mod sets;
-pub mod words;

@@ -1,17 +1,20 @@
 ghost use Rattle.std.specs.Prelude.{IfOk};
-ghost use Rattle.im_cuts.specs.Finds.{Finds};
+ghost use Rattle.im_text.specs.Finds.{Finds};
 ghost use Rattle.im_script.specs.Script.{IsCommand, IsLine};
 ghost use Rattle.im_script.specs.Arguments.{IsSet, IsDelete, IsGet, IsScanCommand, IsHistoryCommand, IsHeader, IsState, IsProve, IsAdvance, IsItemCommand, IsLink};
 
 use crate::commands::{Command, Line};
-use crate::fields::{first_field, is_session, read_number, read_octets};
+use crate::fields::first_field;
 use crate::lookups::read_lookup;
 use crate::numbers::{read_at, read_index, read_numbers};
 use crate::sets::read_asked;
-use im_cuts::{after, cut};
 use im_draft::drafts::{Attrs, Draft, Drafts};
 use im_draft::preconditions::Pres;
 use im_octet::octets::Octets;
+use im_text::cuts::{after, cut};
+use im_text::numbers::read_number;
+use im_text::octets::read_octets;
+use im_text::words::is_session;
 use std::alloc::{AllocError, Global};
 
 // The attributes of an entry that deletes its key.

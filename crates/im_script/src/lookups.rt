@@ -1,10 +1,11 @@
 ghost use Rattle.std.specs.Prelude.{IfOk};
-ghost use Rattle.im_cuts.specs.Finds.{Finds};
+ghost use Rattle.im_text.specs.Finds.{Finds};
 ghost use Rattle.im_script.specs.Script.{IsLookup};
 
-use crate::fields::{first_field, read_octets};
+use crate::fields::first_field;
 use crate::numbers::read_at;
 use im_octet::octets::Octets;
+use im_text::octets::read_octets;
 use std::alloc::{AllocError, Global};
 
 // Octets that are looked for, and the transaction after which they are, if one is named.

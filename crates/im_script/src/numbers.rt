@@ -1,9 +1,9 @@
-ghost use Rattle.im_cuts.specs.Finds.{Finds};
+ghost use Rattle.im_text.specs.Finds.{Finds};
 ghost use Rattle.im_script.specs.Script.{AreNumbers, IsAt};
 ghost use Rattle.im_script.specs.Arguments.{IsIndex};
 
-use crate::fields::read_number;
-use im_cuts::{after, cut};
+use im_text::cuts::{after, cut};
+use im_text::numbers::read_number;
 
 // The two numbers that a text says, parted by one space.
 pub(crate) fn read_numbers(text: &[u8]) -> Option<(u64, u64)>

@@ -1,12 +1,14 @@
 ghost use Rattle.std.specs.Prelude.{◌≡◌, ◌++◌, List, codes, IfOk};
-ghost use Rattle.im_cuts.specs.Finds.{Finds};
+ghost use Rattle.im_text.specs.Finds.{Finds};
 ghost use Rattle.im_draft.specs.declared.drafts.Draft.{Draft};
 ghost use Rattle.im_draft.specs.declared.preconditions.Pre.{Pre};
 ghost use Rattle.im_script.specs.Script.{AreAsked, AreFields, IsPre};
 
-use crate::fields::{first_field, read_number, read_octets};
-use im_cuts::{after, cut};
+use crate::fields::first_field;
 use im_draft::preconditions::Pre;
+use im_text::cuts::{after, cut};
+use im_text::numbers::read_number;
+use im_text::octets::read_octets;
 use std::alloc::{AllocError, Global};
 
 // The precondition whose key stands behind `exists:`.

@@ -1,11 +1,11 @@
 ghost use Rattle.std.specs.Prelude.{◌≡◌, ◌+◌, ◌↔◌, ℕ, IfOk, IsTrue, false};
-ghost use Rattle.im_cuts.specs.Finds.{Finds};
+ghost use Rattle.im_text.specs.Finds.{Finds};
 ghost use Rattle.im_script.specs.Script.{IsLine, IsPassedOver, MayFollow, IsScript, StopsAfter};
 ghost use Rattle.im_script.specs.Arguments.{IsTaken, IsRefused};
 
 use crate::commands::Line;
 use crate::lines::read_line;
-use im_cuts::first_line;
+use im_text::cuts::first_line;
 use std::alloc::{AllocError, Global};
 
 /// Why a script wasn't read.

@@ -1,12 +1,12 @@
 ghost use Rattle.std.specs.Prelude.{IfOk};
-ghost use Rattle.im_cuts.specs.Finds.{Finds};
+ghost use Rattle.im_text.specs.Finds.{Finds};
 ghost use Rattle.im_script.specs.Script.{AreAsked, AreFields};
 
 use crate::fields::{first_field, read_field};
 use crate::pres::read_pres;
-use im_cuts::after;
 use im_draft::drafts::Drafts;
 use im_draft::preconditions::Pres;
+use im_text::cuts::after;
 use std::alloc::{AllocError, Global};
 
 // The drafts of fields, each behind one space.

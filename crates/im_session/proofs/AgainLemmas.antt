@@ -6,11 +6,11 @@ use Rattle.std.proofs.lemmas.Bool.{both_ways}
 use Rattle.std.proofs.lemmas.List.{take-append-le, map-append}
 use Rattle.std.proofs.lemmas.List.Concat.{flat_map-append}
 use Rattle.std.proofs.lemmas.List.Elements.{All-push}
-use Rattle.im_cuts.specs.Cuts.{Lacks}
-use Rattle.im_cuts.specs.Lines.{AreTexts}
+use Rattle.im_text.specs.Cuts.{Lacks}
+use Rattle.im_text.specs.Lines.{AreTexts}
 use Rattle.im_digest.specs.Digests.{Hash}
 use Rattle.im_model.specs.declared.transactions.Transaction.{Transaction}
-use Rattle.im_talk.specs.Fields.{IsSession}
+use Rattle.im_text.specs.Fields.{IsSession}
 use Rattle.im_wire.specs.Lines.{is_open}
 use Rattle.im_script.specs.declared.commands.Line.{Line}
 use Rattle.im_script.specs.declared.commands.Command.{Command}

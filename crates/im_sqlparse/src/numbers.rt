@@ -2,7 +2,7 @@
 
 ghost use Rattle.std.specs.Prelude.{◌≡◌, ◌<◌, ◌+◌, ◌-◌, ◌*◌, ◌^◌};
 ghost use Rattle.std.specs.Option.{SomeIff};
-ghost use Rattle.im_cuts.specs.Words.{number_value};
+ghost use Rattle.im_text.specs.Words.{number_value};
 ghost use Rattle.im_sqlparse.specs.Values as spec;
 ghost use Rattle.im_sqlparse.specs.Input.{Reads};
 

@@ -2,10 +2,10 @@
 use Rattle.std.proofs.Common.{◌≡◌, ◌≢◌, ℕ, List, [], ◌∷◌, ◌++◌, true, Option, Some, None, refl, subst, ◌∙◌, inr}
 use Rattle.std.proofs.lemmas.Bool.{and_parts, both_ways}
 use Rattle.std.proofs.lemmas.List.Elements.{All-nil, All-cons, All-append}
-use Rattle.im_cuts.specs.Words.{is_word}
+use Rattle.im_text.specs.Words.{is_word}
 use Rattle.im_digest.specs.Digests.{Hash}
 use Rattle.im_model.specs.declared.headers.Header.{Header}
-use Rattle.im_talk.specs.Fields.{is_session_octet, IsSession}
+use Rattle.im_text.specs.Fields.{is_session_octet, IsSession}
 use Rattle.im_wire.specs.Lines.{IsLine, IsReply}
 use Rattle.im_wire.specs.Messages.{HasMessage}
 use Rattle.im_wire.specs.Texts.{text}

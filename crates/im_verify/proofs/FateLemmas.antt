@@ -4,7 +4,7 @@ use Rattle.std.proofs.lemmas.List.{get_or-take, length-take-le}
 use Rattle.std.proofs.lemmas.Bool.{cases_lt}
 use Rattle.im_digest.specs.Digests.{Hash}
 use Rattle.im_model.specs.declared.headers.Header.{Header}
-use Rattle.im_cuts.proofs.LineLemmas.{texts-unique}
+use Rattle.im_text.proofs.LineLemmas.{texts-unique}
 use Rattle.im_client.specs.Folds.{IsFold, IsOutcome, IsRefused, state_after, state_by}
 use Rattle.im_client.specs.declared.faults.LineFault.{LineFault}
 use Rattle.im_client.specs.declared.outcomes.Outcome.{Outcome}

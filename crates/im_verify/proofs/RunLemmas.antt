@@ -4,7 +4,7 @@ use Rattle.std.specs.Io.KnownBytes.{Appends}
 use Rattle.std.proofs.Math.Seq.{take-append-add}
 use Rattle.std.proofs.lemmas.List.{take_all}
 use Rattle.im_digest.specs.Digests.{Hash}
-use Rattle.im_cuts.specs.Lines.{AreTexts}
+use Rattle.im_text.specs.Lines.{AreTexts}
 use Rattle.im_model.specs.declared.headers.Header.{Header}
 use Rattle.im_client.specs.Folds.{IsFold, kept_text, kept_texts, state_after}
 use Rattle.im_client.specs.Texts.{outcome_line, outcome_lines}

@@ -10,8 +10,8 @@ use Rattle.std.proofs.lemmas.List.Quantifiers.{Any-push}
 use Rattle.std.proofs.lemmas.List.{get_or_append_left}
 use Rattle.im_digest.specs.Digests.{Hash}
 use Rattle.im_model.specs.declared.headers.Header.{Header}
-use Rattle.im_cuts.specs.Lines.{AreTexts, IsFirstText}
-use Rattle.im_cuts.proofs.LineLemmas.{texts-exist, texts-more}
+use Rattle.im_text.specs.Lines.{AreTexts, IsFirstText}
+use Rattle.im_text.proofs.LineLemmas.{texts-exist, texts-more}
 use Rattle.im_wire.specs.declared.messages.Message.{Message}
 use Rattle.im_client.specs.Folds.{IsFold, IsOutcome, IsRefused, kept_text, kept_texts, state_after, state_by}
 use Rattle.im_client.specs.Texts.{outcome_line, outcome_lines}

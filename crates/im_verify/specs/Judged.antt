@@ -1,7 +1,7 @@
 -- What becomes of a stream of lines, behind the lines that a keeper holds.
 use Rattle.std.specs.Prelude.{◌<◌, ℕ, List, [], length, take, get_or, All, Any, None}
 use Rattle.im_digest.specs.Digests.{Hash}
-use Rattle.im_cuts.specs.Lines.{AreTexts}
+use Rattle.im_text.specs.Lines.{AreTexts}
 use Rattle.im_client.specs.Folds.{IsFold, IsOutcome, IsRefused, state_after}
 use Rattle.im_client.specs.declared.faults.LineFault.{LineFault}
 use Rattle.im_client.specs.declared.outcomes.Outcome.{Outcome}

@@ -3,7 +3,7 @@
 use Rattle.std.specs.Prelude.{◌≡◌, ◌<◌, ◌≤◌, ◌+◌, ℕ, List, [], ◌∷◌, ◌++◌, length, take, Option, Some}
 use Rattle.std.specs.Io.KnownBytes.{Appends}
 use Rattle.im_digest.specs.Digests.{Hash}
-use Rattle.im_cuts.specs.Lines.{AreTexts}
+use Rattle.im_text.specs.Lines.{AreTexts}
 use Rattle.im_wire.specs.declared.messages.Message.{Message}
 use Rattle.im_client.specs.Folds.{kept_texts}
 use Rattle.im_client.specs.Texts.{outcome_line, outcome_lines}

@@ -4,7 +4,7 @@ use Rattle.std.specs.Option.{option_map}
 use Rattle.std.specs.Io.KnownBytes.{Appends}
 use Rattle.im_digest.specs.Digests.{Hash}
 use Rattle.im_model.specs.declared.headers.Header.{Header}
-use Rattle.im_cuts.specs.Lines.{AreTexts}
+use Rattle.im_text.specs.Lines.{AreTexts}
 use Rattle.im_wire.specs.declared.messages.Message.{Message}
 use Rattle.im_client.specs.Folds.{IsFold, IsOutcome, IsRefused, kept_text, kept_texts, state_after, state_by}
 use Rattle.im_client.specs.Texts.{outcome_line, outcome_lines}

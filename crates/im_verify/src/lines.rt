@@ -11,10 +11,10 @@ use crate::stops::Stop;
 use im_client::clients::Client;
 use im_client::outcomes::Outcome;
 use im_client::texts::outcome_text;
-use im_cuts::first_line;
 use im_digest::Hash32;
 use im_edge::keeper::Keeper;
 use im_edge::sink::{Sink, write_all};
+use im_text::cuts::first_line;
 use im_wire::writing::write;
 use std::alloc::Global;
 

@@ -1,20 +1,23 @@
 -- The text of a header in a message is the text of a header in a reply.
-use Rattle.std.proofs.Common.{◌≡◌, ℕ, ℤ, pos, negsuc, zero, suc, ◌<◌, ◌/◌, ◌%◌, ◌&&◌, ◌==◌, not, Bool, true, List, [], ◌∷◌, ◌++◌, length, slice_index, refl, append_assoc, arith, ap}
+use Rattle.std.proofs.Common.{◌≡◌, ℕ, ℤ, pos, negsuc, zero, suc, ◌<◌, ◌/◌, ◌%◌, ◌&&◌, ◌==◌, not, Bool, true, List, [], ◌∷◌, ◌++◌, length, slice_index, refl, append_assoc, arith, ap, ◌∙◌}
 use Rattle.std.specs.Prelude.{codes, nat_le}
 use Rattle.std.specs.Fmt.{decimal, signed_decimal}
 use Rattle.std.specs.List.{list_all}
 use Rattle.std.proofs.lemmas.Bool.{and_parts, eqb-false, not-true, leb-true}
 use Rattle.hex.specs.Hex.{IsBytes, encode_with, encode_lower, lower_digits}
-use Rattle.json.specs.Print.{escape, escape_byte}
+use Rattle.json.specs.Print.{escape, escape_byte, print}
+use Rattle.json.specs.Token.{Token}
 use Rattle.json.proofs.Printed.Strings.{escape_byte_plain}
 use Rattle.serde_json.specs.Data.{number}
 use Rattle.serde_json.specs.Find.{of_integer}
 use Rattle.serde_json.specs.Written.{compact_text}
 use Rattle.im_model.specs.declared.headers.Header.{Header}
-use Rattle.im_talk.specs.Texts.{header_front, header_middle, header_back, header_text}
+use Rattle.im_wire.specs.Headers.{header_front, header_middle, header_back, header_text}
 use Rattle.im_wire.specs.declared.messages.Message.TheVariants.{State}
 use Rattle.im_wire.specs.Fits.{IsHeader}
 use Rattle.im_wire.specs.Texts.{header_data, text}
+use Rattle.im_wire.specs.Tokens.{tokens_of}
+use Rattle.im_wire.proofs.TokenLemmas.{print_is}
 
 is_plain : ℕ → Bool
 is_plain x = not (x == 34) && not (x == 92) && nat_le 32 x
@@ -61,6 +64,10 @@ header-text h fits =
     (codes ",\"prevAlh\":\"") (codes ",\"ts\":") (codes ",\"version\":") (codes "}")
     (encode_lower h.bl_root) (decimal h.bl_tx_id) (encode_lower h.eh) (decimal h.id) (encode_lower h.md) (decimal h.nentries)
     (encode_lower h.prev_alh) (signed_decimal h.ts) (decimal h.version))
+
+-- what a writer printed is the text of the header
+pub printed-header : (h : Header) (items before : List ℕ) (ts : List Token) → IsHeader h → items ≡ before ++ print ts → before ≡ [] → ts ≡ tokens_of (header_data h) → items ≡ header_text h
+printed-header h items before ts fits e b t = e ∙ (rw (b, t) (print_is (header_data h))) ∙ header-text h fits
 
 -- the text of a state line
 pub state-text : (h : Header) → IsHeader h → text (State h) ≡ codes "{\"header\":" ++ header_text h ++ codes ",\"type\":\"state\"}"

@@ -7,12 +7,13 @@ use Rattle.im_wire.specs.Messages.{message_of, HasMessage}
 use Rattle.im_wire.specs.declared.errors.WireError.{WireError}
 use Rattle.im_wire.specs.declared.errors.WireError.TheVariants.{Memory, Syntax}
 use Rattle.im_wire.specs.declared.messages.Message.{Message}
-use Rattle.im_cuts.specs.Cuts.{Lacks, IsCut}
-use Rattle.im_cuts.proofs.CutLemmas.{Lacks-mark, cut-unique}
-use Rattle.im_cuts.proofs.WordLemmas.{Lacks-word}
-use Rattle.im_talk.specs.Fields.{is_session_octet, IsSession}
+use Rattle.im_text.specs.Cuts.{Lacks, IsCut}
+use Rattle.im_text.proofs.CutLemmas.{Lacks-mark, cut-unique}
+use Rattle.im_text.proofs.WordLemmas.{Lacks-word}
+use Rattle.im_text.specs.Fields.{is_session_octet, IsSession}
 use Rattle.im_wire.specs.Gives.{Reads}
-use Rattle.im_wire.specs.Lines.{IsDigits, is_open, IsReply, IsShown, IsLine}
+use Rattle.im_text.specs.Words.{IsDigits}
+use Rattle.im_wire.specs.Lines.{is_open, IsReply, IsShown, IsLine}
 
 session-lacks : (line rest : List ℕ) (r : IsReply line rest) → Lacks 32 r.session
 session-lacks line rest r = Lacks-word 16 is_session_octet 32 r.session refl r.is_session

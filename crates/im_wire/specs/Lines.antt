@@ -1,15 +1,10 @@
 -- What a line of a stream says, by what its text is.
 use Rattle.std.specs.Prelude.{◌≡◌, ◌≢◌, ◌⊎◌, nat_eq, ℕ, List, [], ◌∷◌, ◌++◌, Bool, true, false, Option, Some, None, codes}
 use Rattle.std.specs.List.{starts_with}
-use Rattle.std.specs.Char.{is_ascii_digit}
-use Rattle.im_cuts.specs.Words.{is_word}
-use Rattle.im_talk.specs.Fields.{IsSession}
+use Rattle.im_text.specs.Words.{IsDigits}
+use Rattle.im_text.specs.Fields.{IsSession}
 use Rattle.im_wire.specs.Messages.{HasMessage}
 use Rattle.im_wire.specs.declared.messages.Message.{Message}
-
--- 1 to 20 decimal digits
-abbrev pub IsDigits : List ℕ → Type 0
-IsDigits text = is_word 20 is_ascii_digit text ≡ true
 
 -- a line `<session> <number> <rest>`
 pub record IsReply (line rest : List ℕ) : Type 0 where

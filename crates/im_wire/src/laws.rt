@@ -1,7 +1,7 @@
 ghost use Rattle.std.specs.Prelude.{◌≡◌, ℕ, List, ◌++◌, codes, Option};
 ghost use Rattle.serde_json.specs.Written.{compact_text};
 ghost use Rattle.im_model.specs.declared.headers.Header.{Header};
-ghost use Rattle.im_talk.specs.Texts.{header_text};
+ghost use Rattle.im_wire.specs.Headers.{header_text};
 ghost use Rattle.im_wire.specs.declared.messages.Message.{Message};
 ghost use Rattle.im_wire.specs.declared.messages.Message.TheVariants.{State};
 ghost use Rattle.im_wire.specs.Fits.{IsHeader};

@@ -1,57 +1,14 @@
-ghost use Rattle.std.specs.Prelude.{◌≡◌, ◌↔◌, List, ℕ, IfSome, IfNone, IsTrue, None};
-ghost use Rattle.std.specs.List.{list_all};
-ghost use Rattle.std.specs.Char.{is_ascii_digit};
-ghost use Rattle.im_talk.specs.Fields.{is_session_octet, IsSession};
+ghost use Rattle.std.specs.Prelude.{◌≡◌, List, ℕ, IfSome, IfNone, None};
 ghost use Rattle.im_wire.specs.Gives.{Reads};
-ghost use Rattle.im_wire.specs.Lines.{is_open, IsDigits, IsReply, IsShown, IsLine};
+ghost use Rattle.im_wire.specs.Lines.{is_open, IsReply, IsShown, IsLine};
 
 use crate::errors::WireError;
 use crate::messages::Message;
 use crate::reading::read_message;
-use im_cuts::cut;
+use im_text::cuts::cut;
+use im_text::numbers::is_digits;
+use im_text::words::is_session;
 use std::alloc::Global;
-
-// The most octets of a session's name and of a number's digits.
-const MOST_SESSION: usize = 16;
-
-const MOST_DIGITS: usize = 20;
-
-// a-z 0-9
-fn is_session_octet(octet: u8) -> bool
-    ensures { result ≡ is_session_octet octet }
-{
-    octet.is_ascii_lowercase() || octet.is_ascii_digit()
-}
-
-// Whether each octet may stand in a session's name.
-fn are_session_octets(text: &[u8]) -> bool
-    ensures { result ≡ list_all is_session_octet text.now }
-{
-    text.iter().all(|octet| is_session_octet(*octet))
-}
-
-// Whether each octet is a decimal digit.
-fn are_digits(text: &[u8]) -> bool
-    ensures { result ≡ list_all is_ascii_digit text.now }
-{
-    text.iter().all(|octet| octet.is_ascii_digit())
-}
-
-// Whether a text is a session's name.
-#[tactic(auto, unfolding(im_cuts::specs::Words::is_word))]
-fn is_session(text: &[u8]) -> bool
-    ensures { IsTrue result ↔ IsSession text.now }
-{
-    (1..=MOST_SESSION).contains(&text.len()) && are_session_octets(text)
-}
-
-// Whether a text is the digits of a reply's number.
-#[tactic(auto, unfolding(im_cuts::specs::Words::is_word))]
-fn is_number(text: &[u8]) -> bool
-    ensures { IsTrue result ↔ IsDigits text.now }
-{
-    (1..=MOST_DIGITS).contains(&text.len()) && are_digits(text)
-}
 
 // Whether a text begins as an object does.
 fn is_open(text: &[u8]) -> bool
@@ -74,7 +31,7 @@ fn reply_rest(line: &[u8]) -> Option<&[u8]>
     let Some((number, rest)) = cut(tail, b' ') else {
         return None;
     };
-    if !is_number(number) {
+    if !is_digits(number) {
         return None;
     }
     Some(rest)

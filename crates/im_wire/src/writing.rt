@@ -1,5 +1,6 @@
 ghost use Rattle.std.specs.Prelude.{◌≡◌, ◌++◌, OnOk, IfOk};
 ghost use Rattle.im_wire.specs.declared.messages.Message.TheVariants.{State, Dual, Advance, Item};
+ghost use Rattle.im_wire.specs.Headers.{header_text};
 ghost use Rattle.im_wire.specs.Messages.{HasMessage};
 ghost use Rattle.im_wire.specs.Texts.{message_data, text};
 ghost use Rattle.im_wire.specs.Tokens.{tokens_of, item_tokens};
@@ -12,8 +13,8 @@ mod records;
 use crate::messages::Message;
 use crate::writing::duals::{put_anchor_field, put_dual_proof_field};
 use crate::writing::fields::{put_digests_field, put_number_field, put_text_field};
-use crate::writing::fits::message_fits;
-use crate::writing::records::{put_entry_field, put_header_field};
+use crate::writing::fits::{header_fits, message_fits};
+use crate::writing::records::{put_entry_field, put_header, put_header_field};
 use im_model::entries::Entry;
 use im_model::headers::Header;
 use im_mtree::digests::Digests;
@@ -129,5 +130,16 @@ pub fn write(alloc: Global, message: &Message) -> Result<Vec<u8>, AllocError>
     let mut out = Writer::new(Vec::new(alloc));
     put_message(alloc, &mut out, message)?;
     message_fits(message);
+    Ok(out.into_inner())
+}
+
+/// The one text of a header: compact JSON (RFC 8259), members in rising octet order of their names, octets as
+/// lower-case hex. It refuses for want of memory alone.
+pub fn header_json(alloc: Global, header: &Header) -> Result<Vec<u8>, AllocError>
+    ensures { IfOk result (λ octets. octets.items ≡ header_text header.now) }
+{
+    let mut out = Writer::new(Vec::new(alloc));
+    put_header(alloc, &mut out, header)?;
+    header_fits(header);
     Ok(out.into_inner())
 }

@@ -64,7 +64,7 @@ fn signed_fits(number: i64)
 }
 
 // What the types say of a header.
-fn header_fits(header: &Header)
+pub(crate) fn header_fits(header: &Header)
     ensures { IsHeader header.now }
 {
     number_fits(header.id);

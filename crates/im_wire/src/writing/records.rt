@@ -45,7 +45,7 @@ fn put_header_back(alloc: Global, out: &mut Writer, header: &Header) -> Result<(
 }
 
 // Adds a header.
-fn put_header(alloc: Global, out: &mut Writer, header: &Header) -> Result<(), AllocError>
+pub(crate) fn put_header(alloc: Global, out: &mut Writer, header: &Header) -> Result<(), AllocError>
     ensures ok { OnOk result (out.new.tokens ≡ out.old.tokens ++ tokens_of (header_data header.now)) }
     ensures before { out.new.before ≡ out.old.before }
 {

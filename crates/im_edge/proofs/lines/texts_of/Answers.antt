@@ -1,5 +1,5 @@
 use Rattle.std.proofs.Common.{◌≡◌, ◌<◌, ◌∙◌, ◌++◌, ◌∷◌, [], ℕ, List, length, ap, sym, arith}
-use Rattle.im_cuts.proofs.LineLemmas.{texts-more}
+use Rattle.im_text.proofs.LineLemmas.{texts-more}
 use Rattle.im_edge.proofs.Texts.{all-read, one-more}
 use Rattle.im_edge.proofs.lines.texts_of.Goals as goal
 

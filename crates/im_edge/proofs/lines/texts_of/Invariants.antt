@@ -1,5 +1,5 @@
 use Rattle.std.proofs.Common.{ℕ, List, length, ◌++◌}
-use Rattle.im_cuts.specs.Lines.{AreTexts}
+use Rattle.im_text.specs.Lines.{AreTexts}
 use Rattle.im_edge.proofs.lines.texts_of.Given as goal
 
 abbrev pub invariant-loop-rest : goal.invariant-loop-rest

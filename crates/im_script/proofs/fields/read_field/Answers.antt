@@ -1,4 +1,4 @@
-use Rattle.im_cuts.proofs.FindsLemmas.{Finds-none, Finds-some}
+use Rattle.im_text.proofs.FindsLemmas.{Finds-none, Finds-some}
 use Rattle.im_script.proofs.FieldLemmas.{field-bad-key, field-bad-value, field-no-cut, field-of}
 use Rattle.im_script.proofs.fields.read_field.Goals as goal
 

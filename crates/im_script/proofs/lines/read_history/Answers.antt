@@ -1,4 +1,4 @@
-use Rattle.im_cuts.proofs.FindsLemmas.{Finds-none}
+use Rattle.im_text.proofs.FindsLemmas.{Finds-none}
 use Rattle.im_script.proofs.lines.read_history.Goals as goal
 
 pub returns-in_default : goal.returns-in_default

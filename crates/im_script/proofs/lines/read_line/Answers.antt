@@ -1,5 +1,5 @@
 use Rattle.std.proofs.lemmas.Bool.{both_ways}
-use Rattle.im_cuts.proofs.FindsLemmas.{Finds-none}
+use Rattle.im_text.proofs.FindsLemmas.{Finds-none}
 use Rattle.im_script.proofs.LineLemmas.{line-bad-session, line-no-space, line-bad-command}
 use Rattle.im_script.proofs.lines.read_line.Goals as goal
 

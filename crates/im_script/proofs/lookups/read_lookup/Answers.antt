@@ -1,4 +1,4 @@
-use Rattle.im_cuts.proofs.FindsLemmas.{Finds-none}
+use Rattle.im_text.proofs.FindsLemmas.{Finds-none}
 use Rattle.im_script.proofs.LookupLemmas.{lookup-bad-at, lookup-bad-octets}
 use Rattle.im_script.proofs.lookups.read_lookup.Goals as goal
 

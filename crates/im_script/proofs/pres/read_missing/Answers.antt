@@ -1,4 +1,4 @@
-use Rattle.im_cuts.proofs.FindsLemmas.{Finds-none}
+use Rattle.im_text.proofs.FindsLemmas.{Finds-none}
 use Rattle.im_script.proofs.PreLemmas.{missing-no-key}
 use Rattle.im_script.proofs.pres.read_missing.Goals as goal
 

@@ -1,5 +1,5 @@
 use Rattle.std.proofs.Common.{◌≡◌, [], ◌∷◌, ◌++◌, rules}
-use Rattle.im_cuts.proofs.FindsLemmas.{Finds-none, Finds-some}
+use Rattle.im_text.proofs.FindsLemmas.{Finds-none, Finds-some}
 use Rattle.im_script.proofs.AskedLemmas.{behind-next, only-behind, behind-end, only-end, none-next, none-unspaced}
 use Rattle.im_script.proofs.pres.read_pres.Goals.{in-Some+in_ok-pre+in_default-2, in_default}
 use Rattle.im_script.proofs.pres.read_pres.Goals as goal

@@ -1,4 +1,4 @@
-use Rattle.im_cuts.proofs.FindsLemmas.{Finds-none}
+use Rattle.im_text.proofs.FindsLemmas.{Finds-none}
 use Rattle.im_script.proofs.PreLemmas.{since-no-key, since-no-number}
 use Rattle.im_script.proofs.pres.read_since.Goals as goal
 

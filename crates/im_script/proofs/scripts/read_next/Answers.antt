@@ -1,6 +1,6 @@
 use Rattle.std.proofs.Common.{subst}
 use Rattle.std.proofs.lemmas.Bool.{both_ways}
-use Rattle.im_cuts.proofs.FindsLemmas.{Finds-none, Finds-some}
+use Rattle.im_text.proofs.FindsLemmas.{Finds-none, Finds-some}
 use Rattle.im_script.specs.declared.commands.Line.{Line}
 use Rattle.im_script.specs.Script.{MayFollow}
 use Rattle.im_script.proofs.Unique.{line-unique}

@@ -1,6 +1,6 @@
 use Rattle.std.proofs.Common.{◌≡◌, ◌==◌, ℕ, List, [], ◌∷◌, ◌++◌, length, subst, sym, ap, ◌∙◌, rules}
 use Rattle.std.proofs.lemmas.Bool.{both_ways}
-use Rattle.im_cuts.proofs.FindsLemmas.{Finds-none, Finds-some}
+use Rattle.im_text.proofs.FindsLemmas.{Finds-none, Finds-some}
 use Rattle.im_draft.specs.declared.drafts.Draft.{Draft}
 use Rattle.im_script.specs.Script.{AreFields}
 use Rattle.im_script.proofs.SetLemmas.{fields-bad-field, fields-unspaced, fields-next, refuse-next, fields-all}

@@ -1,5 +1,5 @@
 use Rattle.std.proofs.Common.{◌≡◌, ◌<◌, ◌+◌, ◌-◌, ◌*◌, ◌^◌, fold, length}
-use Rattle.im_cuts.specs.Words.{number_value}
+use Rattle.im_text.specs.Words.{number_value}
 use Rattle.im_sqlparse.proofs.numbers.number_value.Given as goal
 
 abbrev pub invariant-loop-digits : goal.invariant-loop-digits

@@ -1,6 +1,0 @@
-use Rattle.std.proofs.Common.{take}
-use Rattle.im_cuts.specs.Cuts.{Lacks}
-use Rattle.im_cuts.proofs.cut.Given as goal
-
-abbrev pub invariant-loop-i : goal.invariant-loop-i
-invariant-loop-i l = Lacks l.mark (take l.i l.text)

@@ -1,4 +1,0 @@
-pub mod Cuts
-pub mod Finds
-pub mod Lines
-pub mod Words

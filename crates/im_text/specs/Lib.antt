@@ -1,0 +1,5 @@
+pub mod Cuts
+pub mod Fields
+pub mod Finds
+pub mod Lines
+pub mod Words
