@@ -11,7 +11,7 @@ pub returns-in_default-cut-clause-none : goal.returns-in_default-cut-clause-none
 returns-in_default-cut-clause-none c = λ rest r.
     reply-tail c.args.line.now rest c.in-Some.session.now c.in-Some.tail.now c.in-Some.ensures.some c.in_default-cut.ensures.none r
 
-pub returns-then-not-is_number-clause-none : goal.returns-then-not-is_number-clause-none
-returns-then-not-is_number-clause-none c = λ rest r.
+pub returns-then-not-is_digits-clause-none : goal.returns-then-not-is_digits-clause-none
+returns-then-not-is_digits-clause-none c = λ rest r.
     reply-bad-number c.args.line.now rest c.in-Some.session.now c.in-Some.tail.now c.in-Some-cut.number.now c.in-Some-cut.rest.now
-    c.in-Some.ensures.some c.in-Some-cut.ensures.some (λ h. both_ways c.is_number.result c.if-not-is_number.true (c.is_number.ensures.1 h)) r
+    c.in-Some.ensures.some c.in-Some-cut.ensures.some (λ h. both_ways c.is_digits.result c.if-not-is_digits.true (c.is_digits.ensures.value.1 h)) r
