@@ -1,7 +1,7 @@
 //! Statements that create something.
 
 use crate::values::{push_name, push_names};
-use im_sqlparse::statements::{ColumnDefinition, ColumnType, CreateIndex, CreateTable};
+use im_sqlparse::statements::{ColumnDefinition, CreateIndex, CreateTable, DeclaredType};
 use std::alloc::AllocError;
 
 /// Adds a new table: `(create-table NAME if-not-exists|always (columns COLUMN ..) (key NAME ..))`.
@@ -43,12 +43,12 @@ fn push_column(out: &mut String, column: &ColumnDefinition) -> Result<(), AllocE
 }
 
 // Adds a type: `integer`, `boolean`, `(varchar N)` or `(blob N)`.
-fn push_type(out: &mut String, holds: ColumnType) -> Result<(), AllocError> {
+fn push_type(out: &mut String, holds: DeclaredType) -> Result<(), AllocError> {
     match holds {
-        ColumnType::Integer => out.push_str("integer"),
-        ColumnType::Boolean => out.push_str("boolean"),
-        ColumnType::Varchar(most) => write!(out, "(varchar {most})"),
-        ColumnType::Blob(most) => write!(out, "(blob {most})"),
+        DeclaredType::Integer => out.push_str("integer"),
+        DeclaredType::Boolean => out.push_str("boolean"),
+        DeclaredType::Varchar(most) => write!(out, "(varchar {most})"),
+        DeclaredType::Blob(most) => write!(out, "(blob {most})"),
     }
 }
 

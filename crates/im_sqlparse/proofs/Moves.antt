@@ -7,7 +7,7 @@ use Rattle.std.specs.List.{prefix_len}
 use Rattle.im_sqlparse.specs.declared.lex.Class.TheVariants as class
 use Rattle.im_sqlparse.specs.declared.kinds.Kind.{Kind}
 use Rattle.im_sqlparse.specs.declared.kinds.Kind.TheVariants as k
-use Rattle.im_sqlparse.specs.Lex.{Text, Token, token, skip, word, underscored, minus, quoted, closing, closed, hex, sign, compared, is_in, same_kind}
+use Rattle.im_sqlparse.specs.Lex.{Text, Token, token, skip, word, underscored, minus, quoted, closing, closed, hex, sign, comparison_sign, is_in, same_kind}
 
 pick : (b : Bool) (x y : Token) → (b ≡ true → 1 ≤ x.1) → (b ≡ false → 1 ≤ y.1) → 1 ≤ (cond b x y).1
 pick true x y p q = p refl
@@ -54,8 +54,8 @@ one : (b : Bool) (x y : Token) → 1 ≤ x.1 → 1 ≤ y.1 → 1 ≤ (cond b x y
 one true x y p q = p
 one false x y p q = q
 
-compared_moves : (o n : ℕ) → 1 ≤ (compared o n).1
-unfolding compared
+compared_moves : (o n : ℕ) → 1 ≤ (comparison_sign o n).1
+unfolding comparison_sign
 compared_moves o n =
     one (o == 33) (cond (n == 61) (k.Unequal, 2) (k.Bad, 1)) _ (one (n == 61) (k.Unequal, 2) (k.Bad, 1) (omega arith) (omega arith))
     (one (o == 60) (cond (n == 61) (k.AtMost, 2) (cond (n == 62) (k.Unequal, 2) (k.Less, 1))) _
@@ -67,7 +67,7 @@ unfolding sign
 sign_moves o n =
     one (o == 40) (k.Open, 1) _ (omega arith) (one (o == 41) (k.Close, 1) _ (omega arith) (one (o == 91) (k.OpenBracket, 1) _ (omega arith) (one (o == 93) (k.CloseBracket, 1) _ (omega arith)
     (one (o == 44) (k.Comma, 1) _ (omega arith) (one (o == 59) (k.Semicolon, 1) _ (omega arith) (one (o == 42) (k.Star, 1) _ (omega arith) (one (o == 61) (k.Equal, 1) _ (omega arith)
-    (one (o == 33 || o == 60 || o == 62) (compared o n) (k.Bad, 1) (compared_moves o n) (omega arith)))))))))
+    (one (o == 33 || o == 60 || o == 62) (comparison_sign o n) (k.Bad, 1) (compared_moves o n) (omega arith)))))))))
 
 none_left : (o : ℕ) (t : Text) → (length (o ∷ t) == 0) ≡ true → ⊥
 none_left o t h = first_of (grind arith, grind (arith, common_steps), cc)

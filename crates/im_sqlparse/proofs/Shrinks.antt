@@ -5,10 +5,10 @@ use Rattle.im_sqlparse.specs.declared.errors.SyntaxKind.{SyntaxKind}
 use Rattle.im_sqlparse.specs.declared.kinds.Kind.{Kind}
 use Rattle.im_sqlparse.specs.declared.kinds.Kind.TheVariants as k
 use Rattle.im_sqlparse.specs.Lex.{token, skip, same_kind}
-use Rattle.im_sqlparse.specs.Input.{Input, Reader, Outcome, and_then, ◌>>=◌, ◌<$>◌, pure, refuse, fails, kind, next, left, peek, here, take_token, sees, after, eat, expect, separated, separated_from}
+use Rattle.im_sqlparse.specs.Input.{Input, Reader, Parsed, and_then, ◌>>=◌, ◌<$>◌, pure, refuse, fails, kind, next, left, peek, here, take_token, sees, past_kind, eat, expect, separated, separated_from}
 use Rattle.im_sqlparse.proofs.Moves.{some_octet, skip_le}
 
-abbrev pub Shrunk : {A : Type 0} → Outcome A → Input → Type 0
+abbrev pub Shrunk : {A : Type 0} → Parsed A → Input → Type 0
 Shrunk (Ok p) i = left p.1 ≤ left i
 Shrunk (Err e) i = Unit {0}
 
@@ -26,11 +26,11 @@ next_lt mark i other seen =
     let some = some_octet (skip i.text) mark other seen in
     omega (arith, some.0, some.1, skip_le (drop (token (skip i.text)).1 (skip i.text)), length-drop (token (skip i.text)).1 (skip i.text))
 
-pub shrunk_more : {A : Type 0} (o : Outcome A) (i j : Input) → left j ≤ left i → Shrunk o j → Shrunk o i
+pub shrunk_more : {A : Type 0} (o : Parsed A) (i j : Input) → left j ≤ left i → Shrunk o j → Shrunk o i
 shrunk_more (Ok p) i j h s = omega (arith, h, s)
 shrunk_more (Err e) i j h s = tt
 
-pub then_shrunk : {A B : Type 0} (o : Outcome A) (f : A → Reader B) (i : Input) → Shrunk o i → ((a : A) → Shrinks (f a)) → Shrunk (and_then o f) i
+pub then_shrunk : {A B : Type 0} (o : Parsed A) (f : A → Reader B) (i : Input) → Shrunk o i → ((a : A) → Shrinks (f a)) → Shrunk (and_then o f) i
 then_shrunk (Ok p) f i s g = shrunk_more (f p.0 p.1) i p.1 s (g p.0 p.1)
 then_shrunk (Err e) f i s g = tt
 
@@ -41,7 +41,7 @@ pub of_cond : {A : Type 0} (b : Bool) (p q : Reader A) → Shrinks p → Shrinks
 of_cond true p q s t = s
 of_cond false p q s t = t
 
-pub of_choice : {A : Type 0} (b : Bool) (o q : Outcome A) (i : Input) → Shrunk o i → Shrunk q i → Shrunk (cond b o q) i
+pub of_choice : {A : Type 0} (b : Bool) (o q : Parsed A) (i : Input) → Shrunk o i → Shrunk q i → Shrunk (cond b o q) i
 of_choice true o q i s t = s
 of_choice false o q i s t = t
 
@@ -67,7 +67,7 @@ pub of_take : Shrinks take_token
 of_take i = next_le i
 
 pub of_eat : (what : Kind) → Shrinks (eat what)
-unfolding after
+unfolding past_kind
 of_eat what i = elim (sees what i) as (λ b. left (cond b (next i) i) ≤ left i) [ true ↦ next_le i | false ↦ omega arith ]
 
 pub of_expect : (what : Kind) → Shrinks (expect what)

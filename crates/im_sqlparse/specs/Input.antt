@@ -43,13 +43,13 @@ place i = i.whole - left i
 
 -- ---- readers: a value and what is left, or the first fault
 
-abbrev pub Outcome : Type 0 → Type 0
-Outcome A = Result (A × Input) SqlSyntax
+abbrev pub Parsed : Type 0 → Type 0
+Parsed A = Result (A × Input) SqlSyntax
 
 abbrev pub Reader : Type 0 → Type 0
-Reader A = Input → Outcome A
+Reader A = Input → Parsed A
 
-abbrev pub and_then : {A B : Type 0} → Outcome A → (A → Reader B) → Outcome B
+abbrev pub and_then : {A B : Type 0} → Parsed A → (A → Reader B) → Parsed B
 and_then (Ok p) f = f p.0 p.1
 and_then (Err e) f = Err e
 
@@ -96,12 +96,12 @@ take_token = λ i. Ok (spelling i, next i)
 unfoldable pub sees : Kind → Input → Bool
 sees what i = same_kind (kind i) what
 
-unfoldable pub after : Kind → Input → Input
-after what i = if sees what i then next i else i
+unfoldable pub past_kind : Kind → Input → Input
+past_kind what i = if sees what i then next i else i
 
 -- takes a token of this kind, if it comes next
 abbrev pub eat : Kind → Reader Bool
-eat what = λ i. Ok (sees what i, after what i)
+eat what = λ i. Ok (sees what i, past_kind what i)
 
 -- takes a token of this kind, which must come next
 unfoldable pub expect : Kind → Reader (Unit {0})
@@ -122,7 +122,7 @@ separated mark item = λ i. separated_from mark item (left i) [] i
 
 -- ---- what a function that reads ensures: the reader's outcome, unless memory fails
 
-abbrev pub Reads : {A : Type 0} → Outcome A → Result A ParseError → Input → Type 0
-Reads outcome (Ok a) new = outcome ≡ Ok (a, new)
-Reads outcome (Err Memory) new = Unit {0}
-Reads outcome (Err (Syntax e)) new = outcome ≡ Err e
+abbrev pub ReadsTokens : {A : Type 0} → Parsed A → Result A ParseError → Input → Type 0
+ReadsTokens outcome (Ok a) new = outcome ≡ Ok (a, new)
+ReadsTokens outcome (Err Memory) new = Unit {0}
+ReadsTokens outcome (Err (Syntax e)) new = outcome ≡ Err e

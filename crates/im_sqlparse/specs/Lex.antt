@@ -95,8 +95,8 @@ hex text =
     if slice_index text (digits + 2) == 39 && digits % 2 == 0 then (k.Hex, digits + 3) else (k.Bad, 1)
 
 -- `!=`, or a sign that begins with `<` or `>`, by its first octet and the next one
-unfoldable pub compared : ℕ → ℕ → Token
-compared octet next =
+unfoldable pub comparison_sign : ℕ → ℕ → Token
+comparison_sign octet next =
     if octet == 33 then (if next == 61 then (k.Unequal, 2) else (k.Bad, 1))
     else (if octet == 60 then (if next == 61 then (k.AtMost, 2) else (if next == 62 then (k.Unequal, 2) else (k.Less, 1)))
     else (if next == 61 then (k.AtLeast, 2) else (k.Greater, 1)))
@@ -112,7 +112,7 @@ sign octet next =
     else (if octet == 59 then (k.Semicolon, 1)
     else (if octet == 42 then (k.Star, 1)
     else (if octet == 61 then (k.Equal, 1)
-    else (if octet == 33 || octet == 60 || octet == 62 then compared octet next
+    else (if octet == 33 || octet == 60 || octet == 62 then comparison_sign octet next
     else (k.Bad, 1)))))))))
 
 -- The token at the front. A text reads as 0 past its end.

@@ -6,8 +6,8 @@ use Rattle.im_sqlparse.specs.declared.errors.ParseError.{ParseError}
 use Rattle.im_sqlparse.specs.declared.errors.ParseError.TheVariants.{Memory, Syntax}
 use Rattle.im_sqlparse.specs.declared.errors.SqlSyntax.{SqlSyntax}
 use Rattle.im_sqlparse.specs.declared.errors.SyntaxKind.TheVariants as fault
-use Rattle.im_sqlparse.specs.declared.statements.ColumnType.{ColumnType}
-use Rattle.im_sqlparse.specs.declared.statements.ColumnType.TheVariants as holds
+use Rattle.im_sqlparse.specs.declared.statements.DeclaredType.{DeclaredType}
+use Rattle.im_sqlparse.specs.declared.statements.DeclaredType.TheVariants as holds
 use Rattle.im_sqlparse.specs.declared.statements.ColumnDefinition.{ColumnDefinition}
 use Rattle.im_sqlparse.specs.declared.statements.Period.{Period}
 use Rattle.im_sqlparse.specs.declared.statements.Period.TheVariants as period
@@ -16,7 +16,7 @@ use Rattle.im_sqlparse.specs.declared.statements.Insertion.{Insertion}
 use Rattle.im_sqlparse.specs.declared.statements.Stmt.{Stmt}
 use Rattle.im_sqlparse.specs.declared.statements.Stmt.TheVariants as stmt
 use Rattle.im_sqlparse.specs.Lex.{Text}
-use Rattle.im_sqlparse.specs.Input.{Outcome, Reader, start_of, and_then, ◌>>=◌, ◌>>◌, ◌<$>◌, pure, refuse, fails, left, sees, peek, take_token, eat, expect, separated}
+use Rattle.im_sqlparse.specs.Input.{Parsed, Reader, start_of, and_then, ◌>>=◌, ◌>>◌, ◌<$>◌, pure, refuse, fails, left, sees, peek, take_token, eat, expect, separated}
 use Rattle.im_sqlparse.specs.Values.{name, column, number, names, row}
 use Rattle.im_sqlparse.specs.Conditions.{filter}
 
@@ -28,14 +28,14 @@ size = do
   found ← eat k.OpenBracket
   if found then (do n ← number 1 1024; expect k.CloseBracket; pure n) else pure 1024
 
-abbrev pub holds_by : Kind → Reader ColumnType
+abbrev pub holds_by : Kind → Reader DeclaredType
 holds_by k.Integer = take_token >> pure holds.Integer
 holds_by k.Boolean = take_token >> pure holds.Boolean
 holds_by k.Varchar = take_token >> holds.Varchar <$> size
 holds_by k.Blob = take_token >> holds.Blob <$> size
 holds_by _ = refuse
 
-unfoldable pub column_type : Reader ColumnType
+unfoldable pub column_type : Reader DeclaredType
 column_type = peek >>= holds_by
 
 unfoldable pub not_null : Reader Bool
@@ -120,8 +120,8 @@ insertion = do
   pure (record { table = table; columns = columns; rows = rows })
 
 -- behind DELETE
-unfoldable pub deletion : Reader Stmt
-deletion = do
+unfoldable pub delete_statement : Reader Stmt
+delete_statement = do
   expect k.From
   table ← name
   which ← filter false
@@ -130,8 +130,8 @@ deletion = do
 -- ---- SELECT
 
 -- the columns that are shown: `*` is all
-unfoldable pub shown : Reader (Option (List Text))
-shown = do
+unfoldable pub select_list : Reader (Option (List Text))
+select_list = do
   found ← eat k.Star
   if found then pure None else Some <$> separated k.Comma (column true)
 
@@ -176,7 +176,7 @@ count_behind word = do
 -- behind SELECT
 unfoldable pub select : Reader Stmt
 select = do
-  columns ← shown
+  columns ← select_list
   expect k.From
   from ← source
   at ← when
@@ -192,7 +192,7 @@ abbrev pub statement_by : Kind → Reader Stmt
 statement_by k.Create = take_token >> create
 statement_by k.Upsert = take_token >> stmt.Upsert <$> insertion
 statement_by k.Insert = take_token >> stmt.Insert <$> insertion
-statement_by k.Delete = take_token >> deletion
+statement_by k.Delete = take_token >> delete_statement
 statement_by k.Select = take_token >> select
 statement_by _ = refuse
 
@@ -208,7 +208,7 @@ whole_statement = do
   pure found
 
 -- the statement of a text, or its first fault
-abbrev pub value_of : {A : Type 0} → Outcome A → Result A SqlSyntax
+abbrev pub value_of : {A : Type 0} → Parsed A → Result A SqlSyntax
 value_of (Ok p) = Ok p.0
 value_of (Err e) = Err e
 

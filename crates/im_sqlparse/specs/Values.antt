@@ -32,13 +32,13 @@ unfoldable pub within : ℕ → ℕ → Text → Option ℕ
 within least most text =
     if nat_le least (number_value text) && nat_le (number_value text) most then Some (number_value text) else None
 
-abbrev pub number_of : Option ℕ → Reader ℕ
-number_of (Some n) = take_token >> pure n
-number_of None = fails fault.Number
+abbrev pub number_from : Option ℕ → Reader ℕ
+number_from (Some n) = take_token >> pure n
+number_from None = fails fault.Number
 
 -- a number of a range
 unfoldable pub number : ℕ → ℕ → Reader ℕ
-number least most = λ i. if is_unsigned i then number_of (within least most (spelling i)) i else refuse i
+number least most = λ i. if is_unsigned i then number_from (within least most (spelling i)) i else refuse i
 
 -- without this many octets in front, and one behind
 unfoldable pub inside : ℕ → Text → Text

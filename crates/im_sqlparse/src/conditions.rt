@@ -4,7 +4,7 @@
 ghost use Rattle.std.specs.Prelude.{◌≡◌, IfOk};
 ghost use Rattle.im_sqlparse.specs.Conditions as spec;
 ghost use Rattle.im_sqlparse.specs.Input as input;
-ghost use Rattle.im_sqlparse.specs.Input.{Reads};
+ghost use Rattle.im_sqlparse.specs.Input.{ReadsTokens};
 
 use crate::errors::{ParseError, SyntaxKind};
 use crate::kinds::Kind;
@@ -28,7 +28,7 @@ fn begins_column(rev: bool, kind: Kind) -> bool
 // One side of a comparison.
 #[tactic(auto, unfolding(crate::specs::Conditions::side))]
 fn side(alloc: Global, tokens: &mut Tokens<'_>, rev: bool) -> Result<Operand, ParseError>
-    ensures { Reads (spec.side rev tokens.old) result tokens.new }
+    ensures { ReadsTokens (spec.side rev tokens.old) result tokens.new }
 {
     if begins_column(rev, tokens.peek()) {
         Ok(Operand::Column(column(alloc, tokens, rev)?))
@@ -53,7 +53,7 @@ fn operator_of(kind: Kind) -> Option<Operator>
 
 #[tactic(auto, unfolding(crate::specs::Conditions::comparator))]
 fn comparator(tokens: &mut Tokens<'_>) -> Result<Operator, ParseError>
-    ensures { Reads (spec.comparator tokens.old) result tokens.new }
+    ensures { ReadsTokens (spec.comparator tokens.old) result tokens.new }
 {
     match operator_of(tokens.peek()) {
         Some(operator) => {
@@ -72,7 +72,7 @@ fn compared(
     rev: bool,
     left: Operand,
 ) -> Result<Condition, ParseError>
-    ensures { Reads (spec.compared rev left tokens.old) result tokens.new }
+    ensures { ReadsTokens (spec.compared rev left tokens.old) result tokens.new }
 {
     let at = tokens.place();
     let operator = comparator(tokens)?;
@@ -88,7 +88,7 @@ fn compared(
 // What follows a column and IS.
 #[tactic(auto, unfolding(crate::specs::Conditions::nullness))]
 fn nullness(tokens: &mut Tokens<'_>, column: Name) -> Result<Condition, ParseError>
-    ensures { Reads (spec.nullness column tokens.old) result tokens.new }
+    ensures { ReadsTokens (spec.nullness column tokens.old) result tokens.new }
 {
     let negated = tokens.eat(Kind::Not);
     tokens.expect(Kind::Null)?;
@@ -103,7 +103,7 @@ fn of_column(
     rev: bool,
     column: Name,
 ) -> Result<Condition, ParseError>
-    ensures { Reads (spec.of_column rev column tokens.old) result tokens.new }
+    ensures { ReadsTokens (spec.of_column rev column tokens.old) result tokens.new }
 {
     if tokens.eat(Kind::Is) {
         nullness(tokens, column)
@@ -115,7 +115,7 @@ fn of_column(
 // A comparison, or a column that is NULL or isn't.
 #[tactic(auto, unfolding(crate::specs::Conditions::comparison))]
 fn comparison(alloc: Global, tokens: &mut Tokens<'_>, rev: bool) -> Result<Condition, ParseError>
-    ensures { Reads (spec.comparison rev tokens.old) result tokens.new }
+    ensures { ReadsTokens (spec.comparison rev tokens.old) result tokens.new }
 {
     if begins_column(rev, tokens.peek()) {
         let column = column(alloc, tokens, rev)?;
@@ -141,7 +141,7 @@ fn conjunction(
     rev: bool,
     depth: usize,
 ) -> Result<Condition, ParseError>
-    ensures { Reads (spec.conjunction (spec.factor rev depth) tokens.old) result tokens.new }
+    ensures { ReadsTokens (spec.conjunction (spec.factor rev depth) tokens.old) result tokens.new }
 {
     let mut found = Items::new(alloc);
     for _turn in 0..tokens.left() {
@@ -161,7 +161,7 @@ fn disjunction(
     rev: bool,
     depth: usize,
 ) -> Result<Condition, ParseError>
-    ensures { Reads (spec.disjunction (spec.factor rev depth) tokens.old) result tokens.new }
+    ensures { ReadsTokens (spec.disjunction (spec.factor rev depth) tokens.old) result tokens.new }
 {
     let mut found = Items::new(alloc);
     for _turn in 0..tokens.left() {
@@ -181,7 +181,7 @@ fn negation(
     rev: bool,
     depth: usize,
 ) -> Result<Condition, ParseError>
-    ensures { Reads (spec.negation (spec.factor rev depth) tokens.old) result tokens.new }
+    ensures { ReadsTokens (spec.negation (spec.factor rev depth) tokens.old) result tokens.new }
 {
     let inner = factor(alloc, tokens, rev, depth)?;
     Ok(Condition::Not(Boxed::new(alloc, inner)?))
@@ -195,7 +195,7 @@ fn nested(
     rev: bool,
     depth: usize,
 ) -> Result<Condition, ParseError>
-    ensures { Reads (spec.nested (spec.factor rev depth) tokens.old) result tokens.new }
+    ensures { ReadsTokens (spec.nested (spec.factor rev depth) tokens.old) result tokens.new }
 {
     let found = disjunction(alloc, tokens, rev, depth)?;
     tokens.expect(Kind::Close)?;
@@ -210,7 +210,7 @@ fn deeper(
     rev: bool,
     depth: usize,
 ) -> Result<Condition, ParseError>
-    ensures { Reads (spec.deeper (spec.factor rev depth) tokens.old) result tokens.new }
+    ensures { ReadsTokens (spec.deeper (spec.factor rev depth) tokens.old) result tokens.new }
 {
     if tokens.eat(Kind::Not) {
         return negation(alloc, tokens, rev, depth);
@@ -227,7 +227,7 @@ fn factor(
     rev: bool,
     depth: usize,
 ) -> Result<Condition, ParseError>
-    ensures { Reads (spec.factor rev depth tokens.old) result tokens.new }
+    ensures { ReadsTokens (spec.factor rev depth tokens.old) result tokens.new }
 {
     if !opens(tokens.peek()) {
         return comparison(alloc, tokens, rev);
@@ -245,7 +245,7 @@ pub fn filter(
     tokens: &mut Tokens<'_>,
     rev: bool,
 ) -> Result<Option<Boxed<Condition>>, ParseError>
-    ensures { Reads (spec.filter rev tokens.old) result tokens.new }
+    ensures { ReadsTokens (spec.filter rev tokens.old) result tokens.new }
 {
     if !tokens.eat(Kind::Where) {
         return Ok(None);

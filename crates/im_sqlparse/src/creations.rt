@@ -2,12 +2,12 @@
 
 ghost use Rattle.std.specs.Prelude.{◌≡◌};
 ghost use Rattle.im_sqlparse.specs.Statements as spec;
-ghost use Rattle.im_sqlparse.specs.Input.{Reads};
+ghost use Rattle.im_sqlparse.specs.Input.{ReadsTokens};
 
 use crate::errors::{ParseError, SyntaxKind};
 use crate::kinds::Kind;
 use crate::numbers::number;
-use crate::statements::{ColumnDefinition, ColumnType, CreateIndex, CreateTable, Name, Stmt};
+use crate::statements::{ColumnDefinition, CreateIndex, CreateTable, DeclaredType, Name, Stmt};
 use crate::tokens::Tokens;
 use crate::values::{name, names};
 use sqlite_items::Items;
@@ -22,7 +22,7 @@ const MOST_OCTETS: u64 = 1024;
 // The number of octets in brackets, if they come next.
 #[tactic(auto, unfolding(crate::specs::Statements::size))]
 fn size(tokens: &mut Tokens<'_>) -> Result<u64, ParseError>
-    ensures { Reads (spec.size tokens.old) result tokens.new }
+    ensures { ReadsTokens (spec.size tokens.old) result tokens.new }
 {
     if !tokens.eat(Kind::OpenBracket) {
         return Ok(MOST_OCTETS);
@@ -33,25 +33,25 @@ fn size(tokens: &mut Tokens<'_>) -> Result<u64, ParseError>
 }
 
 #[tactic(auto, unfolding(crate::specs::Statements::column_type))]
-fn column_type(tokens: &mut Tokens<'_>) -> Result<ColumnType, ParseError>
-    ensures { Reads (spec.column_type tokens.old) result tokens.new }
+fn column_type(tokens: &mut Tokens<'_>) -> Result<DeclaredType, ParseError>
+    ensures { ReadsTokens (spec.column_type tokens.old) result tokens.new }
 {
     match tokens.peek() {
         Kind::Integer => {
             tokens.take();
-            Ok(ColumnType::Integer)
+            Ok(DeclaredType::Integer)
         }
         Kind::Boolean => {
             tokens.take();
-            Ok(ColumnType::Boolean)
+            Ok(DeclaredType::Boolean)
         }
         Kind::Varchar => {
             tokens.take();
-            Ok(ColumnType::Varchar(size(tokens)?))
+            Ok(DeclaredType::Varchar(size(tokens)?))
         }
         Kind::Blob => {
             tokens.take();
-            Ok(ColumnType::Blob(size(tokens)?))
+            Ok(DeclaredType::Blob(size(tokens)?))
         }
         _ => Err(tokens.refuse()),
     }
@@ -59,7 +59,7 @@ fn column_type(tokens: &mut Tokens<'_>) -> Result<ColumnType, ParseError>
 
 #[tactic(auto, unfolding(crate::specs::Statements::not_null))]
 fn not_null(tokens: &mut Tokens<'_>) -> Result<bool, ParseError>
-    ensures { Reads (spec.not_null tokens.old) result tokens.new }
+    ensures { ReadsTokens (spec.not_null tokens.old) result tokens.new }
 {
     if !tokens.eat(Kind::Not) {
         return Ok(false);
@@ -71,7 +71,7 @@ fn not_null(tokens: &mut Tokens<'_>) -> Result<bool, ParseError>
 // The name of a column behind so many others.
 #[tactic(auto, unfolding(crate::specs::Statements::new_column))]
 fn new_column(alloc: Global, tokens: &mut Tokens<'_>, count: usize) -> Result<Name, ParseError>
-    ensures { Reads (spec.new_column count tokens.old) result tokens.new }
+    ensures { ReadsTokens (spec.new_column count tokens.old) result tokens.new }
 {
     let too_many = tokens.fault(SyntaxKind::Number);
     let found = name(alloc, tokens)?;
@@ -87,7 +87,7 @@ fn definition(
     tokens: &mut Tokens<'_>,
     count: usize,
 ) -> Result<ColumnDefinition, ParseError>
-    ensures { Reads (spec.definition count tokens.old) result tokens.new }
+    ensures { ReadsTokens (spec.definition count tokens.old) result tokens.new }
 {
     let name = new_column(alloc, tokens, count)?;
     let holds = column_type(tokens)?;
@@ -105,7 +105,7 @@ fn definitions(
     alloc: Global,
     tokens: &mut Tokens<'_>,
 ) -> Result<Items<ColumnDefinition>, ParseError>
-    ensures { Reads (spec.definitions tokens.old) result tokens.new }
+    ensures { ReadsTokens (spec.definitions tokens.old) result tokens.new }
 {
     let mut found = Items::new(alloc);
     for _turn in 0..tokens.left() {
@@ -121,7 +121,7 @@ fn definitions(
 // The columns of a primary key, behind PRIMARY KEY.
 #[tactic(auto, unfolding(crate::specs::Statements::key))]
 fn key(alloc: Global, tokens: &mut Tokens<'_>) -> Result<Items<Name>, ParseError>
-    ensures { Reads (spec.key tokens.old) result tokens.new }
+    ensures { ReadsTokens (spec.key tokens.old) result tokens.new }
 {
     if tokens.sees(Kind::Open) {
         return names(alloc, tokens);
@@ -133,7 +133,7 @@ fn key(alloc: Global, tokens: &mut Tokens<'_>) -> Result<Items<Name>, ParseError
 
 #[tactic(auto, unfolding(crate::specs::Statements::if_not_exists))]
 fn if_not_exists(tokens: &mut Tokens<'_>) -> Result<bool, ParseError>
-    ensures { Reads (spec.if_not_exists tokens.old) result tokens.new }
+    ensures { ReadsTokens (spec.if_not_exists tokens.old) result tokens.new }
 {
     if !tokens.eat(Kind::If) {
         return Ok(false);
@@ -146,7 +146,7 @@ fn if_not_exists(tokens: &mut Tokens<'_>) -> Result<bool, ParseError>
 // Behind CREATE TABLE.
 #[tactic(auto, unfolding(crate::specs::Statements::create_table))]
 fn create_table(alloc: Global, tokens: &mut Tokens<'_>) -> Result<Stmt, ParseError>
-    ensures { Reads (spec.create_table tokens.old) result tokens.new }
+    ensures { ReadsTokens (spec.create_table tokens.old) result tokens.new }
 {
     let if_not_exists = if_not_exists(tokens)?;
     let table = name(alloc, tokens)?;
@@ -166,7 +166,7 @@ fn create_table(alloc: Global, tokens: &mut Tokens<'_>) -> Result<Stmt, ParseErr
 // Behind CREATE INDEX.
 #[tactic(auto, unfolding(crate::specs::Statements::create_index))]
 fn create_index(alloc: Global, tokens: &mut Tokens<'_>, unique: bool) -> Result<Stmt, ParseError>
-    ensures { Reads (spec.create_index unique tokens.old) result tokens.new }
+    ensures { ReadsTokens (spec.create_index unique tokens.old) result tokens.new }
 {
     tokens.expect(Kind::On)?;
     let table = name(alloc, tokens)?;
@@ -181,7 +181,7 @@ fn create_index(alloc: Global, tokens: &mut Tokens<'_>, unique: bool) -> Result<
 /// Behind CREATE.
 #[tactic(auto, unfolding(crate::specs::Statements::create))]
 pub fn create(alloc: Global, tokens: &mut Tokens<'_>) -> Result<Stmt, ParseError>
-    ensures { Reads (spec.create tokens.old) result tokens.new }
+    ensures { ReadsTokens (spec.create tokens.old) result tokens.new }
 {
     match tokens.peek() {
         Kind::Table => {

@@ -181,15 +181,15 @@ fn sign(octet: u8, next: u8) -> Token
         b';' => (Kind::Semicolon, 1),
         b'*' => (Kind::Star, 1),
         b'=' => (Kind::Equal, 1),
-        b'!' | b'<' | b'>' => compared(octet, next),
+        b'!' | b'<' | b'>' => comparison_sign(octet, next),
         _ => (Kind::Bad, 1),
     }
 }
 
 // A sign that begins with `!`, `<` or `>`.
-#[tactic(auto, unfolding(crate::specs::Lex::compared))]
-fn compared(octet: u8, next: u8) -> Token
-    ensures value { result ≡ spec.compared octet next }
+#[tactic(auto, unfolding(crate::specs::Lex::comparison_sign))]
+fn comparison_sign(octet: u8, next: u8) -> Token
+    ensures value { result ≡ spec.comparison_sign octet next }
     ensures within { spec.IsShort next result.1 }
 {
     match (octet, next) {

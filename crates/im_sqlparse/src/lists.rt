@@ -2,7 +2,7 @@
 
 ghost use Rattle.std.specs.Prelude.{Bool};
 ghost use Rattle.im_sqlparse.specs.Input as spec;
-ghost use Rattle.im_sqlparse.specs.Input.{Reader, Reads};
+ghost use Rattle.im_sqlparse.specs.Input.{Reader, ReadsTokens};
 
 use crate::errors::ParseError;
 use crate::kinds::Kind;
@@ -15,9 +15,9 @@ pub trait Listed: Sized + Drop {
     /// The rule by which one is read. The parameter says whether `_rev` may stand where a column may.
     ghost rule: { Bool → Reader Self };
 
-    /// Reads one.
+    /// ReadsTokens one.
     fn read(alloc: Global, tokens: &mut Tokens<'_>, rev: bool) -> Result<Self, ParseError>
-        ensures { Reads (rule rev tokens.old) result tokens.new };
+        ensures { ReadsTokens (rule rev tokens.old) result tokens.new };
 }
 
 /// One or more, with commas between.
@@ -26,7 +26,7 @@ pub fn separated<T: Listed>(
     tokens: &mut Tokens<'_>,
     rev: bool,
 ) -> Result<Items<T>, ParseError>
-    ensures { Reads (spec.separated Kind.Comma (T.rule rev) tokens.old) result tokens.new }
+    ensures { ReadsTokens (spec.separated Kind.Comma (T.rule rev) tokens.old) result tokens.new }
 {
     let mut found = Items::new(alloc);
     for _turn in 0..tokens.left() {

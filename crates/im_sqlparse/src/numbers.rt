@@ -4,7 +4,7 @@ ghost use Rattle.std.specs.Prelude.{◌≡◌, ◌<◌, ◌+◌, ◌-◌, ◌*�
 ghost use Rattle.std.specs.Option.{SomeIff};
 ghost use Rattle.im_text.specs.Words.{number_value};
 ghost use Rattle.im_sqlparse.specs.Values as spec;
-ghost use Rattle.im_sqlparse.specs.Input.{Reads};
+ghost use Rattle.im_sqlparse.specs.Input.{ReadsTokens};
 
 use crate::errors::{ParseError, SyntaxKind};
 use crate::kinds::Kind;
@@ -86,7 +86,7 @@ fn within(text: &[u8], least: u64, most: u64) -> Option<u64>
 /// A number of this range, without a sign.
 #[tactic(auto, unfolding(crate::specs::Values::number))]
 pub fn number(tokens: &mut Tokens<'_>, least: u64, most: u64) -> Result<u64, ParseError>
-    ensures { Reads (spec.number least most tokens.old) result tokens.new }
+    ensures { ReadsTokens (spec.number least most tokens.old) result tokens.new }
 {
     if !is_unsigned(tokens) {
         return Err(tokens.refuse());

@@ -2,7 +2,7 @@
 
 ghost use Rattle.std.specs.Prelude.{◌≡◌};
 ghost use Rattle.im_sqlparse.specs.Statements as spec;
-ghost use Rattle.im_sqlparse.specs.Input.{Reads};
+ghost use Rattle.im_sqlparse.specs.Input.{ReadsTokens};
 
 use crate::creations::create;
 use crate::errors::ParseError;
@@ -10,12 +10,12 @@ use crate::kinds::Kind;
 use crate::selects::select;
 use crate::statements::Stmt;
 use crate::tokens::Tokens;
-use crate::writes::{deletion, insertion};
+use crate::writes::{delete_statement, insertion};
 use std::alloc::Global;
 
 #[tactic(auto, unfolding(crate::specs::Statements::statement))]
 fn statement(alloc: Global, tokens: &mut Tokens<'_>) -> Result<Stmt, ParseError>
-    ensures { Reads (spec.statement tokens.old) result tokens.new }
+    ensures { ReadsTokens (spec.statement tokens.old) result tokens.new }
 {
     match tokens.peek() {
         Kind::Create => {
@@ -32,7 +32,7 @@ fn statement(alloc: Global, tokens: &mut Tokens<'_>) -> Result<Stmt, ParseError>
         }
         Kind::Delete => {
             tokens.take();
-            deletion(alloc, tokens)
+            delete_statement(alloc, tokens)
         }
         Kind::Select => {
             tokens.take();
@@ -45,7 +45,7 @@ fn statement(alloc: Global, tokens: &mut Tokens<'_>) -> Result<Stmt, ParseError>
 // A statement, one `;` if it comes next, and then the end.
 #[tactic(auto, unfolding(crate::specs::Statements::whole_statement))]
 fn whole_statement(alloc: Global, tokens: &mut Tokens<'_>) -> Result<Stmt, ParseError>
-    ensures { Reads (spec.whole_statement tokens.old) result tokens.new }
+    ensures { ReadsTokens (spec.whole_statement tokens.old) result tokens.new }
 {
     let found = statement(alloc, tokens)?;
     tokens.eat(Kind::Semicolon);

@@ -2,7 +2,7 @@
 
 ghost use Rattle.std.specs.Prelude.{◌≡◌, Bool};
 ghost use Rattle.im_sqlparse.specs.Statements as spec;
-ghost use Rattle.im_sqlparse.specs.Input.{Reads};
+ghost use Rattle.im_sqlparse.specs.Input.{ReadsTokens};
 
 use crate::conditions::filter;
 use crate::errors::ParseError;
@@ -16,9 +16,9 @@ use sqlite_items::Items;
 use std::alloc::Global;
 
 // The columns that are shown: `*` is all.
-#[tactic(auto, unfolding(crate::specs::Statements::shown))]
-fn shown(alloc: Global, tokens: &mut Tokens<'_>) -> Result<Option<Items<Name>>, ParseError>
-    ensures { Reads (spec.shown tokens.old) result tokens.new }
+#[tactic(auto, unfolding(crate::specs::Statements::select_list))]
+fn select_list(alloc: Global, tokens: &mut Tokens<'_>) -> Result<Option<Items<Name>>, ParseError>
+    ensures { ReadsTokens (spec.select_list tokens.old) result tokens.new }
 {
     if tokens.eat(Kind::Star) {
         return Ok(None);
@@ -30,7 +30,7 @@ fn shown(alloc: Global, tokens: &mut Tokens<'_>) -> Result<Option<Items<Name>>, 
 // A table, and whether its history is meant.
 #[tactic(auto, unfolding(crate::specs::Statements::source))]
 fn source(alloc: Global, tokens: &mut Tokens<'_>) -> Result<(Name, bool), ParseError>
-    ensures { Reads (spec.source tokens.old) result tokens.new }
+    ensures { ReadsTokens (spec.source tokens.old) result tokens.new }
 {
     if !tokens.eat(Kind::Open) {
         return Ok((name(alloc, tokens)?, false));
@@ -44,7 +44,7 @@ fn source(alloc: Global, tokens: &mut Tokens<'_>) -> Result<(Name, bool), ParseE
 
 #[tactic(auto, unfolding(crate::specs::Statements::when))]
 fn when(tokens: &mut Tokens<'_>) -> Result<Period, ParseError>
-    ensures { Reads (spec.when tokens.old) result tokens.new }
+    ensures { ReadsTokens (spec.when tokens.old) result tokens.new }
 {
     match tokens.peek() {
         Kind::Before => {
@@ -64,7 +64,7 @@ fn when(tokens: &mut Tokens<'_>) -> Result<Period, ParseError>
 // A column, and whether the greatest comes first.
 #[tactic(auto, unfolding(crate::specs::Statements::order_term))]
 fn order_term(alloc: Global, tokens: &mut Tokens<'_>) -> Result<OrderTerm, ParseError>
-    ensures { Reads (spec.order_term tokens.old) result tokens.new }
+    ensures { ReadsTokens (spec.order_term tokens.old) result tokens.new }
 {
     let column = column(alloc, tokens, true)?;
     let descending = tokens.eat(Kind::Desc);
@@ -84,7 +84,7 @@ impl Listed for OrderTerm {
 
 #[tactic(auto, unfolding(crate::specs::Statements::order))]
 fn order(alloc: Global, tokens: &mut Tokens<'_>) -> Result<Items<OrderTerm>, ParseError>
-    ensures { Reads (spec.order tokens.old) result tokens.new }
+    ensures { ReadsTokens (spec.order tokens.old) result tokens.new }
 {
     if !tokens.eat(Kind::Order) {
         return Ok(Items::new(alloc));
@@ -96,7 +96,7 @@ fn order(alloc: Global, tokens: &mut Tokens<'_>) -> Result<Items<OrderTerm>, Par
 // A number behind a keyword, if that comes next.
 #[tactic(auto, unfolding(crate::specs::Statements::count_behind))]
 fn count_behind(tokens: &mut Tokens<'_>, word: Kind) -> Result<Option<u64>, ParseError>
-    ensures { Reads (spec.count_behind word tokens.old) result tokens.new }
+    ensures { ReadsTokens (spec.count_behind word tokens.old) result tokens.new }
 {
     if !tokens.eat(word) {
         return Ok(None);
@@ -107,9 +107,9 @@ fn count_behind(tokens: &mut Tokens<'_>, word: Kind) -> Result<Option<u64>, Pars
 /// Behind SELECT.
 #[tactic(auto, unfolding(crate::specs::Statements::select))]
 pub fn select(alloc: Global, tokens: &mut Tokens<'_>) -> Result<Stmt, ParseError>
-    ensures { Reads (spec.select tokens.old) result tokens.new }
+    ensures { ReadsTokens (spec.select tokens.old) result tokens.new }
 {
-    let columns = shown(alloc, tokens)?;
+    let columns = select_list(alloc, tokens)?;
     tokens.expect(Kind::From)?;
     let (table, history) = source(alloc, tokens)?;
     let period = when(tokens)?;

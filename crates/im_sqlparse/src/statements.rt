@@ -21,7 +21,7 @@ pub enum Literal {
 
 /// What a column holds.
 #[derive(Clone, Copy, Debug, PartialEq, Eq)]
-pub enum ColumnType {
+pub enum DeclaredType {
     /// Numbers of 64 bits with a sign.
     Integer,
     /// `TRUE` and `FALSE`.
@@ -38,7 +38,7 @@ pub struct ColumnDefinition {
     /// Its name.
     pub name: Name,
     /// What it holds.
-    pub holds: ColumnType,
+    pub holds: DeclaredType,
     /// Whether it is `NOT NULL`.
     pub not_null: bool,
 }

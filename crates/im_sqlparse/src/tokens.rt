@@ -2,7 +2,7 @@
 
 ghost use Rattle.std.specs.Prelude.{◌≡◌};
 ghost use Rattle.im_sqlparse.specs.Input as spec;
-ghost use Rattle.im_sqlparse.specs.Input.{Reads};
+ghost use Rattle.im_sqlparse.specs.Input.{ReadsTokens};
 
 use crate::errors::{ParseError, SqlSyntax, SyntaxKind};
 use crate::kinds::Kind;
@@ -126,10 +126,10 @@ impl<'a> Tokens<'a> {
     }
 
     /// Takes a token of this kind, if it comes next, and says whether it did.
-    #[tactic(auto, unfolding(crate::specs::Input::after))]
+    #[tactic(auto, unfolding(crate::specs::Input::past_kind))]
     pub fn eat(&mut self, kind: Kind) -> bool
         ensures found { result ≡ spec.sees kind self.old }
-        ensures after { self.new ≡ spec.after kind self.old }
+        ensures after { self.new ≡ spec.past_kind kind self.old }
     {
         let found = self.sees(kind);
         if found {
@@ -141,7 +141,7 @@ impl<'a> Tokens<'a> {
     /// Takes a token of this kind, which must come next.
     #[tactic(auto, unfolding(crate::specs::Input::expect))]
     pub fn expect(&mut self, kind: Kind) -> Result<(), ParseError>
-        ensures { Reads (spec.expect kind self.old) result self.new }
+        ensures { ReadsTokens (spec.expect kind self.old) result self.new }
     {
         if self.sees(kind) {
             self.take();

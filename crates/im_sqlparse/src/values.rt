@@ -4,7 +4,7 @@ ghost use Rattle.std.specs.Prelude.{◌≡◌, Bool, List, false, IfOk};
 ghost use Rattle.std.specs.Result.{result_ok};
 ghost use Rattle.hex.specs.Hex.{decode_of};
 ghost use Rattle.im_sqlparse.specs.Values as spec;
-ghost use Rattle.im_sqlparse.specs.Input.{Reads};
+ghost use Rattle.im_sqlparse.specs.Input.{ReadsTokens};
 
 use crate::errors::{ParseError, SyntaxKind};
 use crate::kinds::Kind;
@@ -22,7 +22,7 @@ const MOST_NAME: usize = 48;
 /// A name, folded to lower case.
 #[tactic(auto, unfolding(crate::specs::Values::name))]
 pub fn name(alloc: Global, tokens: &mut Tokens<'_>) -> Result<Name, ParseError>
-    ensures { Reads (spec.name tokens.old) result tokens.new }
+    ensures { ReadsTokens (spec.name tokens.old) result tokens.new }
 {
     if !tokens.sees(Kind::Word) {
         return Err(tokens.refuse());
@@ -39,7 +39,7 @@ pub fn name(alloc: Global, tokens: &mut Tokens<'_>) -> Result<Name, ParseError>
 /// A column: a name, or `_rev` where that may stand.
 #[tactic(auto, unfolding(crate::specs::Values::column))]
 pub fn column(alloc: Global, tokens: &mut Tokens<'_>, rev: bool) -> Result<Name, ParseError>
-    ensures { Reads (spec.column rev tokens.old) result tokens.new }
+    ensures { ReadsTokens (spec.column rev tokens.old) result tokens.new }
 {
     if !(rev && tokens.sees(Kind::Rev)) {
         return name(alloc, tokens);
@@ -76,7 +76,7 @@ fn undouble(alloc: Global, mut text: &[u8]) -> Result<Items<u8>, AllocError>
 
 #[tactic(auto, unfolding(crate::specs::Values::integer))]
 fn integer(tokens: &mut Tokens<'_>) -> Result<Literal, ParseError>
-    ensures { Reads (spec.integer tokens.old) result tokens.new }
+    ensures { ReadsTokens (spec.integer tokens.old) result tokens.new }
 {
     match integer_value(tokens.spelling()) {
         Some(number) => {
@@ -100,7 +100,7 @@ fn decoded(alloc: Global, digits: &[u8]) -> Result<Option<Items<u8>>, AllocError
 
 #[tactic(auto, unfolding(crate::specs::Values::blob))]
 fn blob(alloc: Global, tokens: &mut Tokens<'_>) -> Result<Literal, ParseError>
-    ensures { Reads (spec.blob tokens.old) result tokens.new }
+    ensures { ReadsTokens (spec.blob tokens.old) result tokens.new }
 {
     match decoded(alloc, inside(2, tokens.spelling()))? {
         Some(octets) => {
@@ -114,7 +114,7 @@ fn blob(alloc: Global, tokens: &mut Tokens<'_>) -> Result<Literal, ParseError>
 /// A value as it is written.
 #[tactic(auto, unfolding(crate::specs::Values::value))]
 pub fn value(alloc: Global, tokens: &mut Tokens<'_>) -> Result<Literal, ParseError>
-    ensures { Reads (spec.value tokens.old) result tokens.new }
+    ensures { ReadsTokens (spec.value tokens.old) result tokens.new }
 {
     match tokens.peek() {
         Kind::Null => {
@@ -163,7 +163,7 @@ impl Listed for Items<Literal> {
 /// Names in parentheses.
 #[tactic(auto, unfolding(crate::specs::Values::names))]
 pub fn names(alloc: Global, tokens: &mut Tokens<'_>) -> Result<Items<Name>, ParseError>
-    ensures { Reads (spec.names tokens.old) result tokens.new }
+    ensures { ReadsTokens (spec.names tokens.old) result tokens.new }
 {
     tokens.expect(Kind::Open)?;
     let found = separated::<Items<u8>>(alloc, tokens, false)?;
@@ -174,7 +174,7 @@ pub fn names(alloc: Global, tokens: &mut Tokens<'_>) -> Result<Items<Name>, Pars
 /// Values in parentheses.
 #[tactic(auto, unfolding(crate::specs::Values::row))]
 fn row(alloc: Global, tokens: &mut Tokens<'_>) -> Result<Items<Literal>, ParseError>
-    ensures { Reads (spec.row tokens.old) result tokens.new }
+    ensures { ReadsTokens (spec.row tokens.old) result tokens.new }
 {
     tokens.expect(Kind::Open)?;
     let found = separated::<Literal>(alloc, tokens, false)?;

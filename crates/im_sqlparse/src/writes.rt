@@ -2,7 +2,7 @@
 
 ghost use Rattle.std.specs.Prelude.{◌≡◌};
 ghost use Rattle.im_sqlparse.specs.Statements as spec;
-ghost use Rattle.im_sqlparse.specs.Input.{Reads};
+ghost use Rattle.im_sqlparse.specs.Input.{ReadsTokens};
 
 use crate::conditions::filter;
 use crate::errors::ParseError;
@@ -17,7 +17,7 @@ use std::alloc::Global;
 /// Behind UPSERT or INSERT.
 #[tactic(auto, unfolding(crate::specs::Statements::insertion))]
 pub fn insertion(alloc: Global, tokens: &mut Tokens<'_>) -> Result<Insertion, ParseError>
-    ensures { Reads (spec.insertion tokens.old) result tokens.new }
+    ensures { ReadsTokens (spec.insertion tokens.old) result tokens.new }
 {
     tokens.expect(Kind::Into)?;
     let table = name(alloc, tokens)?;
@@ -32,9 +32,9 @@ pub fn insertion(alloc: Global, tokens: &mut Tokens<'_>) -> Result<Insertion, Pa
 }
 
 /// Behind DELETE.
-#[tactic(auto, unfolding(crate::specs::Statements::deletion))]
-pub fn deletion(alloc: Global, tokens: &mut Tokens<'_>) -> Result<Stmt, ParseError>
-    ensures { Reads (spec.deletion tokens.old) result tokens.new }
+#[tactic(auto, unfolding(crate::specs::Statements::delete_statement))]
+pub fn delete_statement(alloc: Global, tokens: &mut Tokens<'_>) -> Result<Stmt, ParseError>
+    ensures { ReadsTokens (spec.delete_statement tokens.old) result tokens.new }
 {
     tokens.expect(Kind::From)?;
     let table = name(alloc, tokens)?;

@@ -12,8 +12,8 @@ use Rattle.std.proofs.lemmas.Map.Lookups.{exact_bytes}
 use Rattle.im_sqltype.specs.Kinds.{IsOfKind, AreOfKinds}
 use Rattle.im_sqltype.specs.Orders.{octets_cmp, value_cmp, row_cmp}
 use Rattle.im_sqltype.specs.Texts.{raised, value_text, row_text}
-use Rattle.im_sqltype.specs.declared.kinds.Kind.{Kind}
-use Rattle.im_sqltype.specs.declared.kinds.Kind.TheVariants as kinds
+use Rattle.im_sqltype.specs.declared.kinds.ValueKind.{ValueKind}
+use Rattle.im_sqltype.specs.declared.kinds.ValueKind.TheVariants as kinds
 use Rattle.im_sqltype.specs.declared.values.Value.{Value}
 use Rattle.im_sqltype.specs.declared.values.Value.TheVariants.{Null, Integer, Boolean, Varchar, Blob}
 use Rattle.im_sqltype.proofs.OrderLemmas.{then_assoc, first_equal, second_equal, not_equal}
@@ -30,7 +30,7 @@ AreAlike (Varchar x) (Varchar y) = ⊤
 AreAlike (Blob x) (Blob y) = ⊤
 AreAlike v w = ⊥
 
-alike : (kind : Kind) (v w : Value) → IsOfKind kind v → IsOfKind kind w → AreAlike v w
+alike : (kind : ValueKind) (v w : Value) → IsOfKind kind v → IsOfKind kind w → AreAlike v w
 alike kind Null w p q = tt
 alike kind (Integer x) Null p q = tt
 alike kind (Boolean x) Null p q = tt
@@ -71,12 +71,12 @@ alike-order (Blob x) (Blob y) a b h = octets_text-order x y a b
 alike-order v w a b h = absurd h
 
 pub value-order :
-    (kind : Kind) (v w : Value) (a b : List ℕ) → IsOfKind kind v → IsOfKind kind w →
+    (kind : ValueKind) (v w : Value) (a b : List ℕ) → IsOfKind kind v → IsOfKind kind w →
     octets_cmp (value_text v ++ a) (value_text w ++ b) ≡ ordering_then (value_cmp v w) (octets_cmp a b)
 value-order kind v w a b p q = alike-order v w a b (alike kind v w p q)
 
 pub row-order :
-    (kinds : List Kind) (vs ws : List Value) (a b : List ℕ) → AreOfKinds kinds vs → AreOfKinds kinds ws →
+    (kinds : List ValueKind) (vs ws : List Value) (a b : List ℕ) → AreOfKinds kinds vs → AreOfKinds kinds ws →
     octets_cmp (row_text vs ++ a) (row_text ws ++ b) ≡ ordering_then (row_cmp vs ws) (octets_cmp a b)
 row-order [] [] [] a b p q = refl
 row-order [] (v ∷ vs) ws a b p q = absurd p
@@ -115,14 +115,14 @@ same_octets s t e = subst (λ u. octets_cmp s u ≡ Equal) e (tied_itself nat_li
 
 -- where both stand at the front of one text, they are one, and so is what stands behind them
 pub value-front :
-    (kind : Kind) (v w : Value) (a b : List ℕ) → IsOfKind kind v → IsOfKind kind w →
+    (kind : ValueKind) (v w : Value) (a b : List ℕ) → IsOfKind kind v → IsOfKind kind w →
     value_text v ++ a ≡ value_text w ++ b → (v ≡ w) × (a ≡ b)
 value-front kind v w a b p q e =
     let both : ordering_then (value_cmp v w) (octets_cmp a b) ≡ Equal = sym (value-order kind v w a b p q) ∙ same_octets _ _ e in
     (value_cmp-exact v w (first_equal (value_cmp v w) (octets_cmp a b) both), exact_bytes a b (second_equal (value_cmp v w) (octets_cmp a b) both))
 
 pub row-front :
-    (kinds : List Kind) (vs ws : List Value) (a b : List ℕ) → AreOfKinds kinds vs → AreOfKinds kinds ws →
+    (kinds : List ValueKind) (vs ws : List Value) (a b : List ℕ) → AreOfKinds kinds vs → AreOfKinds kinds ws →
     row_text vs ++ a ≡ row_text ws ++ b → (vs ≡ ws) × (a ≡ b)
 row-front kinds vs ws a b p q e =
     let both : ordering_then (row_cmp vs ws) (octets_cmp a b) ≡ Equal = sym (row-order kinds vs ws a b p q) ∙ same_octets _ _ e in

@@ -5,8 +5,8 @@ use Rattle.im_octet.specs.Fields.{field8}
 use Rattle.im_sqltype.specs.Kinds.{IsOfKind}
 use Rattle.im_sqltype.specs.Reading.{BeginsWithNone, HasNoOctets, HasNoTruth}
 use Rattle.im_sqltype.specs.Texts.{raised, value_text}
-use Rattle.im_sqltype.specs.declared.kinds.Kind.{Kind}
-use Rattle.im_sqltype.specs.declared.kinds.Kind.TheVariants as kinds
+use Rattle.im_sqltype.specs.declared.kinds.ValueKind.{ValueKind}
+use Rattle.im_sqltype.specs.declared.kinds.ValueKind.TheVariants as kinds
 use Rattle.im_sqltype.specs.declared.values.Value.{Value}
 use Rattle.im_sqltype.specs.declared.values.Value.TheVariants.{Null, Integer, Boolean, Varchar, Blob}
 
@@ -86,7 +86,7 @@ first-value_text (Boolean truth) rest = omega arith
 first-value_text (Varchar octets) rest = omega arith
 first-value_text (Blob octets) rest = omega arith
 
-pub none_first : (kind : Kind) (text : List ℕ) → 2 ≤ get_or text 0 2 → BeginsWithNone kind text
+pub none_first : (kind : ValueKind) (text : List ℕ) → 2 ≤ get_or text 0 2 → BeginsWithNone kind text
 none_first kind text h = record {
   none = λ value rest p e.
       let small : get_or (value_text value ++ rest) 0 2 < 2 = first-value_text value rest in
@@ -94,11 +94,11 @@ none_first kind text h = record {
       omega (arith, h, small, same);
 }
 
-pub none_in_nothing : (kind : Kind) (text : List ℕ) → length text < 1 → BeginsWithNone kind text
+pub none_in_nothing : (kind : ValueKind) (text : List ℕ) → length text < 1 → BeginsWithNone kind text
 none_in_nothing kind [] h = none_first kind [] (omega arith)
 none_in_nothing kind (x ∷ text) h = absurd (let no : ⊥ = omega (arith, h) in no)
 
-pub none_at_other : (kind : Kind) (text : List ℕ) → 1 ≤ length text → get_or text 0 0 ≢ 0 → get_or text 0 0 ≢ 1 → BeginsWithNone kind text
+pub none_at_other : (kind : ValueKind) (text : List ℕ) → 1 ≤ length text → get_or text 0 0 ≢ 0 → get_or text 0 0 ≢ 1 → BeginsWithNone kind text
 none_at_other kind [] l h k = absurd (let no : ⊥ = omega (arith, l) in no)
 none_at_other kind (x ∷ text) l h k = none_first kind (x ∷ text) (let big : 2 ≤ x = omega (arith, h, k) in big)
 

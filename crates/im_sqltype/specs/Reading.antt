@@ -2,25 +2,25 @@
 use Rattle.std.specs.Prelude.{◌≡◌, ◌<◌, ℕ, Bool, List, ◌∷◌, ◌++◌, length, if◌then◌else◌}
 use Rattle.im_sqltype.specs.Kinds.{IsOfKind, AreOfKinds}
 use Rattle.im_sqltype.specs.Texts.{octet_text, octets_text, value_text, row_text}
-use Rattle.im_sqltype.specs.declared.kinds.Kind.{Kind}
+use Rattle.im_sqltype.specs.declared.kinds.ValueKind.{ValueKind}
 use Rattle.im_sqltype.specs.declared.values.Value.{Value}
 use Rattle.im_sqltype.specs.declared.reading.Front.{Front}
 use Rattle.im_sqltype.specs.declared.reading.Front.TheVariants.{Octet, End, Nothing}
 
 -- the text of a value of this kind comes first, and then the rest
-abbrev pub BeginsWith : Kind → List ℕ → Value → List ℕ → Type 0
+abbrev pub BeginsWith : ValueKind → List ℕ → Value → List ℕ → Type 0
 BeginsWith kind text value rest = IsOfKind kind value × (text ≡ value_text value ++ rest)
 
 -- no value of this kind has its text there
-pub record BeginsWithNone (kind : Kind) (text : List ℕ) : Type 0 where
+pub record BeginsWithNone (kind : ValueKind) (text : List ℕ) : Type 0 where
   pub none : (value : Value) (rest : List ℕ) → IsOfKind kind value → text ≡ value_text value ++ rest → ⊥
 
 -- the texts of values of these kinds come first, and then the rest
-abbrev pub BeginWith : List Kind → List ℕ → List Value → List ℕ → Type 0
+abbrev pub BeginWith : List ValueKind → List ℕ → List Value → List ℕ → Type 0
 BeginWith kinds text values rest = AreOfKinds kinds values × (text ≡ row_text values ++ rest)
 
 -- no values of these kinds have their texts there
-pub record BeginWithNone (kinds : List Kind) (text : List ℕ) : Type 0 where
+pub record BeginWithNone (kinds : List ValueKind) (text : List ℕ) : Type 0 where
   pub none : (values : List Value) (rest : List ℕ) → AreOfKinds kinds values → text ≡ row_text values ++ rest → ⊥
 
 -- no octets have their text there

@@ -11,20 +11,20 @@ use Rattle.im_sqltype.specs.declared.values.Value.{Value}
 use Rattle.im_sqltype.specs.declared.values.Value.TheVariants.{Null, Integer, Boolean, Varchar, Blob}
 
 -- the number in a value, where false is 0 and true is 1
-abbrev number_in : Value → ℤ
-number_in (Integer number) = number
-number_in (Boolean true) = pos 1
-number_in value = pos 0
+abbrev value_number : Value → ℤ
+value_number (Integer number) = number
+value_number (Boolean true) = pos 1
+value_number value = pos 0
 
 -- the octets in a value
-abbrev octets_in : Value → List ℕ
-octets_in (Varchar octets) = octets
-octets_in (Blob octets) = octets
-octets_in value = []
+abbrev value_octets : Value → List ℕ
+value_octets (Varchar octets) = octets
+value_octets (Blob octets) = octets
+value_octets value = []
 
 -- the same order, by rank, number and octets
 abbrev parts_cmp : Value → Value → Ordering
-parts_cmp = then_cmp (on rank_of nat_cmp) (then_cmp (on number_in int_cmp) (on octets_in octets_cmp))
+parts_cmp = then_cmp (on rank_of nat_cmp) (then_cmp (on value_number int_cmp) (on value_octets octets_cmp))
 
 then-Equal : (o : Ordering) → ordering_then o Equal ≡ o
 then-Equal Less = refl
@@ -45,4 +45,4 @@ parts_cmp-value_cmp x y = refl
 pub value_cmp-total : IsTotalOrder value_cmp
 value_cmp-total =
     subst IsTotalOrder (λ i x y. parts_cmp-value_cmp x y i)
-    (then_total (on_total rank_of nat_cmp_total) (then_total (on_total number_in int_cmp_total) (on_total octets_in nat_list_cmp_total)))
+    (then_total (on_total rank_of nat_cmp_total) (then_total (on_total value_number int_cmp_total) (on_total value_octets nat_list_cmp_total)))

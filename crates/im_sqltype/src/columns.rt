@@ -1,4 +1,4 @@
-use crate::kinds::Kind;
+use crate::kinds::ValueKind;
 use crate::values::Value;
 use std::marker::Model;
 
@@ -84,17 +84,17 @@ pub enum Misfit {
 
 impl ColumnType {
     ghost use Rattle.std.specs.Prelude.{◌≡◌, ◌↔◌, IsOk};
-    ghost use Rattle.im_sqltype.specs.Kinds.{IsOfKind, Fits, kind_of};
+    ghost use Rattle.im_sqltype.specs.Kinds.{IsOfKind, FitsColumn, kind_of};
 
     /// The type without its limit.
-    pub fn kind(self) -> Kind
+    pub fn kind(self) -> ValueKind
         ensures { result ≡ kind_of self }
     {
         match self {
-            ColumnType::Integer => Kind::Integer,
-            ColumnType::Boolean => Kind::Boolean,
-            ColumnType::Varchar(_) => Kind::Varchar,
-            ColumnType::Blob(_) => Kind::Blob,
+            ColumnType::Integer => ValueKind::Integer,
+            ColumnType::Boolean => ValueKind::Boolean,
+            ColumnType::Varchar(_) => ValueKind::Varchar,
+            ColumnType::Blob(_) => ValueKind::Blob,
         }
     }
 
@@ -102,11 +102,11 @@ impl ColumnType {
     ///
     /// # Errors
     ///
-    /// `Kind` where the value is of another kind; else `Long` where it has more octets than the limit.
+    /// `ValueKind` where the value is of another kind; else `Long` where it has more octets than the limit.
     pub fn judge(self, value: &Value) -> Result<(), Misfit>
-        ensures fits { IsOk result ↔ Fits self value.now }
+        ensures fits { IsOk result ↔ FitsColumn self value.now }
         ensures kind { (result ≡ Err Misfit.Kind) ↔ ¬ IsOfKind (kind_of self) value.now }
-        ensures long { (result ≡ Err Misfit.Long) ↔ (IsOfKind (kind_of self) value.now × ¬ Fits self value.now) }
+        ensures long { (result ≡ Err Misfit.Long) ↔ (IsOfKind (kind_of self) value.now × ¬ FitsColumn self value.now) }
     {
         match (self, value) {
             (_, Value::Null) => Ok(()),

@@ -1,6 +1,6 @@
 /// A type of SQL, without the limit that a column may set.
 #[derive(Clone, Copy, Debug, PartialEq, Eq)]
-pub enum Kind {
+pub enum ValueKind {
     /// `INTEGER`: signed numbers of 64 bits.
     Integer,
     /// `BOOLEAN`: false or true.

@@ -6,7 +6,7 @@ ghost use Rattle.im_sqltype.specs.Reading.{BeginsWith, BeginsWithNone, BeginWith
 ghost use Rattle.im_sqltype.specs.Texts.{raised, octets_text, value_text, row_text};
 ghost use Rattle.im_sqltype.specs.declared.values.Value.{Value as Cell};
 
-use crate::kinds::Kind;
+use crate::kinds::ValueKind;
 use crate::numbers::lowered;
 use crate::rows::Row;
 use crate::values::Value;
@@ -121,25 +121,25 @@ fn read_truth(text: &[u8]) -> Option<(bool, &[u8])>
 #[tactic(auto, using(crate::proofs::ReadLemmas::contents))]
 fn read_content(
     alloc: Global,
-    kind: Kind,
+    kind: ValueKind,
     text: &[u8],
 ) -> Result<Option<(Value, &[u8])>, AllocError>
     ensures { IfOk result (λ found. MatchOption found (BeginsWithNone kind (1 ∷ text.now)) (λ front. BeginsWith kind (1 ∷ text.now) front.0 front.1.now)) }
 {
     match kind {
-        Kind::Integer => match read_number(text) {
+        ValueKind::Integer => match read_number(text) {
             Some((number, rest)) => Ok(Some((Value::Integer(number), rest))),
             None => Ok(None),
         },
-        Kind::Boolean => match read_truth(text) {
+        ValueKind::Boolean => match read_truth(text) {
             Some((truth, rest)) => Ok(Some((Value::Boolean(truth), rest))),
             None => Ok(None),
         },
-        Kind::Varchar => match read_octets(alloc, text)? {
+        ValueKind::Varchar => match read_octets(alloc, text)? {
             Some((octets, rest)) => Ok(Some((Value::Varchar(octets), rest))),
             None => Ok(None),
         },
-        Kind::Blob => match read_octets(alloc, text)? {
+        ValueKind::Blob => match read_octets(alloc, text)? {
             Some((octets, rest)) => Ok(Some((Value::Blob(octets), rest))),
             None => Ok(None),
         },
@@ -148,7 +148,11 @@ fn read_content(
 
 // The value of a kind whose text comes first, and what is behind it.
 #[tactic(auto, using(crate::proofs::ReadLemmas::beginnings))]
-fn read_front(alloc: Global, kind: Kind, text: &[u8]) -> Result<Option<(Value, &[u8])>, AllocError>
+fn read_front(
+    alloc: Global,
+    kind: ValueKind,
+    text: &[u8],
+) -> Result<Option<(Value, &[u8])>, AllocError>
     ensures { IfOk result (λ found. MatchOption found (BeginsWithNone kind text.now) (λ front. BeginsWith kind text.now front.0 front.1.now)) }
 {
     match text {
@@ -165,7 +169,7 @@ fn read_front(alloc: Global, kind: Kind, text: &[u8]) -> Result<Option<(Value, &
 ///
 /// `NotText` where no value of this kind, nor NULL, has this text. `Memory` where memory runs out.
 #[tactic(auto, using(crate::proofs::RowLemmas::whole_values))]
-pub fn read_value(alloc: Global, kind: Kind, text: &[u8]) -> Result<Value, ReadError>
+pub fn read_value(alloc: Global, kind: ValueKind, text: &[u8]) -> Result<Value, ReadError>
     ensures value { IfOk result (λ value. IsOfKind kind value × (text.now ≡ value_text value)) }
     ensures none { result ≡ Err ReadError.NotText → (value : Cell) → IsOfKind kind value → text.now ≢ value_text value }
 {
@@ -183,7 +187,7 @@ pub fn read_value(alloc: Global, kind: Kind, text: &[u8]) -> Result<Value, ReadE
 #[tactic(auto, using(crate::proofs::RowLemmas::rows_so_far))]
 fn read_values<'t>(
     alloc: Global,
-    kinds: &[Kind],
+    kinds: &[ValueKind],
     text: &'t [u8],
 ) -> Result<Option<(Vec<Value>, &'t [u8])>, AllocError>
     ensures { IfOk result (λ found. MatchOption found (BeginWithNone kinds.now text.now) (λ front. BeginWith kinds.now text.now front.0.items front.1.now)) }
@@ -207,7 +211,7 @@ fn read_values<'t>(
 ///
 /// `NotText` where no values of these kinds have these texts. `Memory` where memory runs out.
 #[tactic(auto, using(crate::proofs::RowLemmas::whole_rows))]
-pub fn read_row(alloc: Global, kinds: &[Kind], text: &[u8]) -> Result<Row, ReadError>
+pub fn read_row(alloc: Global, kinds: &[ValueKind], text: &[u8]) -> Result<Row, ReadError>
     ensures row { IfOk result (λ row. AreOfKinds kinds.now row × (text.now ≡ row_text row)) }
     ensures none { result ≡ Err ReadError.NotText → (row : List Cell) → AreOfKinds kinds.now row → text.now ≢ row_text row }
 {

@@ -1,7 +1,7 @@
 //! Values of each kind in rising order, with their texts.
 
 use im_octet::octets::Octets;
-use im_sqltype::kinds::Kind;
+use im_sqltype::kinds::ValueKind;
 use im_sqltype::reading::{ReadError, read_row, read_value};
 use im_sqltype::texts::{row_text, value_text};
 use im_sqltype::values::Value;
@@ -20,42 +20,42 @@ enum Sample {
 
 // The values of each kind are in rising order.
 #[rattlefmt::skip]
-const SAMPLES: [(Kind, Sample, &[u8]); 20] = [
-    (Kind::Integer, Sample::Null, &[0]),
-    (Kind::Integer, Sample::Integer(-9223372036854775808), &[1, 0, 0, 0, 0, 0, 0, 0, 0]),
-    (Kind::Integer, Sample::Integer(-2), &[1, 127, 255, 255, 255, 255, 255, 255, 254]),
-    (Kind::Integer, Sample::Integer(-1), &[1, 127, 255, 255, 255, 255, 255, 255, 255]),
-    (Kind::Integer, Sample::Integer(0), &[1, 128, 0, 0, 0, 0, 0, 0, 0]),
-    (Kind::Integer, Sample::Integer(1), &[1, 128, 0, 0, 0, 0, 0, 0, 1]),
-    (Kind::Integer, Sample::Integer(9223372036854775807), &[1, 255, 255, 255, 255, 255, 255, 255, 255]),
-    (Kind::Boolean, Sample::Null, &[0]),
-    (Kind::Boolean, Sample::Boolean(false), &[1, 0]),
-    (Kind::Boolean, Sample::Boolean(true), &[1, 1]),
-    (Kind::Varchar, Sample::Null, &[0]),
-    (Kind::Varchar, Sample::Varchar(b""), &[1, 0, 0]),
-    (Kind::Varchar, Sample::Varchar(b"\0"), &[1, 0, 255, 0, 0]),
-    (Kind::Varchar, Sample::Varchar(b"a"), &[1, 97, 0, 0]),
-    (Kind::Varchar, Sample::Varchar(b"a\0b"), &[1, 97, 0, 255, 98, 0, 0]),
-    (Kind::Varchar, Sample::Varchar(b"ab"), &[1, 97, 98, 0, 0]),
-    (Kind::Blob, Sample::Null, &[0]),
-    (Kind::Blob, Sample::Blob(b"\x00\x00"), &[1, 0, 255, 0, 255, 0, 0]),
-    (Kind::Blob, Sample::Blob(b"\x01"), &[1, 1, 0, 0]),
-    (Kind::Blob, Sample::Blob(b"\xff"), &[1, 255, 0, 0]),
+const SAMPLES: [(ValueKind, Sample, &[u8]); 20] = [
+    (ValueKind::Integer, Sample::Null, &[0]),
+    (ValueKind::Integer, Sample::Integer(-9223372036854775808), &[1, 0, 0, 0, 0, 0, 0, 0, 0]),
+    (ValueKind::Integer, Sample::Integer(-2), &[1, 127, 255, 255, 255, 255, 255, 255, 254]),
+    (ValueKind::Integer, Sample::Integer(-1), &[1, 127, 255, 255, 255, 255, 255, 255, 255]),
+    (ValueKind::Integer, Sample::Integer(0), &[1, 128, 0, 0, 0, 0, 0, 0, 0]),
+    (ValueKind::Integer, Sample::Integer(1), &[1, 128, 0, 0, 0, 0, 0, 0, 1]),
+    (ValueKind::Integer, Sample::Integer(9223372036854775807), &[1, 255, 255, 255, 255, 255, 255, 255, 255]),
+    (ValueKind::Boolean, Sample::Null, &[0]),
+    (ValueKind::Boolean, Sample::Boolean(false), &[1, 0]),
+    (ValueKind::Boolean, Sample::Boolean(true), &[1, 1]),
+    (ValueKind::Varchar, Sample::Null, &[0]),
+    (ValueKind::Varchar, Sample::Varchar(b""), &[1, 0, 0]),
+    (ValueKind::Varchar, Sample::Varchar(b"\0"), &[1, 0, 255, 0, 0]),
+    (ValueKind::Varchar, Sample::Varchar(b"a"), &[1, 97, 0, 0]),
+    (ValueKind::Varchar, Sample::Varchar(b"a\0b"), &[1, 97, 0, 255, 98, 0, 0]),
+    (ValueKind::Varchar, Sample::Varchar(b"ab"), &[1, 97, 98, 0, 0]),
+    (ValueKind::Blob, Sample::Null, &[0]),
+    (ValueKind::Blob, Sample::Blob(b"\x00\x00"), &[1, 0, 255, 0, 255, 0, 0]),
+    (ValueKind::Blob, Sample::Blob(b"\x01"), &[1, 1, 0, 0]),
+    (ValueKind::Blob, Sample::Blob(b"\xff"), &[1, 255, 0, 0]),
 ];
 
 // No value of the kind has these texts.
-const OTHERS: [(Kind, &[u8]); 11] = [
-    (Kind::Integer, &[]),
-    (Kind::Integer, &[1, 128, 0, 0, 0, 0, 0, 0]),
-    (Kind::Integer, &[1, 128, 0, 0, 0, 0, 0, 0, 0, 0]),
-    (Kind::Boolean, &[1, 2]),
-    (Kind::Boolean, &[0, 0]),
-    (Kind::Boolean, &[2]),
-    (Kind::Varchar, &[1, 97]),
-    (Kind::Varchar, &[1, 97, 0]),
-    (Kind::Varchar, &[1, 97, 0, 1, 0, 0]),
-    (Kind::Blob, &[1, 97, 0, 0, 98]),
-    (Kind::Blob, &[1, 97, 0, 255]),
+const OTHERS: [(ValueKind, &[u8]); 11] = [
+    (ValueKind::Integer, &[]),
+    (ValueKind::Integer, &[1, 128, 0, 0, 0, 0, 0, 0]),
+    (ValueKind::Integer, &[1, 128, 0, 0, 0, 0, 0, 0, 0, 0]),
+    (ValueKind::Boolean, &[1, 2]),
+    (ValueKind::Boolean, &[0, 0]),
+    (ValueKind::Boolean, &[2]),
+    (ValueKind::Varchar, &[1, 97]),
+    (ValueKind::Varchar, &[1, 97, 0]),
+    (ValueKind::Varchar, &[1, 97, 0, 1, 0, 0]),
+    (ValueKind::Blob, &[1, 97, 0, 0, 98]),
+    (ValueKind::Blob, &[1, 97, 0, 255]),
 ];
 
 fn value_of(alloc: Global, sample: Sample) -> Result<Value, AllocError> {
@@ -69,7 +69,7 @@ fn value_of(alloc: Global, sample: Sample) -> Result<Value, AllocError> {
 }
 
 // Whether a value has this text, and is read back from it.
-fn is_kept(alloc: Global, kind: Kind, sample: Sample, text: &[u8]) -> Result<bool, Fail> {
+fn is_kept(alloc: Global, kind: ValueKind, sample: Sample, text: &[u8]) -> Result<bool, Fail> {
     let value = value_of(alloc, sample)?;
     let written = value_text(alloc, &value)?;
     let read = read_value(alloc, kind, text)?;
@@ -96,7 +96,11 @@ fn a_row_is_kept(alloc: Global) -> Result<bool, Fail> {
     let other = value_of(alloc, Sample::Varchar(b"a"))?;
     let row = [one, other, Value::Null];
     let written = row_text(alloc, &row)?;
-    let read = read_row(alloc, &[Kind::Integer, Kind::Varchar, Kind::Blob], &text)?;
+    let read = read_row(
+        alloc,
+        &[ValueKind::Integer, ValueKind::Varchar, ValueKind::Blob],
+        &text,
+    )?;
     let kept = written.as_slice() == text.as_slice() && read.as_slice() == row.as_slice();
     drop(row);
     drop(read);

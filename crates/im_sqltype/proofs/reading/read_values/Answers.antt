@@ -1,6 +1,6 @@
 use Rattle.std.proofs.Common.{MatchOption, ◌+◌, get_or, take, subst, sym}
 use Rattle.im_sqltype.specs.Reading.{BeginsWith, BeginsWithNone, BeginWith}
-use Rattle.im_sqltype.specs.declared.kinds.Kind.TheVariants as kinds
+use Rattle.im_sqltype.specs.declared.kinds.ValueKind.TheVariants as kinds
 use Rattle.im_sqltype.proofs.RowLemmas.{more_at_index}
 use Rattle.im_sqltype.proofs.reading.read_values.Goals as goal
 
