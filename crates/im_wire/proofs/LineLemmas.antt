@@ -7,6 +7,7 @@ use Rattle.im_wire.specs.Messages.{message_of, HasMessage}
 use Rattle.im_wire.specs.declared.errors.WireError.{WireError}
 use Rattle.im_wire.specs.declared.errors.WireError.TheVariants.{Memory, Syntax}
 use Rattle.im_wire.specs.declared.messages.Message.{Message}
+use Rattle.im_octet.proofs.Common.{some-is}
 use Rattle.im_text.specs.Cuts.{Lacks, IsCut}
 use Rattle.im_text.proofs.CutLemmas.{Lacks-mark, cut-unique}
 use Rattle.im_text.proofs.WordLemmas.{Lacks-word}
@@ -71,9 +72,6 @@ shown-passed line text (inr x) (inr y) = x.2 y.0 y.1
 pub line-refused : (line text : List ℕ) → IsShown line text → ((m : Message) → HasMessage text m → ⊥) → (o : Option Message) → IsLine line o → ⊥
 line-refused line text shown none None h = shown-passed line text shown h
 line-refused line text shown none (Some m) h = none m (subst (λ (t : List ℕ). HasMessage t m) (shown-unique line h.0 text h.1 shown) h.2)
-
-some-is : {A : Type 0} (x y : A) → Some x ≡ Some y → x ≡ y
-some-is x y e = cc
 
 -- a text says one message at most
 pub message-unique : (text : List ℕ) (m n : Message) → HasMessage text m → HasMessage text n → m ≡ n

@@ -1,6 +1,7 @@
-ghost use Rattle.std.specs.Prelude.{◌≡◌, ◌^◌};
+ghost use Rattle.std.specs.Prelude.{◌≡◌, ◌^◌, IfOk, IfErr, Some};
+ghost use Rattle.serde_json.specs.Find.{get};
 ghost use Rattle.serde_json.specs.View.{view};
-ghost use Rattle.im_wire.specs.Gives.{Gives};
+ghost use Rattle.im_wire.specs.Gives.{Gives, Fails};
 ghost use Rattle.im_wire.specs.Fields.{number_of, signed_of, octets_of, digest_of, digests_of, digest_lists_of, field};
 
 use crate::errors::WireError;
@@ -14,44 +15,43 @@ use im_proof::digest_lists::DigestLists;
 use serde_json::Value;
 use std::alloc::Global;
 
+// The member of that name, which must be there.
+pub(crate) fn member<'v>(value: &'v Value, name: &str) -> Result<&'v Value, WireError>
+    ensures some { IfOk result (λ found. get name.now (view value.now) ≡ Some (view found.now)) }
+    ensures none { IfErr result (λ error. Fails error (get name.now (view value.now))) }
+{
+    match value.get(name) {
+        Some(found) => Ok(found),
+        None => Err(WireError::Syntax),
+    }
+}
+
 // The member that is a number below 2^64.
 pub(crate) fn u64_field(value: &Value, name: &str) -> Result<u64, WireError>
     ensures { Gives result (field name.now (number_of (2 ^ 64)) (view value.now)) }
 {
-    match value.get(name) {
-        Some(value) => u64_of(value),
-        None => Err(WireError::Syntax),
-    }
+    u64_of(member(value, name)?)
 }
 
 // The member that is a number below 2^32.
 pub(crate) fn u32_field(value: &Value, name: &str) -> Result<u32, WireError>
     ensures { Gives result (field name.now (number_of (2 ^ 32)) (view value.now)) }
 {
-    match value.get(name) {
-        Some(value) => u32_of(value),
-        None => Err(WireError::Syntax),
-    }
+    u32_of(member(value, name)?)
 }
 
 // The member that is a number below 2^16.
 pub(crate) fn u16_field(value: &Value, name: &str) -> Result<u16, WireError>
     ensures { Gives result (field name.now (number_of (2 ^ 16)) (view value.now)) }
 {
-    match value.get(name) {
-        Some(value) => u16_of(value),
-        None => Err(WireError::Syntax),
-    }
+    u16_of(member(value, name)?)
 }
 
 // The member that is a number of 64 bits with a sign.
 pub(crate) fn i64_field(value: &Value, name: &str) -> Result<i64, WireError>
     ensures { Gives result (field name.now signed_of (view value.now)) }
 {
-    match value.get(name) {
-        Some(value) => i64_of(value),
-        None => Err(WireError::Syntax),
-    }
+    i64_of(member(value, name)?)
 }
 
 // The member that is octets, as many as the type allows.
@@ -62,30 +62,21 @@ pub(crate) fn octets_field<const LEAST: usize, const MOST: usize>(
 ) -> Result<Bounded<LEAST, MOST>, WireError>
     ensures { Gives result (field name.now (octets_of LEAST MOST) (view value.now)) }
 {
-    match value.get(name) {
-        Some(value) => octets_of(alloc, value),
-        None => Err(WireError::Syntax),
-    }
+    octets_of(alloc, member(value, name)?)
 }
 
 // The member that is a digest.
 pub(crate) fn digest_field(value: &Value, name: &str) -> Result<D32, WireError>
     ensures { Gives result (field name.now digest_of (view value.now)) }
 {
-    match value.get(name) {
-        Some(value) => digest_of(value),
-        None => Err(WireError::Syntax),
-    }
+    digest_of(member(value, name)?)
 }
 
 // The member that is a list of digests.
 pub(crate) fn digests_field(alloc: Global, value: &Value, name: &str) -> Result<Digests, WireError>
     ensures { Gives result (field name.now digests_of (view value.now)) }
 {
-    match value.get(name) {
-        Some(value) => digests_of(alloc, value),
-        None => Err(WireError::Syntax),
-    }
+    digests_of(alloc, member(value, name)?)
 }
 
 // The member that is a list of lists of digests.
@@ -96,8 +87,5 @@ pub(crate) fn digest_lists_field(
 ) -> Result<DigestLists, WireError>
     ensures { Gives result (field name.now digest_lists_of (view value.now)) }
 {
-    match value.get(name) {
-        Some(value) => digest_lists_of(alloc, value),
-        None => Err(WireError::Syntax),
-    }
+    digest_lists_of(alloc, member(value, name)?)
 }

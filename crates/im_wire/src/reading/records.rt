@@ -6,8 +6,8 @@ ghost use Rattle.im_wire.specs.Messages.{header_of, entry_of, advance_proof_of, 
 
 use crate::errors::WireError;
 use crate::reading::fields::{
-    digest_field, digest_lists_field, digests_field, i64_field, octets_field, u16_field, u32_field,
-    u64_field,
+    digest_field, digest_lists_field, digests_field, i64_field, member, octets_field, u16_field,
+    u32_field, u64_field,
 };
 use im_model::entries::Entry;
 use im_model::headers::Header;
@@ -67,20 +67,14 @@ fn advance_proof_of(alloc: Global, value: &Value) -> Result<AdvanceProof, WireEr
 pub(crate) fn header_field(alloc: Global, value: &Value, name: &str) -> Result<Header, WireError>
     ensures { Gives result (field name.now header_of (view value.now)) }
 {
-    match value.get(name) {
-        Some(value) => header_of(alloc, value),
-        None => Err(WireError::Syntax),
-    }
+    header_of(alloc, member(value, name)?)
 }
 
 // The member that is a linear advance.
 fn advance_proof_field(alloc: Global, value: &Value, name: &str) -> Result<AdvanceProof, WireError>
     ensures { Gives result (field name.now advance_proof_of (view value.now)) }
 {
-    match value.get(name) {
-        Some(value) => advance_proof_of(alloc, value),
-        None => Err(WireError::Syntax),
-    }
+    advance_proof_of(alloc, member(value, name)?)
 }
 
 // A dual proof.
@@ -116,20 +110,14 @@ pub(crate) fn dual_proof_field(
 ) -> Result<DualProof, WireError>
     ensures { Gives result (field name.now dual_proof_of (view value.now)) }
 {
-    match value.get(name) {
-        Some(value) => dual_proof_of(alloc, value),
-        None => Err(WireError::Syntax),
-    }
+    dual_proof_of(alloc, member(value, name)?)
 }
 
 // The member that is an entry.
 pub(crate) fn entry_field(alloc: Global, value: &Value, name: &str) -> Result<Entry, WireError>
     ensures { Gives result (field name.now entry_of (view value.now)) }
 {
-    match value.get(name) {
-        Some(value) => entry_of(alloc, value),
-        None => Err(WireError::Syntax),
-    }
+    entry_of(alloc, member(value, name)?)
 }
 
 // An anchor, or none where the value is null.
@@ -151,8 +139,5 @@ pub(crate) fn anchor_field(
 ) -> Result<Option<DualProof>, WireError>
     ensures { Gives result (field name.now anchor_of (view value.now)) }
 {
-    match value.get(name) {
-        Some(value) => anchor_of(alloc, value),
-        None => Err(WireError::Syntax),
-    }
+    anchor_of(alloc, member(value, name)?)
 }
