@@ -1,4 +1,5 @@
 ghost use Rattle.std.specs.Prelude.{◌≡◌, ◌<◌, ◌≤◌};
+ghost use Rattle.im_model.specs.Headers.{alh};
 ghost use Rattle.im_mtree.specs.Checks.{first_fail};
 ghost use Rattle.im_proof.specs.TreeChecks.{bl_checks};
 ghost use Rattle.im_proof.specs.Duals.{tree_checks, chain_checks, dual_checks};
@@ -20,15 +21,33 @@ use im_proof::proofs::DualProof;
 /// # Errors
 ///
 /// The first check that fails, with what was wanted and what was found.
-#[tactic(auto, using(im_mtree::proofs::CheckLemmas::fail_both, im_mtree::proofs::CheckLemmas::fail_append))]
 pub fn check<H: Hash32>(hash: &H, proof: &DualProof) -> Result<(), DualFault>
     ensures { result ≡ first_fail (dual_checks (H.digest hash.now) proof.now) }
 {
-    check_headers(&proof.source, &proof.target)?;
     let source_alh = alh(hash, &proof.source);
     let target_alh = alh(hash, &proof.target);
-    check_trees(hash, proof, &source_alh)?;
-    check_chains(hash, proof, &source_alh, &target_alh)
+    check_known(hash, proof, &source_alh, &target_alh)
+}
+
+/// `check` of a proof whose headers' Alh are known, so that it hashes neither header.
+///
+/// # Errors
+///
+/// The first check that fails, with what was wanted and what was found.
+#[tactic(auto, using(im_mtree::proofs::CheckLemmas::fail_both, im_mtree::proofs::CheckLemmas::fail_append))]
+pub fn check_known<H: Hash32>(
+    hash: &H,
+    proof: &DualProof,
+    source_alh: &D32,
+    target_alh: &D32,
+) -> Result<(), DualFault>
+    requires source { source_alh.now ≡ alh (H.digest hash.now) proof.now.source }
+    requires target { target_alh.now ≡ alh (H.digest hash.now) proof.now.target }
+    ensures { result ≡ first_fail (dual_checks (H.digest hash.now) proof.now) }
+{
+    check_headers(&proof.source, &proof.target)?;
+    check_trees(hash, proof, source_alh)?;
+    check_chains(hash, proof, source_alh, target_alh)
 }
 
 // Both trees, where the source has this Alh.
