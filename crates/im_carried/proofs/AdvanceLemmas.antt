@@ -11,7 +11,7 @@ use Rattle.im_pairs.proofs.PairLemmas.{AreAmong-tail}
 use Rattle.im_pairs.proofs.HeaderLemmas.{same_header}
 use Rattle.im_pathmove.proofs.CarryLemmas.{carry}
 use Rattle.im_carried.specs.Opened.{Links, Lies, IsOpened}
-use Rattle.im_carried.specs.Shown.{Walks, Advances, ShowsAdvance}
+use Rattle.im_carried.specs.Shown.{Walks, Advances, ShowsDual, ShowsAnchor, ShowsAdvance}
 use Rattle.im_carried.proofs.ChainLemmas.{link, Links-joined, Links-nothing, Links-empty, same_source}
 
 -- a value on the way of an advance, with the chain from it to the end
@@ -71,6 +71,23 @@ tree-to-tree hash size source target strings ok t a one within l =
           inl (subst (λ n. Lies hash n target.bl_root t a strings) same (subst (λ (r : List ℕ). Lies hash source.bl_tx_id r t a strings) roots l)))
     ]
 
+-- the chain from the tip of the target's tree to the source, by an anchor
+pub anchor-to-source : (hash : Hash) (source target : Header) (tip : List ℕ) (from to : Header) (strings : List (List ℕ)) → ShowsDual hash source target tip strings
+    → ShowsAnchor hash source target tip from to strings → Links hash tip target.bl_tx_id source.id (alh hash source) strings ⊎ HasPair hash strings
+anchor-to-source hash source target tip from to strings ok an =
+    elim (same_header hash to source strings an.dual.target_fits ok.source_fits an.to_alh an.dual.shown.1 ok.shown.0) [
+      | inl same ↦ (
+          let bl : to.bl_tx_id ≡ source.bl_tx_id = ap (λ (h : Header). h.bl_tx_id) same in
+          let id : from.id ≡ target.bl_tx_id = an.from_id in
+          let shrink : source.bl_tx_id ≤ target.bl_tx_id = ok.shrink in
+          let l : Links hash (alh hash from) from.id to.id (alh hash to) strings = an.dual.near (omega arith) in
+          inl (subst (λ (d : List ℕ). Links hash d target.bl_tx_id source.id (alh hash source) strings) an.from_alh
+          (subst (λ k. Links hash (alh hash from) k source.id (alh hash source) strings) id
+          (subst (λ k. Links hash (alh hash from) from.id k (alh hash source) strings) an.to_id
+          (subst (λ (d : List ℕ). Links hash (alh hash from) from.id to.id d strings) an.to_alh l)))))
+      | inr pair ↦ inr pair
+    ]
+
 -- the chain from the tip of the target's tree to the source, where the tree ends before it
 pub tip-to-source : (hash : Hash) → GivesDigests hash → (source target : Header) (strings : List (List ℕ)) (ok : ShowsAdvance hash source target strings)
     → source.bl_tx_id < target.bl_tx_id → target.bl_tx_id ≤ source.id → Links hash ok.tip target.bl_tx_id source.id (alh hash source) strings ⊎ HasPair hash strings
@@ -78,17 +95,7 @@ tip-to-source hash size source target strings ok grows ends =
     elim (cases_lt target.bl_tx_id source.id) [
       | inl before ↦ (
           let an = ok.anchor grows before in
-          elim (same_header hash an.to source strings an.dual.target_fits ok.dual.source_fits an.to_alh an.dual.shown.1 ok.dual.shown.0) [
-            | inl same ↦ (
-                let bl : an.to.bl_tx_id ≡ source.bl_tx_id = ap (λ (h : Header). h.bl_tx_id) same in
-                let id : an.from.id ≡ target.bl_tx_id = an.from_id in
-                let l : Links hash (alh hash an.from) an.from.id an.to.id (alh hash an.to) strings = an.dual.near (omega arith) in
-                inl (subst (λ (d : List ℕ). Links hash d target.bl_tx_id source.id (alh hash source) strings) an.from_alh
-                (subst (λ k. Links hash (alh hash an.from) k source.id (alh hash source) strings) id
-                (subst (λ k. Links hash (alh hash an.from) an.from.id k (alh hash source) strings) an.to_id
-                (subst (λ (d : List ℕ). Links hash (alh hash an.from) an.from.id an.to.id d strings) an.to_alh l)))))
-            | inr pair ↦ inr pair
-          ])
+          anchor-to-source hash source target ok.tip an.0 an.1 strings ok.dual an.2)
       | inr not ↦ (
           let same : target.bl_tx_id ≡ source.id = omega arith in
           inl (subst (λ k. Links hash ok.tip target.bl_tx_id k (alh hash source) strings) same (Links-empty hash ok.tip (alh hash source) target.bl_tx_id strings (ok.dual.at_tip (sym same)))))

@@ -29,7 +29,7 @@ both-hold {F} (check ∷ a) b e =
     (whole ∙ rest.0, rest.1)
 
 -- a header's tree is below its number
-tree-below : {G : Type 0} → (name : HeaderFault → G) (h : Header) → first_fail (as_faults name (header_checks h)) ≡ Ok tt → h.bl_tx_id < h.id
+pub tree-below : {G : Type 0} → (name : HeaderFault → G) (h : Header) → first_fail (as_faults name (header_checks h)) ≡ Ok tt → h.bl_tx_id < h.id
 tree-below {G} name h e =
     let entries : Check G = (nat_le 1 h.nentries && nat_le h.nentries 1024, name (Entries (if nat_eq h.nentries 0 then 1 else 1024) h.nentries)) in
     let tree : Check G = (nat_lt h.bl_tx_id h.id, name (Tree h.id h.bl_tx_id)) in

@@ -1,15 +1,15 @@
 -- One opening of a number under a state, and what proofs open.
-use Rattle.std.proofs.Common.{◌≡◌, ◌⊎◌, ◌<◌, ℕ, ◌-◌, List, refl, arith, subst, sym, inl, inr}
+use Rattle.std.proofs.Common.{◌≡◌, ◌⊎◌, ◌<◌, ◌≤◌, ℕ, ◌-◌, List, refl, arith, subst, sym, inl, inr}
 use Rattle.std.proofs.lemmas.Bool.{cases_lt}
 use Rattle.im_digest.specs.Digests.{Hash}
 use Rattle.im_model.specs.Headers.{alh}
 use Rattle.im_model.specs.declared.headers.Header.{Header}
-use Rattle.im_pairs.specs.Pairs.{GivesDigests, HasPair}
-use Rattle.im_pairs.proofs.UpLemmas.{same_lead}
-use Rattle.im_carried.specs.Opened.{Lies, IsOpened}
-use Rattle.im_carried.specs.Shown.{ShowsDual, ShowsAdvance}
+use Rattle.im_pairs.specs.Pairs.{GivesDigests, HasPair, AreAmong}
+use Rattle.im_pairs.proofs.UpLemmas.{same_lead, Leads-more}
+use Rattle.im_carried.specs.Opened.{Links, Lies, IsOpened}
+use Rattle.im_carried.specs.Shown.{ShowsDual, ShowsAnchor}
 use Rattle.im_carried.proofs.ChainLemmas.{Links-joined, Links-empty, same_source}
-use Rattle.im_carried.proofs.AdvanceLemmas.{tip-to-source, Lies-same}
+use Rattle.im_carried.proofs.AdvanceLemmas.{anchor-to-source, Lies-same}
 
 -- two openings of one number under one state have one Alh, or there is a pair
 pub same_opened : (hash : Hash) → GivesDigests hash → (state : Header) (t : ℕ) (a c : List ℕ) (strings : List (List ℕ))
@@ -56,20 +56,48 @@ source_opens hash size source target tip strings ok =
     }
 
 -- an advance opens its anchor's source too, or there is a pair
-pub anchor_opens : (hash : Hash) → GivesDigests hash → (source target : Header) (strings : List (List ℕ)) (ok : ShowsAdvance hash source target strings)
-    → (grows : source.bl_tx_id < target.bl_tx_id) (before : target.bl_tx_id < source.id)
-    → IsOpened hash target (ok.anchor grows before).from.id (alh hash (ok.anchor grows before).from) strings ⊎ HasPair hash strings
-anchor_opens hash size source target strings ok grows before =
-    let an = ok.anchor grows before in
-    elim (tip-to-source hash size source target strings ok grows (omega arith)) [
+pub anchor_opens : (hash : Hash) (source target : Header) (tip : List ℕ) (from to : Header) (strings : List (List ℕ)) → ShowsDual hash source target tip strings
+    → ShowsAnchor hash source target tip from to strings → IsOpened hash target from.id (alh hash from) strings ⊎ HasPair hash strings
+anchor_opens hash source target tip from to strings ok an =
+    let some : from.bl_tx_id < from.id = an.dual.source_tree in
+    let at : from.id ≡ target.bl_tx_id = an.from_id in
+    let ends : to.id ≡ source.id = an.to_id in
+    let before : from.id ≤ to.id = an.dual.order in
+    let below : target.bl_tx_id < target.id = ok.target_tree in
+    elim (anchor-to-source hash source target tip from to strings ok an) [
       | inl back ↦ (
-          let opened : IsOpened hash target target.bl_tx_id ok.tip strings = record {
+          let opened : IsOpened hash target target.bl_tx_id tip strings = record {
             given = omega arith;
-            placed = (let below : target.bl_tx_id < target.id = ok.dual.target_tree in omega arith);
-            digest = ok.dual.tip_long;
-            by_tree = λ h. ok.dual.last (omega arith);
-            by_chain = λ h. Links-joined hash ok.tip (alh hash source) (alh hash target) target.bl_tx_id source.id target.id strings back (ok.dual.near (omega arith));
+            placed = omega arith;
+            digest = ok.tip_long;
+            by_tree = λ h. ok.last (omega arith);
+            by_chain = λ h. Links-joined hash tip (alh hash source) (alh hash target) target.bl_tx_id source.id target.id strings back (ok.near (omega arith));
           } in
-          inl (subst (λ k. IsOpened hash target k (alh hash an.from) strings) (sym an.from_id) (subst (λ (d : List ℕ). IsOpened hash target target.bl_tx_id d strings) (sym an.from_alh) opened)))
+          inl (subst (λ k. IsOpened hash target k (alh hash from) strings) (sym an.from_id) (subst (λ (d : List ℕ). IsOpened hash target target.bl_tx_id d strings) (sym an.from_alh) opened)))
       | inr pair ↦ inr pair
     ]
+
+-- and its anchor's target, which is its source by number and Alh
+pub anchor-target_opens : (hash : Hash) → GivesDigests hash → (source target : Header) (tip : List ℕ) (from to : Header) (strings : List (List ℕ)) → ShowsDual hash source target tip strings
+    → ShowsAnchor hash source target tip from to strings → IsOpened hash target to.id (alh hash to) strings
+anchor-target_opens hash size source target tip from to strings ok an =
+    subst (λ k. IsOpened hash target k (alh hash to) strings) (sym an.to_id)
+    (subst (λ (d : List ℕ). IsOpened hash target source.id d strings) (sym an.to_alh) (source_opens hash size source target tip strings ok))
+
+-- more strings keep a chain
+Links-more : (hash : Hash) (a : List ℕ) (t n : ℕ) (end : List ℕ) (ss ts : List (List ℕ)) → AreAmong ss ts → Links hash a t n end ss → Links hash a t n end ts
+Links-more hash a t n end ss ts more l = record { inners = l.inners; long = l.long; ends = l.ends; among = λ x c. more x (l.among x c) }
+
+-- a place in a tree
+Lies-more : (hash : Hash) (size : ℕ) (root : List ℕ) (t : ℕ) (a : List ℕ) (ss ts : List (List ℕ)) → AreAmong ss ts → Lies hash size root t a ss → Lies hash size root t a ts
+Lies-more hash size root t a ss ts more l = record { path = l.path; leads = Leads-more hash size (t - 1) a l.path root ss ts more l.leads }
+
+-- and an opening
+pub IsOpened-more : (hash : Hash) (state : Header) (t : ℕ) (a : List ℕ) (ss ts : List (List ℕ)) → AreAmong ss ts → IsOpened hash state t a ss → IsOpened hash state t a ts
+IsOpened-more hash state t a ss ts more o = record {
+  given = o.given;
+  placed = o.placed;
+  digest = o.digest;
+  by_tree = λ h. Lies-more hash state.bl_tx_id state.bl_root t a ss ts more (o.by_tree h);
+  by_chain = λ h. Links-more hash a t state.id (alh hash state) ss ts more (o.by_chain h);
+}

@@ -27,10 +27,10 @@ record Parts (hash : Hash) (p : DualProof) (strings : List (List ℕ)) : Type 0 
   advance : AreAmong (advance_strings hash p.source.bl_tx_id p.target.bl_tx_id p.linear_advance.terms p.linear_advance.inclusions) strings
 
 -- of two joined lists
-left-among : (xs ys strings : List (List ℕ)) → AreAmong (xs ++ ys) strings → AreAmong xs strings
+pub left-among : (xs ys strings : List (List ℕ)) → AreAmong (xs ++ ys) strings → AreAmong xs strings
 left-among xs ys strings a = λ x c. a x (Contains-append_left xs ys x c)
 
-right-among : (xs ys strings : List (List ℕ)) → AreAmong (xs ++ ys) strings → AreAmong ys strings
+pub right-among : (xs ys strings : List (List ℕ)) → AreAmong (xs ++ ys) strings → AreAmong ys strings
 right-among xs ys strings a = λ x c. a x (Contains-append_right xs ys x c)
 
 parts-of : (hash : Hash) (p : DualProof) (strings : List (List ℕ)) → AreAmong (dual_strings hash p) strings → Parts hash p strings
@@ -77,7 +77,7 @@ trees-hold hash p source_alh e =
     record { inclusion = one.0; consistency = two.0; last = three.0; bl = three.1 }
 
 -- of the chain and the advance, where the source is below the end of the target's tree
-far-hold : (hash : Hash) (p : DualProof) (source_alh target_alh : List ℕ) → p.source.id < p.target.bl_tx_id → first_fail (chain_checks hash p source_alh target_alh) ≡ Ok tt
+pub far-hold : (hash : Hash) (p : DualProof) (source_alh target_alh : List ℕ) → p.source.id < p.target.bl_tx_id → first_fail (chain_checks hash p source_alh target_alh) ≡ Ok tt
     → (first_fail (linear_checks hash p.target.bl_tx_id p.target.id p.target_bl_tx_alh target_alh p.linear) ≡ Ok tt)
     × (first_fail (advance_checks hash p.source.bl_tx_id p.source.id p.target.bl_tx_id p.target.bl_root source_alh p.linear_advance.terms p.linear_advance.inclusions) ≡ Ok tt)
 unfolding chain_checks
@@ -89,7 +89,7 @@ far-hold hash p source_alh target_alh h e =
     both-hold {F = DualFault} far far2 (subst (λ (t : Bool). first_fail (if t then far ++ far2 else near ++ near2) ≡ Ok tt) (lt-ltb p.source.id p.target.bl_tx_id h) e)
 
 -- and where it isn't
-near-hold : (hash : Hash) (p : DualProof) (source_alh target_alh : List ℕ) → p.target.bl_tx_id ≤ p.source.id → first_fail (chain_checks hash p source_alh target_alh) ≡ Ok tt
+pub near-hold : (hash : Hash) (p : DualProof) (source_alh target_alh : List ℕ) → p.target.bl_tx_id ≤ p.source.id → first_fail (chain_checks hash p source_alh target_alh) ≡ Ok tt
     → (first_fail (linear_checks hash p.source.id p.target.id source_alh target_alh p.linear) ≡ Ok tt)
     × (first_fail (advance_checks hash p.source.bl_tx_id p.target.bl_tx_id p.target.bl_tx_id p.target.bl_root p.target_bl_tx_alh p.linear_advance.terms p.linear_advance.inclusions) ≡ Ok tt)
 unfolding chain_checks

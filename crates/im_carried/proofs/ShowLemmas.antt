@@ -1,23 +1,27 @@
 -- What each part of a dual proof shows that passes its checks.
 use Rattle.std.proofs.Common.{◌≡◌, ◌≢◌, ◌<◌, ◌≤◌, ◌&&◌, length, ℕ, ◌+◌, ◌-◌, List, [], ◌∷◌, ◌++◌, drop, reverse, Bool, true, false, Ok, arith, ap, subst, ◌∙◌, sym, inl, inr, All, nat_lt, nat_le, if◌then◌else◌, length-drop}
 use Rattle.std.specs.Prelude.{nat_eq, bytes_eq}
-use Rattle.std.proofs.lemmas.Bool.{cases_lt, eqb-true, lt-ltb, le-ltb, lt-leb, eq-eqb, ne_eqb}
+use Rattle.std.proofs.lemmas.Bool.{cases_lt, eqb-true, ltb-true, lt-ltb, le-ltb, lt-leb, eq-eqb, ne_eqb}
 use Rattle.std.proofs.lemmas.Slice.Eq.{bytes_eq-Decides}
 use Rattle.std.proofs.lemmas.List.{length-reverse, get_or-reverse}
 use Rattle.std.proofs.lemmas.List.Elements.{All-from_get_or, All-head, All-tail, Contains-append_left, Contains-append_right}
 use Rattle.im_digest.specs.Digests.{Hash}
-use Rattle.im_model.specs.Paths.{path_length, up}
+use Rattle.im_model.specs.Paths.{path_length, up, up_strings}
 use Rattle.im_model.specs.Growth.{consistency_length, older_root, newer_root, consistency_strings}
 use Rattle.im_model.specs.Chains.{link_string, chain, chain_strings}
 use Rattle.im_model.specs.History.{no_digest}
 use Rattle.im_model.proofs.Lengths.{path-fits, consistency-fits}
 use Rattle.im_model.proofs.Steps.{links-none, links-more}
 use Rattle.im_mtree.specs.Checks.{Check, first_fail}
+use Rattle.im_mtree.specs.PathChecks.{path_checks}
+use Rattle.im_mtree.specs.declared.faults.PathFault.{PathFault}
+use Rattle.im_mtree.proofs.CheckLemmas.{all-hold}
 use Rattle.im_proof.specs.TreeChecks.{inclusion_checks, consistency_checks, last_checks, bl_checks}
 use Rattle.im_proof.specs.ChainChecks.{first_of, end_of, linear_checks, advance_terms, advance_paths, path_checks_of, path_checks_from, advance_checks}
 use Rattle.im_proof.specs.declared.faults.DualFault.{DualFault}
 use Rattle.im_proof.specs.declared.faults.DualFault.TheVariants.{InclusionLength, InclusionRoot, ConsistencyLength, ConsistencyOld, ConsistencyNew, LastLength, LastRoot, BlAlh, LinearLength, LinearStart, LinearEnd, AdvanceLength, AdvanceCount, AdvancePathLength, AdvancePathRoot, AdvanceEnd}
 use Rattle.im_pairs.specs.Pairs.{AreDigests, AreAmong}
+use Rattle.im_pairs.specs.Leads.{Leads}
 use Rattle.im_pairs.proofs.PairLemmas.{AreAmong-head, AreAmong-tail, AreAmong-cons}
 use Rattle.im_carried.specs.Opened.{Links, Lies}
 use Rattle.im_carried.specs.Shown.{Walks, Advances, Grows}
@@ -31,16 +35,30 @@ digests-turned xs f =
     All-from_get_or (λ d. length d ≡ 32) (reverse xs) [] (λ i h. ap length (get_or-reverse xs i [] (omega arith)) ∙ f (length xs - 1 - i) [] (omega arith))
 
 -- a path of the exact length that leads to the root
+pub leads-by : (hash : Hash) (n i : ℕ) (root digest : List ℕ) (path : List (List ℕ)) (strings : List (List ℕ)) → i < n → AreDigests path
+    → length path ≡ path_length n i → up hash n i digest (reverse path) ≡ root → AreAmong (up_strings hash n i digest (reverse path)) strings → Leads hash n i digest (reverse path) root strings
+leads-by hash n i root digest path strings within digests long gives among = record {
+  within = within;
+  long = (path-fits n i (reverse path) within).1 (length-reverse path ∙ long);
+  digests = digests-turned path digests;
+  gives = gives;
+  among = among;
+}
+
+-- a path that passes its checks
+pub path-leads : (hash : Hash) (n i : ℕ) (root digest : List ℕ) (path : List (List ℕ)) (strings : List (List ℕ)) → AreDigests path
+    → first_fail (path_checks hash digest i n path root) ≡ Ok tt → AreAmong (up_strings hash n i digest (reverse path)) strings → Leads hash n i digest (reverse path) root strings
+path-leads hash n i root digest path strings digests e among =
+    let held = all-hold {F = PathFault} (path_checks hash digest i n path root) e in
+    leads-by hash n i root digest path strings (ltb-true i n held.0) digests (eqb-true (length path) (path_length n i) held.1.0)
+    ((bytes_eq-Decides (up hash n i digest (reverse path)) root).0 held.1.1.0) among
+
+-- so of a transaction in a tree
 lies-by : (hash : Hash) (size k : ℕ) (root alh : List ℕ) (path : List (List ℕ)) (strings : List (List ℕ)) → 1 ≤ k → k ≤ size → AreDigests path
     → length path ≡ path_length size (k - 1) → up hash size (k - 1) alh (reverse path) ≡ root → AreAmong (path_strings hash size k alh path) strings → Lies hash size root k alh strings
 lies-by hash size k root alh path strings some within digests long gives among = record {
   path = reverse path;
-  leads = record {
-    long = (path-fits size (k - 1) (reverse path) (omega arith)).1 (length-reverse path ∙ long);
-    digests = digests-turned path digests;
-    gives = gives;
-    among = among;
-  };
+  leads = leads-by hash size (k - 1) root alh path strings (omega arith) digests long gives among;
 }
 
 -- the source's path

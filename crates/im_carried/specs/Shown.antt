@@ -55,10 +55,9 @@ pub record ShowsDual (hash : Hash) (source target : Header) (tip : List ℕ) (st
   pub near_advance : target.bl_tx_id ≤ source.id
       → Advances hash target.bl_tx_id target.bl_root source.bl_tx_id target.bl_tx_id tip strings
 
--- an anchor: a dual proof from the end of the target's tree to the source
-pub record ShowsAnchor (hash : Hash) (source target : Header) (tip : List ℕ) (strings : List (List ℕ)) : Type 0 where
-  pub from : Header
-  pub to : Header
+-- an anchor of an advance: a dual proof, from one header to another, of the transaction at the end of the target's
+-- tree, which has this Alh, and of the source
+pub record ShowsAnchor (hash : Hash) (source target : Header) (tip : List ℕ) (from to : Header) (strings : List (List ℕ)) : Type 0 where
   pub from_tip : List ℕ
   pub dual : ShowsDual hash from to from_tip strings
   pub from_id : from.id ≡ target.bl_tx_id
@@ -70,4 +69,5 @@ pub record ShowsAnchor (hash : Hash) (source target : Header) (tip : List ℕ) (
 pub record ShowsAdvance (hash : Hash) (source target : Header) (strings : List (List ℕ)) : Type 0 where
   pub tip : List ℕ
   pub dual : ShowsDual hash source target tip strings
-  pub anchor : source.bl_tx_id < target.bl_tx_id → target.bl_tx_id < source.id → ShowsAnchor hash source target tip strings
+  pub anchor : source.bl_tx_id < target.bl_tx_id → target.bl_tx_id < source.id
+      → (from : Header) × (to : Header) × ShowsAnchor hash source target tip from to strings

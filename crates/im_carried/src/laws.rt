@@ -1,16 +1,20 @@
 //! What holds of the definitions. Each function does nothing, and its contract is the law. In each of them
-//! the hash function gives 32 octets, and `strings` are any in which those are that are hashed.
+//! `strings` are any in which those are that are hashed. Where a law rests on it that the hash function gives
+//! 32 octets, it says so.
 
-ghost use Rattle.std.specs.Prelude.{◌≡◌, ◌⊎◌, ℕ, ◌<◌, List, Ok};
+ghost use Rattle.std.specs.Prelude.{◌≡◌, ◌⊎◌, ℕ, ◌<◌, List, reverse, Ok};
 ghost use Rattle.im_digest.specs.Digests.{Hash};
 ghost use Rattle.im_model.specs.Headers.{alh};
+ghost use Rattle.im_model.specs.Paths.{up_strings};
 ghost use Rattle.im_model.specs.declared.headers.Header.{Header};
 ghost use Rattle.im_mtree.specs.Checks.{first_fail};
+ghost use Rattle.im_mtree.specs.PathChecks.{path_checks};
 ghost use Rattle.im_proof.specs.Duals.{dual_checks};
 ghost use Rattle.im_proof.specs.declared.proofs.DualProof.{DualProof};
-ghost use Rattle.im_pairs.specs.Pairs.{GivesDigests, HasPair, AreAmong};
+ghost use Rattle.im_pairs.specs.Pairs.{GivesDigests, AreDigests, HasPair, AreAmong};
+ghost use Rattle.im_pairs.specs.Leads.{Leads};
 ghost use Rattle.im_carried.specs.Opened.{IsOpened};
-ghost use Rattle.im_carried.specs.Shown.{ShowsDual, ShowsAdvance};
+ghost use Rattle.im_carried.specs.Shown.{ShowsDual, ShowsAnchor, ShowsAdvance};
 ghost use Rattle.im_carried.specs.Hashed.{DualFits, dual_strings};
 
 /// Two openings of one number under one state have one Alh, or there are two unequal strings of one digest.
@@ -35,12 +39,24 @@ pub fn a_dual_proof_opens_its_source()
     ensures { (hash : Hash) (source target : Header) (tip : List ℕ) (strings : List (List ℕ)) → GivesDigests hash → ShowsDual hash source target tip strings → IsOpened hash target source.id (alh hash source) strings }
 {}
 
-/// An advance opens the source of its anchor under its target, or there are two unequal strings of one digest.
+/// An advance opens the source of its anchor under its target, or there are two unequal strings of one digest; and
+/// it opens the anchor's target.
 pub fn an_advance_opens_its_anchor()
-    ensures { (hash : Hash) (source target : Header) (strings : List (List ℕ)) → GivesDigests hash → (shows : ShowsAdvance hash source target strings) (grows : source.bl_tx_id < target.bl_tx_id) (before : target.bl_tx_id < source.id) → IsOpened hash target (shows.anchor grows before).from.id (alh hash (shows.anchor grows before).from) strings ⊎ HasPair hash strings }
+    ensures source { (hash : Hash) (source target from to : Header) (tip : List ℕ) (strings : List (List ℕ)) → ShowsDual hash source target tip strings → ShowsAnchor hash source target tip from to strings → IsOpened hash target from.id (alh hash from) strings ⊎ HasPair hash strings }
+    ensures target { (hash : Hash) (source target from to : Header) (tip : List ℕ) (strings : List (List ℕ)) → GivesDigests hash → ShowsDual hash source target tip strings → ShowsAnchor hash source target tip from to strings → IsOpened hash target to.id (alh hash to) strings }
+{}
+
+/// More strings keep an opening.
+pub fn more_strings_keep_an_opening()
+    ensures { (hash : Hash) (state : Header) (t : ℕ) (a : List ℕ) (strings more : List (List ℕ)) → AreAmong strings more → IsOpened hash state t a strings → IsOpened hash state t a more }
 {}
 
 /// A dual proof that passes all its checks shows what they are for, and hashes these strings alone.
 pub fn passing_checks_show()
     ensures { (hash : Hash) (p : DualProof) (strings : List (List ℕ)) → DualFits p → first_fail (dual_checks hash p) ≡ Ok tt → AreAmong (dual_strings hash p) strings → ShowsDual hash p.source p.target p.target_bl_tx_alh strings }
+{}
+
+/// A path that passes its checks leads to the root, and hashes these strings alone.
+pub fn a_passing_path_leads()
+    ensures { (hash : Hash) (digest root : List ℕ) (i width : ℕ) (path strings : List (List ℕ)) → AreDigests path → first_fail (path_checks hash digest i width path root) ≡ Ok tt → AreAmong (up_strings hash width i digest (reverse path)) strings → Leads hash width i digest (reverse path) root strings }
 {}

@@ -6,7 +6,7 @@ ghost use Rattle.im_forge.specs.Same.{IsSame, IsCompared};
 use crate::parts::part;
 use crate::ranges::entry_fits;
 use crate::same::{Same, compared};
-use crate::strings::entry_octets;
+use crate::strings::{digest_of, entry_octets};
 use im_digest::{D32, Hash32};
 use im_model::entries::Entry;
 use im_octet::octets::Octets;
@@ -58,13 +58,6 @@ pub fn same_entry<H: Hash32>(
             Ok(parted.into_pair())
         }
     }
-}
-
-// The digest of a string.
-fn digest_of<H: Hash32>(hash: &H, octets: &Octets) -> D32
-    ensures { result ≡ H.digest hash.now octets.now }
-{
-    hash.hash(octets.as_slice(), &[], &[])
 }
 
 // Whether two entries have one value.

@@ -10,8 +10,8 @@ use im_model::headers::Header;
 use std::alloc::{AllocError, Global};
 
 /// Whether two headers of one Alh are equal. They are, just where all their fields are; else the two strings
-/// are those of the Alh, or those of the inner digest. It hashes each header once or twice. The only error is want
-/// of memory.
+/// are those of the Alh, or those of the inner digest. It hashes each header once. The only error is want of
+/// memory.
 pub fn same_header<H: Hash32>(
     alloc: Global,
     hash: &H,

@@ -8,4 +8,4 @@ pub mod nodes;
 mod parts;
 mod ranges;
 pub mod same;
-mod strings;
+pub mod strings;

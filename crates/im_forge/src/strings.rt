@@ -12,6 +12,13 @@ use im_octet::octets::Octets;
 use im_octet::writer::Writer;
 use std::alloc::{AllocError, Global};
 
+/// The digest of a string. It takes no memory, and costs one hash.
+pub fn digest_of<H: Hash32>(hash: &H, octets: &Octets) -> D32
+    ensures { result ≡ H.digest hash.now octets.now }
+{
+    hash.hash(octets.as_slice(), &[], &[])
+}
+
 /// The string that is hashed for a leaf: 00 | digest (RFC 6962, section 2.1). Its only error is want of memory.
 pub fn leaf_octets(alloc: Global, digest: &D32) -> Result<Octets, AllocError>
     ensures { IfOk result (λ octets. octets ≡ leaf_string digest.now) }

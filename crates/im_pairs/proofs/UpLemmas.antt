@@ -103,4 +103,4 @@ same_lead hash size n i digest other ps qs root strings l r =
 -- more strings keep a path
 pub Leads-more : (hash : Hash) (n i : ℕ) (digest : List ℕ) (path : List (List ℕ)) (root : List ℕ) (ss ts : List (List ℕ)) → AreAmong ss ts
     → Leads hash n i digest path root ss → Leads hash n i digest path root ts
-Leads-more hash n i digest path root ss ts m l = record { long = l.long; digests = l.digests; gives = l.gives; among = λ x c. m x (l.among x c) }
+Leads-more hash n i digest path root ss ts m l = record { within = l.within; long = l.long; digests = l.digests; gives = l.gives; among = λ x c. m x (l.among x c) }

@@ -1,5 +1,6 @@
 //! What holds of the definitions. Each function does nothing, and its contract is the law. In each of them
-//! the hash function gives 32 octets, and `strings` are any in which those are that are hashed for both.
+//! `strings` are any in which those are that are hashed for both. Where a law rests on it that the hash function
+//! gives 32 octets, it says so.
 
 ghost use Rattle.std.specs.Prelude.{◌≡◌, ◌⊎◌, ℕ, List, length, Contains};
 ghost use Rattle.im_digest.specs.Digests.{Hash};

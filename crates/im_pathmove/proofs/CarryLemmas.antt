@@ -27,6 +27,7 @@ pub extend-left : (hash : Hash) (n i : ℕ) (digest w term : List ℕ) (path : L
 extend-left hash n i digest w term path strings many side long lead c =
     let top : up_string hash n i digest (term ∷ path) ≡ node_string w term = up-left hash n i digest term path side ∙ ap (λ q. node_string q term) lead.gives in
     record {
+      within = (let inside : (0 < split_of n) × (split_of n < n) = split-within n many in omega arith);
       long = (many, inl (side, lead.long));
       digests = All-cons (λ t. length t ≡ 32) term path long lead.digests;
       gives = ap hash top;
@@ -40,6 +41,7 @@ pub extend-right : (hash : Hash) (n i : ℕ) (digest w term : List ℕ) (path : 
 extend-right hash n i digest w term path strings many side long lead c =
     let top : up_string hash n i digest (term ∷ path) ≡ node_string term w = up-right hash n i digest term path side ∙ ap (λ q. node_string term q) lead.gives in
     record {
+      within = (let inner : i - split_of n < n - split_of n = lead.within in omega arith);
       long = (many, inr (side, lead.long));
       digests = All-cons (λ t. length t ≡ 32) term path long lead.digests;
       gives = ap hash top;
@@ -67,7 +69,7 @@ carry-right hash size m n i digest term o w (t ∷ path) strings c h b many p ds
               w ∷ path,
               subst (λ (s : List ℕ). Leads hash n i digest (w ∷ path) (hash (node_string s w)) strings) same.0
                   (extend-left hash n i digest q w path strings many l.side lw
-                  (record { long = l.long; digests = All-tail (λ u. length u ≡ 32) t path ds; gives = refl; among = l.among })
+                  (record { within = l.side; long = l.long; digests = All-tail (λ u. length u ≡ 32) t path ds; gives = refl; among = l.among })
                   (subst (λ (s : List ℕ). Contains strings (node_string s w)) (sym same.0) y)),
             )
             | inr pair ↦ inr pair
@@ -93,7 +95,7 @@ carry hash size digest first strings lf m n [] pos g ts gs i path b p ds e a =
     inl (
       path,
       subst (λ j. Leads hash j i digest path (newer hash m n first []) strings) g
-          (record { long = p; digests = ds; gives = e ∙ older-first hash m n first ∙ sym (newer-first hash m n first); among = a }),
+          (record { within = b; long = p; digests = ds; gives = e ∙ older-first hash m n first ∙ sym (newer-first hash m n first); among = a }),
     )
 carry hash size digest first strings lf m n (term ∷ rest) pos g ts gs i path b p ds e a =
     let lz : length term ≡ 32 = All-head (λ u. length u ≡ 32) term rest ts in

@@ -157,6 +157,7 @@ carried-whole hash m n i leaf path [] told none within grows long long2 =
     let ups : List (List ℕ) = up_strings hash m i leaf (reverse path) in
     subst (λ j. Leads hash j i leaf (reverse path) (up hash m i leaf (reverse path)) (ups ++ [])) same
     (record {
+      within = within;
       long = (path-fits m i (reverse path) within).1 (length-reverse path ∙ long);
       digests = digests-reversed path told;
       gives = refl;

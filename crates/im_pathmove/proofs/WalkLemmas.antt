@@ -107,6 +107,7 @@ walked-whole hash m n i leaf path first [] none s =
       new_root = sym (newer-first hash m n first);
       carried = λ e. subst (λ j. Leads hash j i leaf (reverse path) (newer hash m n first []) (ups ++ grow_strings hash m n first [])) same
           (record {
+            within = s.within;
             long = s.path_long;
             digests = s.path_digests;
             gives = e ∙ older-first hash m n first ∙ sym (newer-first hash m n first);
@@ -227,6 +228,7 @@ path-past hash size m n i k leaf top under first term rest s same side left is =
     subst (λ (x : List ℕ). Leads hash n i leaf (r ∷ under) x (ups ++ grow)) (sym (newer-right-at hash m n k first term rest same side))
     (extend-left-at hash n i leaf term r under (ups ++ grow) k same (omega arith) left (newer-digest hash size (m - k) (n - k) first rest s.first_digest)
     (record {
+      within = left;
       long = at.long;
       digests = All-tail (λ u. length u ≡ 32) top under s.path_digests;
       gives = is;

@@ -10,5 +10,5 @@ ghost use Rattle.im_pairs.specs.Leads.{Leads, Ends};
 /// root and hashes no other strings, or there are two unequal strings of one digest. Lists are read from the
 /// root down.
 pub fn a_path_is_carried()
-    ensures { (hash : Hash) (leaf first : List ℕ) (strings terms path : List (List ℕ)) (m n i : ℕ) → GivesDigests hash → length first ≡ 32 → 0 < m → IsGrowth m n terms → AreDigests terms → AreAmong (grow_strings hash m n first terms) strings → i < m → Leads hash m i leaf path (older hash m n first terms) strings → Ends hash n i leaf (newer hash m n first terms) strings }
+    ensures { (hash : Hash) (leaf first : List ℕ) (strings terms path : List (List ℕ)) (m n i : ℕ) → GivesDigests hash → length first ≡ 32 → 0 < m → IsGrowth m n terms → AreDigests terms → AreAmong (grow_strings hash m n first terms) strings → Leads hash m i leaf path (older hash m n first terms) strings → Ends hash n i leaf (newer hash m n first terms) strings }
 {}

@@ -4,5 +4,5 @@
 
 pub mod carried;
 pub mod laws;
-mod roots;
+pub mod roots;
 pub mod walks;
