@@ -3,7 +3,6 @@
 #![tactic(auto)]
 
 pub mod errors;
-pub mod fits;
 pub mod laws;
 pub mod lines;
 pub mod messages;
