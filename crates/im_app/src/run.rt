@@ -22,7 +22,7 @@ use im_digest::Hash32;
 use im_disk::disk::Disk;
 use im_edge::clock::Clock;
 use im_edge::sink::{Sink, WriteFault, write_all};
-use im_edge::source::{ReadError, Source, read_all};
+use im_edge::source::{Source, SourceError, read_all};
 use im_ledger::errors::CommitError;
 use im_ledger::opening::open_ledger;
 use im_opening::errors::OpenError;
@@ -56,9 +56,9 @@ fn read_lines<S: Source>(alloc: Global, source: &mut S) -> Result<Vec<Line>, Sta
 {
     let octets = match read_all(alloc, source, MOST_OCTETS) {
         Ok(octets) => octets,
-        Err(ReadError::Memory) => return Err(Status::Memory),
-        Err(ReadError::Failed) => return Err(Status::ReadFault),
-        Err(ReadError::Long) => return Err(Status::Long),
+        Err(SourceError::Memory) => return Err(Status::Memory),
+        Err(SourceError::Failed) => return Err(Status::ReadFault),
+        Err(SourceError::Long) => return Err(Status::Long),
     };
     match read_script(alloc, octets.as_slice()) {
         Ok(lines) => Ok(lines),

@@ -4,8 +4,8 @@ use Rattle.std.specs.Io.KnownBytes.{Consumes, Keeps}
 use Rattle.im_edge.specs.Counts.{Rose}
 use Rattle.im_edge.specs.declared.source.Taken.{Taken}
 use Rattle.im_edge.specs.declared.source.Taken.TheVariants.{Took, End, Failed}
-use Rattle.im_edge.specs.declared.source.ReadError.{ReadError}
-use Rattle.im_edge.specs.declared.source.ReadError.TheVariants.{Memory, Long, Failed as ReadFailed}
+use Rattle.im_edge.specs.declared.source.SourceError.{SourceError}
+use Rattle.im_edge.specs.declared.source.SourceError.TheVariants.{Memory, Long, Failed as ReadFailed}
 
 -- what a take does to what is left: it takes the octets that it gives, one at least, and none at `End` and `Failed`; into a
 -- buffer with room `End` comes only where nothing is left
@@ -25,7 +25,7 @@ abbrev pub TakesAtMost : ℕ → Option (List ℕ) → Option (List ℕ) → Typ
 TakesAtMost most before after = (taken : List ℕ) × (length taken ≤ most) × Consumes before after taken
 
 -- reading that didn't fail left the count as it was
-abbrev pub SameUnlessFailed : {T : Type 0} → Result T ReadError → ℕ → ℕ → Type 0
+abbrev pub SameUnlessFailed : {T : Type 0} → Result T SourceError → ℕ → ℕ → Type 0
 SameUnlessFailed (Ok octets) before now = now ≡ before
 SameUnlessFailed (Err Memory) before now = now ≡ before
 SameUnlessFailed (Err Long) before now = now ≡ before

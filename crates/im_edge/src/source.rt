@@ -46,7 +46,7 @@ pub trait Source {
 
 /// Why a source wasn't read to its end.
 #[derive(Clone, Copy, Debug, PartialEq, Eq)]
-pub enum ReadError {
+pub enum SourceError {
     /// Memory ran out.
     Memory,
     /// The source failed.
@@ -55,26 +55,30 @@ pub enum ReadError {
     Long,
 }
 
-impl From<AllocError> for ReadError {
-    ghost use Rattle.im_edge.specs.declared.source.ReadError.TheVariants.{Memory};
+impl From<AllocError> for SourceError {
+    ghost use Rattle.im_edge.specs.declared.source.SourceError.TheVariants.{Memory};
 
     ghost from_gives = { λ _ error. error ≡ Memory };
 
     fn from(_: AllocError) -> Self {
-        ReadError::Memory
+        SourceError::Memory
     }
 }
 
 /// Reads a source to its end, unless it has more than `most` octets. After an error a front part of
 /// what was left is taken. It asks for 4096 octets a take, and takes at most `most` and 4096 more.
-pub fn read_all<S: Source>(alloc: Global, source: &mut S, most: usize) -> Result<Vec<u8>, ReadError>
+pub fn read_all<S: Source>(
+    alloc: Global,
+    source: &mut S,
+    most: usize,
+) -> Result<Vec<u8>, SourceError>
     ensures whole { IfOk result (λ octets. IfSome (S.left source.old) (λ xs. octets.items ≡ xs)) }
     ensures emptied { OnOk result (IfSome (S.left source.old) (λ _. S.left source.new ≡ Some [])) }
     ensures within { IfOk result (λ octets. length octets.items ≤ most) }
-    ensures long { IsErrOf result ReadError.Long → IfSome (S.left source.old) (λ xs. most < length xs) }
+    ensures long { IsErrOf result SourceError.Long → IfSome (S.left source.old) (λ xs. most < length xs) }
     ensures part { TakesAtMost (most + 4096) (S.left source.old) (S.left source.new) }
 
-    ensures failed { IsErrOf result ReadError.Failed → Rose (S.faults source.old) (S.faults source.new) }
+    ensures failed { IsErrOf result SourceError.Failed → Rose (S.faults source.old) (S.faults source.new) }
     ensures once { S.faults source.new ≤ S.faults source.old + 1 }
     ensures later { S.faults source.old ≤ S.faults source.new }
     ensures same { SameUnlessFailed result (S.faults source.old) (S.faults source.new) }
@@ -85,10 +89,10 @@ pub fn read_all<S: Source>(alloc: Global, source: &mut S, most: usize) -> Result
         match source.take(&mut buffer) {
             Taken::Took(n) => octets.extend_from_slice(&buffer[..n])?,
             Taken::End => return Ok(octets),
-            Taken::Failed => return Err(ReadError::Failed),
+            Taken::Failed => return Err(SourceError::Failed),
         }
     }
-    Err(ReadError::Long)
+    Err(SourceError::Long)
 }
 
 /// A reader of std as a source. Each error of the reader is a failure, an interrupted read too.

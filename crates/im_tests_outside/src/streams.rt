@@ -1,7 +1,7 @@
 use im_edge::clock::{Clock, FixedClock, TickingClock};
 use im_edge::gate::{Gate, OpenGate, Point};
 use im_edge::sink::{Given, Sink, WriteFault, Writing, write_all};
-use im_edge::source::{ReadError, Reading, Source, Taken, read_all};
+use im_edge::source::{Reading, Source, SourceError, Taken, read_all};
 use std::alloc::Global;
 use std::io;
 use std::io::{ErrorKind, Read, Write};
@@ -60,7 +60,7 @@ impl Write for OneByOne {
 }
 
 // Whether a source was read to its end, and gave this.
-fn gave(read: Result<Vec<u8>, ReadError>, text: &[u8]) -> bool {
+fn gave(read: Result<Vec<u8>, SourceError>, text: &[u8]) -> bool {
     match read {
         Ok(octets) => octets.as_slice() == text,
         Err(_) => false,
@@ -70,7 +70,7 @@ fn gave(read: Result<Vec<u8>, ReadError>, text: &[u8]) -> bool {
 // What stood before the failure was taken, and what stands behind it is read by the next call.
 fn fails_in_mid_stream(alloc: Global) -> bool {
     let mut source = Reading::new(FailsOnce { reads: 0 });
-    read_all(alloc, &mut source, 10).err() == Some(ReadError::Failed)
+    read_all(alloc, &mut source, 10).err() == Some(SourceError::Failed)
         && source.failures == 1
         && gave(read_all(alloc, &mut source, 10), b"c")
         && source.failures == 1
@@ -91,7 +91,7 @@ fn sources(rt: HostRuntime) {
     assert!(rt; fails_in_mid_stream(rt.alloc()));
     assert!(rt; is_read_to_its_end(rt.alloc()));
     let long = read_all(rt.alloc(), &mut Reading::new(b"abc".as_slice()), 2);
-    assert!(rt; long.err() == Some(ReadError::Long));
+    assert!(rt; long.err() == Some(SourceError::Long));
 }
 
 fn fails_when_full(alloc: Global) -> bool {

@@ -12,7 +12,7 @@ use crate::stops::Stop;
 use im_digest::Hash32;
 use im_edge::keeper::Keeper;
 use im_edge::sink::Sink;
-use im_edge::source::{ReadError, Source, read_all};
+use im_edge::source::{Source, SourceError, read_all};
 use std::alloc::Global;
 
 /// The most octets of a stream.
@@ -143,8 +143,8 @@ pub fn verify<H: Hash32, S: Source, K: Sink, P: Keeper>(
 {
     match read_all(alloc, source, MOST_OCTETS) {
         Ok(stream) => verify_octets(alloc, hash, sink, keeper, stream.as_slice()),
-        Err(ReadError::Memory) => Ended::Memory,
-        Err(ReadError::Failed) => Ended::ReadFault,
-        Err(ReadError::Long) => Ended::Long,
+        Err(SourceError::Memory) => Ended::Memory,
+        Err(SourceError::Failed) => Ended::ReadFault,
+        Err(SourceError::Long) => Ended::Long,
     }
 }
