@@ -1,6 +1,6 @@
 -- What a changing call leaves, by what it answers.
 use Rattle.std.proofs.Common.{◌≡◌, ℕ, ◌+◌, ◌≤◌, List, length, sym, subst, arith}
-use Rattle.std.specs.Prelude.{Option, Some, None, IfSome, Result, Ok, OnOk, IsErrOf}
+use Rattle.std.specs.Prelude.{Option, Some, None, IfSome, Result, OnOk, IsErrOf}
 use Rattle.std.specs.Option.{option_map}
 use Rattle.im_disk.specs.Disk.{Files, Told, LiesWithin, TornFile, seen, after}
 use Rattle.im_disk.specs.Moments.{Leaves, LeavesNow}

@@ -1,5 +1,5 @@
 -- What a write leaves standing in what reads give, and in a file that a crash tears.
-use Rattle.std.proofs.Common.{◌≡◌, ℕ, ◌+◌, ◌-◌, ◌≤◌, List, [], ◌∷◌, ◌++◌, length, take, drop, refl, sym, ◌∙◌, ap, subst, arith, rules, eq-eqb, length-drop, length-append, append_assoc, ⊎_elim}
+use Rattle.std.proofs.Common.{◌≡◌, ℕ, ◌+◌, ◌-◌, ◌≤◌, List, [], ◌∷◌, ◌++◌, length, take, drop, refl, sym, ◌∙◌, ap, subst, arith, rules, eq-eqb, length-append, append_assoc, ⊎_elim}
 use Rattle.std.proofs.lemmas.List.{take-take, drop-take, take_at, drop_at, drop-drop}
 use Rattle.std.proofs.lemmas.List.Elements.{All-weaker, All-nil, All-cons, All-head, All-tail}
 use Rattle.std.specs.Prelude.{All, if◌then◌else◌}

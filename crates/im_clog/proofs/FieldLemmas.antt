@@ -1,28 +1,11 @@
 -- Fields of a batch, read off a log.
-use Rattle.std.proofs.Common.{◌≡◌, ◌<◌, ◌^◌, ◌++◌, ◌∷◌, [], ℕ, List, length, take, refl, ◌∙◌, ap, arith, append_assoc, length-append}
+use Rattle.std.proofs.Common.{◌≡◌, ◌<◌, ◌^◌, ◌++◌, ◌∷◌, [], ℕ, List, length, take, refl, ◌∙◌, ap, append_assoc}
 use Rattle.std.specs.Int.{to_be_bytes, from_be_bytes, w64}
 use Rattle.std.proofs.lemmas.List.{drop_at, take_at}
 use Rattle.std.proofs.lemmas.Nat.{from_be_bytes-to_be_bytes_8}
 use Rattle.im_octet.specs.Fields.{field8}
 use Rattle.im_format.specs.Batches.{batch_fields, batch_octets}
 use Rattle.im_format.specs.Reading.{number8}
-
-pub length-field8 : (n : ℕ) → length (field8 n) ≡ 8
-unfolding field8
-length-field8 n = refl
-
-pub length-batch_octets : (first count end : ℕ) → length (batch_octets first count end) ≡ 25
-unfolding batch_octets batch_fields
-length-batch_octets first count end =
-    omega (
-      arith,
-      length-append (field8 first ++ field8 count ++ field8 end) (0 ∷ []),
-      length-append (field8 first ++ field8 count) (field8 end),
-      length-append (field8 first) (field8 count),
-      length-field8 first,
-      length-field8 count,
-      length-field8 end,
-    )
 
 -- the number whose field stands behind so many octets
 pub number8-field8 : (front rest : List ℕ) (n at : ℕ) → n < 2 ^ 64 → length front ≡ at → number8 (front ++ (field8 n ++ rest)) at ≡ n

@@ -2,6 +2,7 @@ ghost use Rattle.std.specs.Prelude.{◌≡◌};
 ghost use Rattle.im_format.specs.Batches.{batch_octets};
 
 use arrayvec::ArrayVec;
+use im_format::files::BATCH_OCTETS;
 use im_octet::buffers::append;
 use im_octet::fields::eight;
 
@@ -18,10 +19,10 @@ const CLOSED: u8 = 0;
 /// Its fields are the ID of its first transaction, the number of its transactions, and where their records end
 /// in the transaction log. It takes no memory.
 #[tactic(auto, unfolding(im_format::specs::Batches::batch_octets, im_format::specs::Batches::batch_fields))]
-pub fn batch_octets(first: u64, count: u64, end: u64) -> [u8; 25]
+pub fn batch_octets(first: u64, count: u64, end: u64) -> [u8; BATCH_OCTETS]
     ensures { result ≡ batch_octets first count end }
 {
-    let mut octets = ArrayVec::<u8, 25>::new();
+    let mut octets = ArrayVec::<u8, BATCH_OCTETS>::new();
     append(&mut octets, &eight(first));
     append(&mut octets, &eight(count));
     append(&mut octets, &eight(end));

@@ -3,11 +3,10 @@ ghost use Rattle.im_format.specs.Batches.{Counts};
 ghost use Rattle.im_format.specs.Reading.{number8};
 ghost use Rattle.im_clog.specs.Marks.{mark_at, Lacks};
 
+use im_format::files::BATCH_OCTETS;
+
 /// The octet of an open gate. Any other octet is a closed one.
 const OPEN: u8 = 1;
-
-/// The number of octets from a gate to the next one.
-const BATCH: usize = 25;
 
 /// A batch that counts, as the commit log has it.
 #[derive(Clone, Copy, Debug, PartialEq, Eq)]
@@ -51,7 +50,7 @@ pub fn batch_at(log: &[u8], gate: usize) -> Result<Mark, Uncounted>
     if *octet != OPEN {
         return Err(Uncounted::Closed { octet: *octet });
     }
-    if log.len() - gate <= BATCH {
+    if log.len() - gate <= BATCH_OCTETS {
         return Err(Uncounted::Short { len: log.len() });
     }
     Ok(Mark {

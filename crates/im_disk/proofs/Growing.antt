@@ -10,19 +10,21 @@ use Rattle.im_disk.specs.Grown.{Grows, after_all}
 use Rattle.im_disk.proofs.Leaving.{by_answer}
 
 -- some calls, and then others
-after_both : (a b : List Call) (t : Told) → after_all (a ++ b) t ≡ after_all b (after_all a t)
+pub after_both : (a b : List Call) (t : Told) → after_all (a ++ b) t ≡ after_all b (after_all a t)
 after_both [] b t = refl
 after_both (call ∷ a) b t = after_both a b (after call t)
 
-told_both : (a b : List Call) (o : Option Told) → option_map (after_all b) (option_map (after_all a) o) ≡ option_map (after_all (a ++ b)) o
+pub told_both : (a b : List Call) (o : Option Told) → option_map (after_all b) (option_map (after_all a) o) ≡ option_map (after_all (a ++ b)) o
 told_both a b None = refl
 told_both a b (Some t) = ap (λ (x : Told). Some x) (sym (after_both a b t))
 
-told_none : (o : Option Told) → o ≡ option_map (after_all []) o
+-- none
+pub told_none : (o : Option Told) → o ≡ option_map (after_all []) o
 told_none None = refl
 told_none (Some t) = refl
 
-told_one : (call : Call) (o : Option Told) → option_map (after call) o ≡ option_map (after_all (call ∷ [])) o
+-- one
+pub told_one : (call : Call) (o : Option Told) → option_map (after call) o ≡ option_map (after_all (call ∷ [])) o
 told_one call None = refl
 told_one call (Some t) = refl
 

@@ -11,14 +11,15 @@ use Rattle.im_format.specs.Reading.{number8, counts, first_at, number_at, end_at
 use Rattle.im_format.specs.Records.{entry_octets, entries_octets, record_octets}
 use Rattle.im_format.specs.declared.records.Record.{Record}
 use Rattle.im_format.specs.declared.references.ValueRef.{ValueRef}
-use Rattle.im_standing.proofs.EntryLemmas.{length-entry}
-use Rattle.im_standing.proofs.FieldLemmas.{number8-held}
-use Rattle.im_standing.proofs.HeldBatches.{HoldsBatch, HoldsBatches, HasFields, counts-true, counts-false, fields-split}
-use Rattle.im_standing.proofs.HeldEntries.{HoldsEntries, entry_end}
-use Rattle.im_standing.proofs.HeldRecords.{HoldsRecord, HoldsRecords, grown, grown_by, length-grown, length-grown_by, length-record}
-use Rattle.im_standing.proofs.MetadataLemmas.{attributes-short}
-use Rattle.im_standing.proofs.PassLemmas.{AllPass, pass-both}
-use Rattle.im_standing.proofs.RecordReads.{RecordsRead, records-read}
+use Rattle.im_format.proofs.FieldLemmas.{number8-held}
+use Rattle.im_format.proofs.HeldBatches.{HoldsBatch, HoldsBatches, HasFields, counts-true, counts-false, fields-split}
+use Rattle.im_format.proofs.HeldEntries.{HoldsEntries, entry_end}
+use Rattle.im_format.proofs.HeldRecords.{HoldsRecord, HoldsRecords, grown, grown_by, length-grown, length-grown_by}
+use Rattle.im_format.proofs.MetadataLemmas.{attributes-short}
+use Rattle.im_format.proofs.PassLemmas.{pass-both}
+use Rattle.im_format.proofs.RecordReads.{RecordsRead, records-read}
+use Rattle.im_format.proofs.LengthLemmas.{length-entry, length-record}
+use Rattle.im_mtree.proofs.CheckLemmas.{AllHold}
 
 -- an entry has 1075 octets at most
 entries-small : (hash : Hash) (image : Files) (id at : ℕ) (entries : List Entry) (refs : List ValueRef) → HoldsEntries hash image id at entries refs → length (entries_octets entries refs) ≤ 1075 * length entries
@@ -69,14 +70,14 @@ batch-read hash image gate r batch small h =
     }
 
 -- a batch that stands passes its checks
-batch-passes : (hash : Hash) (image : Files) (gate : ℕ) (r : Reached) (batch : List Record) → HoldsBatch hash image gate r batch → BatchRead image gate r batch → RecordsRead hash image r batch → AllPass (batch_checks hash image gate r)
+batch-passes : (hash : Hash) (image : Files) (gate : ℕ) (r : Reached) (batch : List Record) → HoldsBatch hash image gate r batch → BatchRead image gate r batch → RecordsRead hash image r batch → AllHold (batch_checks hash image gate r)
 batch-passes hash image gate r batch h fields read =
     let log : List ℕ = image 1 in
     let room : length r.alhs + length batch ≤ 1048576 = h.room in
     let filled : 1 ≤ length batch = h.filled in
     let ends : number8 log (gate + 17) ≡ (behind hash image (length batch) r).place = fields.end_is ∙ sym (ap (λ (s : Reached). s.place) read.behind_is) in
     let n : ℕ = length batch in
-    subst (λ (k : ℕ). AllPass ((is_number 1 log (gate + 1) (next_id r) ∷ from_one 1 (gate + 9) (1048576 - length r.alhs) k)
+    subst (λ (k : ℕ). AllHold ((is_number 1 log (gate + 1) (next_id r) ∷ from_one 1 (gate + 9) (1048576 - length r.alhs) k)
     ++ (records_checks hash image k r ++ (is_number 1 log (gate + 17) (behind hash image k r).place ∷ [])))) (sym fields.count)
     (pass-both (is_number 1 log (gate + 1) (next_id r) ∷ from_one 1 (gate + 9) (1048576 - length r.alhs) n)
     (records_checks hash image n r ++ (is_number 1 log (gate + 17) (behind hash image n r).place ∷ [])) (
@@ -92,7 +93,7 @@ batch-passes hash image gate r batch h fields read =
 -- what is read of batches that stand
 pub record BatchesRead (hash : Hash) (image : Files) (most gate : ℕ) (r : Reached) (batches : List (List Record)) : Type 0 where
   pub history : history_from image most gate r.place ≡ map (λ rec. rec.tx) (joined batches)
-  pub pass : AllPass (batches_checks hash image most gate r)
+  pub pass : AllHold (batches_checks hash image most gate r)
 
 pub batches-read : (hash : Hash) (image : Files) (most gate : ℕ) (r : Reached) (batches : List (List Record)) → length (image 1) ≤ gate + most → r.place ≤ length r.alhs * 2 ^ 21 → HoldsBatches hash image gate r batches → BatchesRead hash image most gate r batches
 batches-read hash image zero gate r [] enough small h = record { history = refl; pass = tt }
@@ -102,7 +103,7 @@ batches-read hash image (suc most) gate r [] enough small h =
     let closed : counts (image 1) gate ≡ false = counts-false (image 1) gate h in
     record {
       history = ap (λ b. if b then transactions_in image r.place (number_at (image 1) gate) ++ history_from image most (gate + 25) (records_end image r.place (number_at (image 1) gate)) else []) closed;
-      pass = subst (λ b. AllPass (if b then batch_checks hash image gate r ++ batches_checks hash image most (gate + 25) (behind hash image (number_at (image 1) gate) r) else [])) (sym closed) tt;
+      pass = subst (λ b. AllHold (if b then batch_checks hash image gate r ++ batches_checks hash image most (gate + 25) (behind hash image (number_at (image 1) gate) r) else [])) (sym closed) tt;
     }
 batches-read hash image (suc most) gate r (batch ∷ batches) enough small h =
     let opened : counts (image 1) gate ≡ true = counts-true (image 1) gate h.0.counted in
@@ -118,9 +119,9 @@ batches-read hash image (suc most) gate r (batch ∷ batches) enough small h =
           ∙ ap (λ p. map (λ rec. rec.tx) batch ++ history_from image most (gate + 25) p) read.place
           ∙ ap (λ ts. map (λ rec. rec.tx) batch ++ ts) more.history
           ∙ sym (map-append (λ rec. rec.tx) batch (joined batches));
-      pass = subst (λ b. AllPass (if b then batch_checks hash image gate r ++ batches_checks hash image most (gate + 25) (behind hash image (number_at (image 1) gate) r) else [])) (sym opened)
+      pass = subst (λ b. AllHold (if b then batch_checks hash image gate r ++ batches_checks hash image most (gate + 25) (behind hash image (number_at (image 1) gate) r) else [])) (sym opened)
           (pass-both (batch_checks hash image gate r) (batches_checks hash image most (gate + 25) (behind hash image (number_at (image 1) gate) r))
           (batch-passes hash image gate r batch h.0 fields read)
-          (subst (λ n. AllPass (batches_checks hash image most (gate + 25) (behind hash image n r))) (sym fields.count)
-          (subst (λ s. AllPass (batches_checks hash image most (gate + 25) s)) (sym read.behind_is) more.pass)));
+          (subst (λ n. AllHold (batches_checks hash image most (gate + 25) (behind hash image n r))) (sym fields.count)
+          (subst (λ s. AllHold (batches_checks hash image most (gate + 25) s)) (sym read.behind_is) more.pass)));
     }

@@ -10,32 +10,33 @@ use Rattle.im_format.specs.Batches.{Counts, joined}
 use Rattle.im_format.specs.Damages.{Reached, batch_checks, batches_checks, behind, from_one, is_number, next_id, records_checks}
 use Rattle.im_format.specs.Reading.{counts, history_from, number8, number_at, records_end, transactions_in}
 use Rattle.im_format.specs.declared.records.Record.{Record}
-use Rattle.im_standing.proofs.FieldsBack.{IsSmall, field8-back}
-use Rattle.im_standing.proofs.HeldBatches.{HoldsBatch, HoldsBatches, counts-true, fields-joined, true-counts}
-use Rattle.im_standing.proofs.HeldRecords.{grown_by}
-use Rattle.im_standing.proofs.HoldLemmas.{holds-same}
-use Rattle.im_standing.proofs.PassLemmas.{AllPass, pass-left, pass-right}
-use Rattle.im_standing.proofs.RecordsBack.{RecordsBack, records-back}
+use Rattle.im_format.proofs.FieldsBack.{IsSmall, field8-back}
+use Rattle.im_format.proofs.HeldBatches.{HoldsBatch, HoldsBatches, counts-true, fields-joined, true-counts}
+use Rattle.im_format.proofs.HeldRecords.{grown_by}
+use Rattle.im_format.proofs.HoldLemmas.{holds-same}
+use Rattle.im_format.proofs.PassLemmas.{pass-left, pass-right}
+use Rattle.im_format.proofs.RecordsBack.{RecordsBack, records-back}
+use Rattle.im_mtree.proofs.CheckLemmas.{AllHold}
 
 -- a batch that passes
 record BatchBack (hash : Hash) (image : Files) (gate : ℕ) (r : Reached) : Type 0 where
   pub of : RecordsBack hash image r (number_at (image 1) gate)
   pub held : HoldsBatch hash image gate r of.all
 
-batch-back : (hash : Hash) (image : Files) (gate : ℕ) (r : Reached) → IsSmall (image 0) → IsSmall (image 1) → Counts (image 1) gate → AllPass (batch_checks hash image gate r) → BatchBack hash image gate r
+batch-back : (hash : Hash) (image : Files) (gate : ℕ) (r : Reached) → IsSmall (image 0) → IsSmall (image 1) → Counts (image 1) gate → AllHold (batch_checks hash image gate r) → BatchBack hash image gate r
 batch-back hash image gate r small0 small1 counted pass =
     let log : List ℕ = image 1 in
     let n : ℕ = number_at log gate in
     let front = is_number 1 log (gate + 1) (next_id r) ∷ from_one 1 (gate + 9) (1048576 - length r.alhs) n in
     let records = records_checks hash image n r in
     let last = is_number 1 log (gate + 17) (behind hash image n r).place ∷ [] in
-    let first : AllPass front = pass-left front (records ++ last) pass in
-    let rest : AllPass (records ++ last) = pass-right front (records ++ last) pass in
+    let first : AllHold front = pass-left front (records ++ last) pass in
+    let rest : AllHold (records ++ last) = pass-right front (records ++ last) pass in
     let id : number8 log (gate + 1) ≡ next_id r = eqb-true (number8 log (gate + 1)) (next_id r) first.0 in
     let some : 1 ≤ n = leb-true 1 n first.1.0 in
     let few : n ≤ 1048576 - length r.alhs = leb-true n (1048576 - length r.alhs) first.1.1.0 in
     let back : RecordsBack hash image r n = records-back hash image r n small0 (omega arith) (pass-left records last rest) in
-    let end_pass : AllPass last = pass-right records last rest in
+    let end_pass : AllHold last = pass-right records last rest in
     let end_is : number8 log (gate + 17) ≡ (grown_by r back.all).place =
     eqb-true (number8 log (gate + 17)) (behind hash image n r).place end_pass.0 ∙ ap (λ (s : Reached). s.place) back.behind_is in
     let many : length back.all ≡ n = back.many in
@@ -82,7 +83,7 @@ batches-more hash image most gate r opened one more =
       held = (one.held, more.held);
     }
 
-pub batches-back : (hash : Hash) (image : Files) (most gate : ℕ) (r : Reached) → IsSmall (image 0) → IsSmall (image 1) → length (image 1) ≤ gate + most → AllPass (batches_checks hash image most gate r) → BatchesBack hash image most gate r
+pub batches-back : (hash : Hash) (image : Files) (most gate : ℕ) (r : Reached) → IsSmall (image 0) → IsSmall (image 1) → length (image 1) ≤ gate + most → AllHold (batches_checks hash image most gate r) → BatchesBack hash image most gate r
 batches-back hash image zero gate r small0 small1 enough pass = record {
   all = [];
   txs_are = refl;
@@ -93,10 +94,10 @@ batches-back hash image (suc most) gate r small0 small1 enough pass = elim (case
       let n : ℕ = number_at (image 1) gate in
       let here = batch_checks hash image gate r in
       let rest = batches_checks hash image most (gate + 25) (behind hash image n r) in
-      let both : AllPass (here ++ rest) = subst (λ b. AllPass (if b then here ++ rest else [])) opened pass in
+      let both : AllHold (here ++ rest) = subst (λ b. AllHold (if b then here ++ rest else [])) opened pass in
       let one : BatchBack hash image gate r = batch-back hash image gate r small0 small1 (true-counts (image 1) gate opened) (pass-left here rest both) in
-      let on : AllPass (batches_checks hash image most (gate + 25) (grown_by r one.of.all)) =
-      subst (λ s. AllPass (batches_checks hash image most (gate + 25) s)) one.of.behind_is (pass-right here rest both) in
+      let on : AllHold (batches_checks hash image most (gate + 25) (grown_by r one.of.all)) =
+      subst (λ s. AllHold (batches_checks hash image most (gate + 25) s)) one.of.behind_is (pass-right here rest both) in
       batches-more hash image most gate r opened one (batches-back hash image most (gate + 25) (grown_by r one.of.all) small0 small1 (omega arith) on))
   | inr closed ↦ record {
     all = [];

@@ -4,12 +4,17 @@ use Rattle.im_octet.specs.Fields.{field2, field4, field8}
 use Rattle.im_model.specs.declared.entries.Entry.{Entry}
 use Rattle.im_format.specs.Records.{entry_octets, reference_octets}
 use Rattle.im_format.specs.declared.references.ValueRef.{ValueRef}
-use Rattle.im_standing.proofs.HoldLemmas.{Holds, holds-left, holds-right, holds-both, holds-at}
-use Rattle.im_standing.proofs.FieldLemmas.{length-field2, length-field4, length-field8}
+use Rattle.im_format.proofs.HoldLemmas.{Holds, holds-left, holds-right, holds-both, holds-at}
+use Rattle.im_octet.proofs.FieldLemmas.{length-field2, length-field4}
+use Rattle.im_format.specs.Reading.{slot_of}
 
 -- where the digest of an entry's value stands
 abbrev pub hval_place : ℕ → ℕ → ℕ → ℕ
 hval_place at m k = at + 4 + m + k
+
+-- the reference that is read at a place
+abbrev pub ref_read : List ℕ → ℕ → ValueRef
+ref_read log hval_at = (slot_of log 0 0 0 hval_at).ref
 
 -- the fields of a reference, each at its place
 pub record HasReference (log : List ℕ) (at : ℕ) (ref : ValueRef) : Type 0 where
@@ -25,13 +30,6 @@ pub record HasEntry (log : List ℕ) (at : ℕ) (entry : Entry) (ref : ValueRef)
   pub key_len : Holds log (at + 2 + length entry.md) (field2 (length entry.key))
   pub key : Holds log (at + 4 + length entry.md) entry.key
   pub of : HasReference log (hval_place at (length entry.md) (length entry.key)) ref
-
-pub length-reference : (ref : ValueRef) → length ref.hval ≡ 32 → length (reference_octets ref) ≡ 45
-unfolding reference_octets
-length-reference ref long =
-    let a : List ℕ = ref.hval ++ field4 ref.len in
-    let b : List ℕ = a ++ (ref.log ∷ []) in
-    omega (arith, long, length-field4 ref.len, length-field8 ref.at, length-append ref.hval (field4 ref.len), length-append a (ref.log ∷ []), length-append b (field8 ref.at))
 
 -- the octets of a reference, split
 pub reference-split : (log : List ℕ) (at : ℕ) (ref : ValueRef) → length ref.hval ≡ 32 → Holds log at (reference_octets ref) → HasReference log at ref
@@ -63,14 +61,6 @@ reference-joined log at ref long h =
     let ha : Holds log at a = holds-both ref.hval (field4 ref.len) h.hval (holds-at (at + length ref.hval) (omega arith) h.len) in
     let hb : Holds log at b = holds-both a (ref.log ∷ []) ha (holds-at (at + length a) (omega arith) h.number) in
     holds-both b (field8 ref.at) hb (holds-at (at + length b) (omega arith) h.place)
-
-pub length-entry : (entry : Entry) (ref : ValueRef) → length ref.hval ≡ 32 → length (entry_octets entry ref) ≡ 49 + length entry.md + length entry.key
-unfolding entry_octets
-length-entry entry ref long =
-    let m : List ℕ = field2 (length entry.md) in
-    let k : List ℕ = field2 (length entry.key) in
-    let r : List ℕ = reference_octets ref in
-    omega (arith, length-field2 (length entry.md), length-field2 (length entry.key), length-reference ref long, length-append m entry.md, length-append (m ++ entry.md) k, length-append (m ++ entry.md ++ k) entry.key, length-append (m ++ entry.md ++ k ++ entry.key) r)
 
 -- the octets of an entry, split
 pub entry-split : (log : List ℕ) (at : ℕ) (entry : Entry) (ref : ValueRef) → length ref.hval ≡ 32 → Holds log at (entry_octets entry ref) → HasEntry log at entry ref

@@ -1,5 +1,5 @@
 -- Numbers of 2, 4 and 8 octets: read where their fields stand, and their fields where they are read.
-use Rattle.std.proofs.Common.{◌≡◌, ◌<◌, ◌+◌, ◌^◌, ℕ, ℤ, List, [], ◌∷◌, length, drop, get_or, refl, ap, sym, ◌∙◌, arith, FitsSigned}
+use Rattle.std.proofs.Common.{◌≡◌, ◌<◌, ◌+◌, ◌^◌, ℕ, ℤ, List, [], ◌∷◌, drop, get_or, ap, sym, ◌∙◌, arith, FitsSigned}
 use Rattle.std.specs.Int.{w16, w32, w64, from_be_bytes, cast_signed, cast_unsigned}
 use Rattle.std.proofs.lemmas.Int.{to_z-of_z}
 use Rattle.std.proofs.lemmas.List.{get_or-take, get_or-drop}
@@ -8,23 +8,7 @@ use Rattle.std.proofs.Math.Facts.{Fits-of_z}
 use Rattle.im_octet.specs.Fields.{field2, field4, field8, signed_field8}
 use Rattle.im_format.specs.Reading.{number2, number4, number8}
 use Rattle.im_format.specs.Spans.{octets_at}
-use Rattle.im_standing.proofs.HoldLemmas.{Holds}
-
-pub length-field2 : (n : ℕ) → length (field2 n) ≡ 2
-unfolding field2
-length-field2 n = refl
-
-pub length-field4 : (n : ℕ) → length (field4 n) ≡ 4
-unfolding field4
-length-field4 n = refl
-
-pub length-field8 : (n : ℕ) → length (field8 n) ≡ 8
-unfolding field8
-length-field8 n = refl
-
-pub length-signed : (z : ℤ) → length (signed_field8 z) ≡ 8
-unfolding signed_field8
-length-signed z = refl
+use Rattle.im_format.proofs.HoldLemmas.{Holds}
 
 -- a number is read where its field stands
 pub number2-held : (log : List ℕ) (at n : ℕ) → n < 2 ^ 16 → Holds log at (field2 n) → number2 log at ≡ n

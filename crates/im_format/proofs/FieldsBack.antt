@@ -8,7 +8,8 @@ use Rattle.std.proofs.lemmas.Nat.{be_bytes_2, be_bytes_4, be_bytes_8}
 use Rattle.im_octet.specs.Fields.{field2, field4, field8, signed_field8}
 use Rattle.im_format.specs.Reading.{number2, number4, number8}
 use Rattle.im_format.specs.Spans.{octets_at}
-use Rattle.im_standing.proofs.HoldLemmas.{Holds, holds-here, holds-same, length-octets}
+use Rattle.im_format.proofs.HoldLemmas.{Holds, holds-here, holds-same}
+use Rattle.im_format.proofs.LengthLemmas.{length-octets}
 
 -- a file holds octets
 pub record IsSmall (log : List ℕ) : Type 0 where

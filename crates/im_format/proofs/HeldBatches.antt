@@ -9,9 +9,9 @@ use Rattle.im_format.specs.Batches.{Counts, batch_fields}
 use Rattle.im_format.specs.Damages.{Reached, next_id}
 use Rattle.im_format.specs.Reading.{counts}
 use Rattle.im_format.specs.declared.records.Record.{Record}
-use Rattle.im_standing.proofs.FieldLemmas.{length-field8}
-use Rattle.im_standing.proofs.HeldRecords.{HoldsRecords, grown_by}
-use Rattle.im_standing.proofs.HoldLemmas.{Holds, holds-left, holds-right, holds-both, holds-at}
+use Rattle.im_format.proofs.HeldRecords.{HoldsRecords, grown_by}
+use Rattle.im_format.proofs.HoldLemmas.{Holds, holds-left, holds-right, holds-both, holds-at}
+use Rattle.im_octet.proofs.FieldLemmas.{length-field8}
 
 -- the batch whose gate stands at this place
 pub record HoldsBatch (hash : Hash) (image : Files) (gate : ℕ) (r : Reached) (batch : List Record) : Type 0 where

@@ -9,7 +9,7 @@ use Rattle.im_format.specs.Records.{IsReference}
 use Rattle.im_format.specs.Spans.{Reads}
 use Rattle.im_format.specs.Standing.{LiesIn}
 use Rattle.im_format.specs.declared.references.ValueRef.{ValueRef}
-use Rattle.im_standing.proofs.EntryLemmas.{HasEntry, hval_place}
+use Rattle.im_format.proofs.EntryLemmas.{HasEntry, hval_place}
 
 -- an entry of transaction id at a place, within the limits, and its value where its reference says
 pub record HoldsEntry (hash : Hash) (image : Files) (id at : ℕ) (entry : Entry) (ref : ValueRef) : Type 0 where

@@ -1,5 +1,5 @@
 -- What an image holds of a record that is read next, and of records that follow each other.
-use Rattle.std.proofs.Common.{◌≡◌, ℕ, ◌+◌, ◌≤◌, List, [], ◌∷◌, ◌++◌, length, arith, length-append, ap}
+use Rattle.std.proofs.Common.{◌≡◌, ℕ, ◌+◌, ◌≤◌, List, [], ◌∷◌, ◌++◌, length, arith, length-append, ap, ℤ}
 use Rattle.im_octet.specs.Fields.{field4, field8, signed_field8}
 use Rattle.im_digest.specs.Digests.{Hash}
 use Rattle.im_disk.specs.Disk.{Files}
@@ -7,13 +7,13 @@ use Rattle.im_model.specs.Headers.{alh}
 use Rattle.im_model.specs.History.{IsTransaction, next_header}
 use Rattle.im_model.specs.declared.entries.Entry.{Entry}
 use Rattle.im_format.specs.Damages.{Reached, next_id}
-use Rattle.im_format.specs.Records.{entry_octets, entries_octets, head_octets, record_octets, records_octets}
+use Rattle.im_format.specs.Records.{entry_octets, entries_octets, record_octets, records_octets}
 use Rattle.im_format.specs.declared.records.Record.{Record}
 use Rattle.im_format.specs.declared.references.ValueRef.{ValueRef}
-use Rattle.im_standing.proofs.EntryLemmas.{length-entry}
-use Rattle.im_standing.proofs.FieldLemmas.{length-field4, length-field8, length-signed}
-use Rattle.im_standing.proofs.HeldEntries.{HoldsEntries, entries_end, entry_end}
-use Rattle.im_standing.proofs.HoldLemmas.{Holds}
+use Rattle.im_format.proofs.HeldEntries.{HoldsEntries, entries_end, entry_end}
+use Rattle.im_format.proofs.HoldLemmas.{Holds}
+use Rattle.im_format.proofs.LengthLemmas.{length-entry}
+use Rattle.im_model.specs.declared.transactions.Transaction.{Transaction}
 
 -- digests have 32 octets
 pub record Has32 (hash : Hash) : Type 0 where
@@ -32,6 +32,13 @@ pub record HoldsRecord (hash : Hash) (image : Files) (r : Reached) (rec : Record
   pub digest : Holds (image 0) (entries_end (r.place + 28) rec.tx.entries) rec.alh
   pub digest_is : rec.alh ≡ alh hash (next_header hash r.alhs rec.tx)
   pub size : length rec.alh ≡ 32
+
+-- a transaction, and what is reached, by their fields
+abbrev pub tx_of : ℤ → List Entry → ℕ → Transaction
+tx_of ts entries bl = record { ts = ts; entries = entries; bl = bl }
+
+abbrev pub reached_of : List (List ℕ) → ℕ → ℕ → Reached
+reached_of alhs bl place = record { alhs = alhs; bl = bl; place = place }
 
 -- what is reached behind it
 abbrev pub grown : Reached → Record → Reached
@@ -77,18 +84,3 @@ entries-end hash image id at (entry ∷ entries) (ref ∷ refs) h =
     let one = length-entry entry ref h.0.size in
     let both = length-append (entry_octets entry ref) (entries_octets entries refs) in
     omega arith
-
-pub length-head : (id : ℕ) (rec : Record) → length (head_octets id rec.tx) ≡ 28
-unfolding head_octets
-length-head id rec =
-    let a : List ℕ = field8 id in
-    let b : List ℕ = a ++ signed_field8 rec.tx.ts in
-    let c : List ℕ = b ++ field8 rec.tx.bl in
-    omega (arith, length-field8 id, length-signed rec.tx.ts, length-field8 rec.tx.bl, length-field4 (length rec.tx.entries), length-append a (signed_field8 rec.tx.ts), length-append b (field8 rec.tx.bl), length-append c (field4 (length rec.tx.entries)))
-
-pub length-record : (id : ℕ) (rec : Record) → length (record_octets id rec) ≡ 28 + length (entries_octets rec.tx.entries rec.refs) + length rec.alh
-unfolding record_octets
-length-record id rec =
-    let a : List ℕ = head_octets id rec.tx in
-    let b : List ℕ = entries_octets rec.tx.entries rec.refs in
-    omega (arith, length-head id rec, length-append a b, length-append (a ++ b) rec.alh)

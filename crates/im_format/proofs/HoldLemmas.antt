@@ -1,7 +1,8 @@
 -- Octets that stand at a place of a file: split, and put together.
 use Rattle.std.proofs.Common.{◌≡◌, ◌≤◌, ◌+◌, ℕ, List, ◌++◌, length, take, drop, refl, ap, subst, sym, ◌∙◌, arith, length-append}
-use Rattle.std.proofs.lemmas.List.{length-drop, length-take-le, take_at, drop_at, drop-drop, take-append-drop, take-take, drop-take}
+use Rattle.std.proofs.lemmas.List.{take_at, drop_at, drop-drop, take-append-drop, take-take, drop-take}
 use Rattle.im_format.specs.Spans.{octets_at}
+use Rattle.im_format.proofs.LengthLemmas.{length-octets}
 
 -- a file has these octets at a place, within its length
 pub record Holds (log : List ℕ) (at : ℕ) (octets : List ℕ) : Type 0 where
@@ -15,10 +16,6 @@ octets-both log at m n =
     sym (take-append-drop m (take (m + n) rest))
     ∙ ap (λ xs. xs ++ drop m (take (m + n) rest)) (take-take m (m + n) rest (omega arith))
     ∙ ap (λ xs. take m rest ++ xs) (drop-take m n rest ∙ ap (λ xs. take n xs) (drop-drop m at log))
-
--- octets within the length are as many as were asked
-pub length-octets : (log : List ℕ) (at n : ℕ) → at + n ≤ length log → length (octets_at log at n) ≡ n
-length-octets log at n h = length-take-le n (drop at log) (omega (arith, length-drop at log))
 
 -- what stands there
 pub holds-here : (log : List ℕ) (at n : ℕ) → at + n ≤ length log → Holds log at (octets_at log at n)

@@ -5,6 +5,7 @@ use Rattle.std.proofs.lemmas.Bool.{cases_Bool, false_from_ne_true}
 use Rattle.std.proofs.lemmas.Slice.Eq.{bytes_eq-Decides}
 use Rattle.im_model.specs.declared.entries.Entry.{Entry}
 use Rattle.im_format.specs.Damages.{index_of}
+use Rattle.im_octet.proofs.Common.{bytes-same}
 
 -- the key is none of these
 abbrev pub IsFresh : List ℕ → List (List ℕ) → Type 0
@@ -15,10 +16,6 @@ IsFresh key (other ∷ others) = (other ≢ key) × IsFresh key others
 abbrev pub AreApart : List (List ℕ) → List Entry → Type 0
 AreApart keys [] = Unit {0}
 AreApart keys (entry ∷ entries) = IsFresh entry.key keys × AreApart (keys ++ entry.key ∷ []) entries
-
--- equal strings are found equal, and others are not
-pub bytes-same : (a b : List ℕ) → a ≡ b → bytes_eq a b ≡ true
-bytes-same a b e = (bytes_eq-Decides a b).1 e
 
 pub same-bytes : (a b : List ℕ) → bytes_eq a b ≡ true → a ≡ b
 same-bytes a b e = (bytes_eq-Decides a b).0 e

@@ -2,6 +2,7 @@ pub mod AllLemmas
 pub mod BatchReads
 pub mod BatchesBack
 pub mod EmptyLemmas
+pub mod EndLemmas
 pub mod EntryLemmas
 pub mod FieldLemmas
 pub mod FieldsBack
@@ -10,6 +11,7 @@ pub mod HeldEntries
 pub mod HeldRecords
 pub mod HoldLemmas
 pub mod KeyLemmas
+pub mod LengthLemmas
 pub mod MetadataLemmas
 pub mod PassLemmas
 pub mod RecordReads

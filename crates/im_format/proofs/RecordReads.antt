@@ -1,24 +1,26 @@
 -- A record that stands is read back, and passes its checks.
-use Rattle.std.proofs.Common.{◌≡◌, ◌≤◌, ◌+◌, ◌-◌, ℕ, ℤ, List, [], ◌∷◌, ◌++◌, length, map, refl, ap, subst, sym, ◌∙◌, arith}
+use Rattle.std.proofs.Common.{◌≡◌, ◌≤◌, ◌+◌, ◌-◌, ℕ, List, [], ◌∷◌, ◌++◌, length, map, refl, ap, subst, sym, ◌∙◌, arith}
 use Rattle.std.proofs.lemmas.Bool.{le-leb, eq-eqb}
 use Rattle.im_octet.specs.Fields.{field4, field8, signed_field8}
 use Rattle.im_digest.specs.Digests.{Hash}
 use Rattle.im_disk.specs.Disk.{Files}
 use Rattle.im_model.specs.Headers.{alh}
 use Rattle.im_model.specs.History.{next_header}
-use Rattle.im_model.specs.declared.entries.Entry.{Entry}
-use Rattle.im_model.specs.declared.transactions.Transaction.{Transaction}
 use Rattle.im_format.specs.Damages.{Reached, next_id, next_alh, behind_one, behind, head_checks, slots_checks, alh_checks, record_checks, records_checks}
 use Rattle.im_format.specs.Reading.{number8, slots_at, slots_end, entry_in, ts_at, bl_at, count_at, alh_place, record_end, transaction_in, transactions_in, records_end}
 use Rattle.im_format.specs.Spans.{octets_at}
 use Rattle.im_format.specs.declared.records.Record.{Record}
-use Rattle.im_standing.proofs.FieldLemmas.{number4-held, number8-held, signed-held, length-field4, length-field8, length-signed}
-use Rattle.im_standing.proofs.HeldEntries.{entries_end}
-use Rattle.im_standing.proofs.HeldRecords.{HoldsRecord, HoldsRecords, grown, grown_by, entries-end, length-record}
-use Rattle.im_standing.proofs.HoldLemmas.{Holds}
-use Rattle.im_standing.proofs.KeyLemmas.{distinct-apart, bytes-same}
-use Rattle.im_standing.proofs.PassLemmas.{AllPass, pass-both}
-use Rattle.im_standing.proofs.SlotReads.{EntriesRead, entries-read}
+use Rattle.im_format.proofs.FieldLemmas.{number4-held, number8-held, signed-held}
+use Rattle.im_format.proofs.HeldEntries.{entries_end}
+use Rattle.im_format.proofs.HeldRecords.{HoldsRecord, HoldsRecords, grown, grown_by, entries-end, reached_of, tx_of}
+use Rattle.im_format.proofs.HoldLemmas.{Holds}
+use Rattle.im_format.proofs.KeyLemmas.{distinct-apart}
+use Rattle.im_format.proofs.PassLemmas.{pass-both}
+use Rattle.im_format.proofs.SlotReads.{EntriesRead, entries-read}
+use Rattle.im_octet.proofs.FieldLemmas.{length-field4, length-field8, length-signed}
+use Rattle.im_format.proofs.LengthLemmas.{length-record}
+use Rattle.im_octet.proofs.Common.{bytes-same}
+use Rattle.im_mtree.proofs.CheckLemmas.{AllHold}
 
 -- the fields of a record's head
 pub record HeadRead (image : Files) (r : Reached) (rec : Record) : Type 0 where
@@ -39,7 +41,7 @@ head-read hash image r rec h =
       count = number4-held (image 0) (r.place + 24) (length rec.tx.entries) (omega arith) h.count;
     }
 
-head-passes : (hash : Hash) (image : Files) (r : Reached) (rec : Record) → HoldsRecord hash image r rec → HeadRead image r rec → AllPass (head_checks (image 0) (next_id r) r.bl r.place)
+head-passes : (hash : Hash) (image : Files) (r : Reached) (rec : Record) → HoldsRecord hash image r rec → HeadRead image r rec → AllHold (head_checks (image 0) (next_id r) r.bl r.place)
 head-passes hash image r rec h e =
     let log : List ℕ = image 0 in
     let id : r.place + length (field8 (next_id r)) ≤ length log = h.id.within in
@@ -81,25 +83,19 @@ head-passes hash image r rec h e =
       ),
     )
 
-abbrev tx_of : ℤ → List Entry → ℕ → Transaction
-tx_of ts entries bl = record { ts = ts; entries = entries; bl = bl }
-
 -- what is read of a record that stands
 pub record RecordRead (hash : Hash) (image : Files) (r : Reached) (rec : Record) : Type 0 where
   pub tx : transaction_in image r.place ≡ rec.tx
   pub place : record_end image r.place ≡ (grown r rec).place
   pub behind : behind_one hash image r ≡ grown r rec
-  pub pass : AllPass (record_checks hash image r)
+  pub pass : AllHold (record_checks hash image r)
 
-alh-passes : (log : List ℕ) (at : ℕ) (digest : List ℕ) → length digest ≡ 32 → Holds log at digest → AllPass (alh_checks log at digest)
+alh-passes : (log : List ℕ) (at : ℕ) (digest : List ℕ) → length digest ≡ 32 → Holds log at digest → AllHold (alh_checks log at digest)
 alh-passes log at digest long h =
     let within : at + length digest ≤ length log = h.within in (
       le-leb (at + 32) (length log) (omega arith),
       (bytes-same (octets_at log at 32) digest (ap (λ n. octets_at log at n) (sym long) ∙ h.is), tt),
     )
-
-abbrev reached_of : List (List ℕ) → ℕ → ℕ → Reached
-reached_of alhs bl place = record { alhs = alhs; bl = bl; place = place }
 
 pub record-read : (hash : Hash) (image : Files) (r : Reached) (rec : Record) → HoldsRecord hash image r rec → RecordRead hash image r rec
 record-read hash image r rec h =
@@ -129,9 +125,9 @@ record-read hash image r rec h =
           (slots_checks hash image (next_id r) [] first (count_at log r.place) ++ alh_checks log (alh_place image r.place) (next_alh hash image r))
           (head-passes hash image r rec h head)
           (pass-both (slots_checks hash image (next_id r) [] first (count_at log r.place)) (alh_checks log (alh_place image r.place) (next_alh hash image r))
-          (subst (λ n. AllPass (slots_checks hash image (next_id r) [] first n)) (sym head.count) read.pass)
-          (subst (λ p. AllPass (alh_checks log p (next_alh hash image r))) (sym spot)
-          (subst (λ a. AllPass (alh_checks log (entries_end first rec.tx.entries) a)) (sym next)
+          (subst (λ n. AllHold (slots_checks hash image (next_id r) [] first n)) (sym head.count) read.pass)
+          (subst (λ p. AllHold (alh_checks log p (next_alh hash image r))) (sym spot)
+          (subst (λ a. AllHold (alh_checks log (entries_end first rec.tx.entries) a)) (sym next)
           (alh-passes log (entries_end first rec.tx.entries) rec.alh size h.digest))));
     }
 
@@ -140,7 +136,7 @@ pub record RecordsRead (hash : Hash) (image : Files) (r : Reached) (recs : List 
   pub txs : transactions_in image r.place (length recs) ≡ map (λ rec. rec.tx) recs
   pub place : records_end image r.place (length recs) ≡ (grown_by r recs).place
   pub behind_is : behind hash image (length recs) r ≡ grown_by r recs
-  pub pass : AllPass (records_checks hash image (length recs) r)
+  pub pass : AllHold (records_checks hash image (length recs) r)
 
 pub records-read : (hash : Hash) (image : Files) (r : Reached) (recs : List Record) → HoldsRecords hash image r recs → RecordsRead hash image r recs
 records-read hash image r [] h = record { txs = refl; place = refl; behind_is = refl; pass = tt }
@@ -155,5 +151,5 @@ records-read hash image r (rec ∷ recs) h =
       place = ap (λ p. records_end image p n) one.place ∙ more.place;
       behind_is = ap (λ s. behind hash image n s) one.behind ∙ more.behind_is;
       pass = pass-both (record_checks hash image r) (records_checks hash image n (behind_one hash image r)) one.pass
-          (subst (λ s. AllPass (records_checks hash image n s)) (sym one.behind) more.pass);
+          (subst (λ s. AllHold (records_checks hash image n s)) (sym one.behind) more.pass);
     }

@@ -1,5 +1,5 @@
 -- A record that is read and passes its checks stands.
-use Rattle.std.proofs.Common.{◌≡◌, ◌≤◌, ◌+◌, ◌-◌, suc, zero, ℕ, ℤ, List, [], ◌∷◌, ◌++◌, length, map, refl, ap, subst, sym, ◌∙◌, arith, All}
+use Rattle.std.proofs.Common.{◌≡◌, ◌≤◌, ◌+◌, ◌-◌, suc, zero, ℕ, List, [], ◌∷◌, ◌++◌, length, map, refl, ap, subst, sym, ◌∙◌, arith, All}
 use Rattle.std.specs.Int.{w64}
 use Rattle.std.proofs.lemmas.Bool.{leb-true, eqb-true}
 use borrow.Author.Gap.{read_sfits}
@@ -15,13 +15,15 @@ use Rattle.im_format.specs.Reading.{alh_place, bl_at, count_at, number8, record_
 use Rattle.im_format.specs.Spans.{octets_at}
 use Rattle.im_format.specs.declared.records.Record.{Record}
 use Rattle.im_format.specs.declared.references.ValueRef.{ValueRef}
-use Rattle.im_standing.proofs.FieldsBack.{IsSmall, field4-back, field8-back, signed-back}
-use Rattle.im_standing.proofs.HeldEntries.{HoldsEntries, entries_end, entry_end}
-use Rattle.im_standing.proofs.HeldRecords.{HoldsRecord, HoldsRecords, entries-end, grown, grown_by, length-grown, length-record}
-use Rattle.im_standing.proofs.HoldLemmas.{holds-at, holds-here, holds-same, length-octets}
-use Rattle.im_standing.proofs.KeyLemmas.{apart-distinct, same-bytes}
-use Rattle.im_standing.proofs.PassLemmas.{AllPass, pass-left, pass-right}
-use Rattle.im_standing.proofs.SlotsBack.{SlotsBack, slots-back}
+use Rattle.im_format.proofs.FieldsBack.{IsSmall, field4-back, field8-back, signed-back}
+use Rattle.im_format.proofs.HeldEntries.{HoldsEntries, entries_end, entry_end}
+use Rattle.im_format.proofs.HeldRecords.{HoldsRecord, HoldsRecords, entries-end, grown, grown_by, length-grown, reached_of, tx_of}
+use Rattle.im_format.proofs.HoldLemmas.{holds-at, holds-here, holds-same}
+use Rattle.im_format.proofs.KeyLemmas.{apart-distinct, same-bytes}
+use Rattle.im_format.proofs.PassLemmas.{pass-left, pass-right}
+use Rattle.im_format.proofs.SlotsBack.{SlotsBack, slots-back}
+use Rattle.im_format.proofs.LengthLemmas.{length-record, length-octets}
+use Rattle.im_mtree.proofs.CheckLemmas.{AllHold}
 
 -- the entries that stand lie within the limits
 entries-are : (hash : Hash) (image : Files) (id at : ℕ) (entries : List Entry) (refs : List ValueRef) → HoldsEntries hash image id at entries refs → All IsEntry entries
@@ -43,7 +45,7 @@ record HeadPasses (log : List ℕ) (id bl at : ℕ) : Type 0 where
   pub some : 1 ≤ count_at log at
   pub few : count_at log at ≤ 1024
 
-head-passes : (log : List ℕ) (id bl at : ℕ) → AllPass (head_checks log id bl at) → HeadPasses log id bl at
+head-passes : (log : List ℕ) (id bl at : ℕ) → AllHold (head_checks log id bl at) → HeadPasses log id bl at
 head-passes log id bl at h = record {
   id_within = leb-true (at + 8) (length log) h.0;
   id_is = eqb-true (number8 log at) id h.1.0;
@@ -56,12 +58,6 @@ head-passes log id bl at h = record {
   few = leb-true (count_at log at) 1024 h.1.1.1.1.1.1.1.1.0;
 }
 
-abbrev tx_of : ℤ → List Entry → ℕ → Transaction
-tx_of ts entries bl = record { ts = ts; entries = entries; bl = bl }
-
-abbrev reached_of : List (List ℕ) → ℕ → ℕ → Reached
-reached_of alhs bl place = record { alhs = alhs; bl = bl; place = place }
-
 -- what is read of a record that passes
 pub record RecordBack (hash : Hash) (image : Files) (r : Reached) : Type 0 where
   pub one : Record
@@ -69,7 +65,7 @@ pub record RecordBack (hash : Hash) (image : Files) (r : Reached) : Type 0 where
   pub held : HoldsRecord hash image r one
   pub behind_is : behind_one hash image r ≡ grown r one
 
-pub record-back : (hash : Hash) (image : Files) (r : Reached) → IsSmall (image 0) → length r.alhs + 1 ≤ 1048576 → AllPass (record_checks hash image r) → RecordBack hash image r
+pub record-back : (hash : Hash) (image : Files) (r : Reached) → IsSmall (image 0) → length r.alhs + 1 ≤ 1048576 → AllHold (record_checks hash image r) → RecordBack hash image r
 record-back hash image r small fits pass =
     let log : List ℕ = image 0 in
     let first : ℕ = r.place + 28 in
@@ -79,7 +75,7 @@ record-back hash image r small fits pass =
     let head : HeadPasses log (next_id r) r.bl r.place = head-passes log (next_id r) r.bl r.place (pass-left heads (slots ++ alhs) pass) in
     let rest = pass-right heads (slots ++ alhs) pass in
     let back : SlotsBack hash image (next_id r) [] first (count_at log r.place) = slots-back hash image (next_id r) [] first (count_at log r.place) small (omega arith) (pass-left slots alhs rest) in
-    let last : AllPass alhs = pass-right slots alhs rest in
+    let last : AllHold alhs = pass-right slots alhs rest in
     let place : ℕ = alh_place image r.place in
     let within : place + 32 ≤ length log = leb-true (place + 32) (length log) last.0 in
     let digest : List ℕ = octets_at log place 32 in
@@ -147,12 +143,12 @@ records-more hash image r count back more =
       ends = ap (λ p. records_end image p count) (sym place) ∙ more.ends;
     }
 
-pub records-back : (hash : Hash) (image : Files) (r : Reached) (count : ℕ) → IsSmall (image 0) → length r.alhs + count ≤ 1048576 → AllPass (records_checks hash image count r) → RecordsBack hash image r count
+pub records-back : (hash : Hash) (image : Files) (r : Reached) (count : ℕ) → IsSmall (image 0) → length r.alhs + count ≤ 1048576 → AllHold (records_checks hash image count r) → RecordsBack hash image r count
 records-back hash image r zero small fits pass = record { all = []; many = refl; txs_are = refl; held = tt; behind_is = refl; ends = refl }
 records-back hash image r (suc count) small fits pass =
     let checks = records_checks hash image count (behind_one hash image r) in
     let back : RecordBack hash image r = record-back hash image r small (omega arith) (pass-left (record_checks hash image r) checks pass) in
     let longer = length-grown r back.one in
-    let rest : AllPass (records_checks hash image count (grown r back.one)) =
-    subst (λ s. AllPass (records_checks hash image count s)) back.behind_is (pass-right (record_checks hash image r) checks pass) in
+    let rest : AllHold (records_checks hash image count (grown r back.one)) =
+    subst (λ s. AllHold (records_checks hash image count s)) back.behind_is (pass-right (record_checks hash image r) checks pass) in
     records-more hash image r count back (records-back hash image (grown r back.one) count small (omega arith) rest)

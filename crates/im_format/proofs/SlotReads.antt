@@ -11,12 +11,15 @@ use Rattle.im_format.specs.Damages.{slot_checks, slot_md_checks, slot_key_checks
 use Rattle.im_format.specs.Reading.{Slot, slot_at, slot_of, slots_at, slots_end, entry_in, value_at, number2, number4, number8}
 use Rattle.im_format.specs.Spans.{Reads, octets_at}
 use Rattle.im_format.specs.declared.references.ValueRef.{ValueRef}
-use Rattle.im_standing.proofs.EntryLemmas.{HasEntry, HasReference, hval_place}
-use Rattle.im_standing.proofs.FieldLemmas.{number2-held, number4-held, number8-held, octet-held, length-field2, length-field4, length-field8}
-use Rattle.im_standing.proofs.HeldEntries.{HoldsEntry, HoldsEntries, entry_end, entries_end}
-use Rattle.im_standing.proofs.KeyLemmas.{IsFresh, AreApart, fresh-index, bytes-same}
-use Rattle.im_standing.proofs.MetadataLemmas.{attributes-short, attributes-pass}
-use Rattle.im_standing.proofs.PassLemmas.{AllPass, pass-both}
+use Rattle.im_format.proofs.EntryLemmas.{HasEntry, HasReference, hval_place, ref_read}
+use Rattle.im_format.proofs.FieldLemmas.{number2-held, number4-held, number8-held, octet-held}
+use Rattle.im_format.proofs.HeldEntries.{HoldsEntry, HoldsEntries, entry_end, entries_end}
+use Rattle.im_format.proofs.KeyLemmas.{IsFresh, AreApart, fresh-index}
+use Rattle.im_format.proofs.MetadataLemmas.{attributes-short, attributes-pass}
+use Rattle.im_format.proofs.PassLemmas.{pass-both}
+use Rattle.im_octet.proofs.FieldLemmas.{length-field2, length-field4, length-field8}
+use Rattle.im_octet.proofs.Common.{bytes-same}
+use Rattle.im_mtree.proofs.CheckLemmas.{AllHold}
 
 -- what is to be read of an entry at a place
 abbrev pub slot_like : ℕ → Entry → ValueRef → Slot
@@ -29,10 +32,6 @@ slot_like at entry ref = record {
   ref = ref;
   end = entry_end at entry;
 }
-
--- its reference
-abbrev ref_read : List ℕ → ℕ → ValueRef
-ref_read log hval_at = (slot_of log 0 0 0 hval_at).ref
 
 abbrev ref_of : List ℕ → ℕ → ℕ → ℕ → ValueRef
 ref_of digest size number spot = record { hval = digest; len = size; log = number; at = spot }
@@ -71,7 +70,7 @@ pub value-read : (image : Files) (value : List ℕ) (ref : ValueRef) → ref.len
 value-read image value ref e h = ap (λ n. octets_at (image (2 + ref.log)) ref.at n) e ∙ h.reads
 
 -- the checks of an entry's metadata pass
-md-passes : (log : List ℕ) (at : ℕ) (entry : Entry) (ref : ValueRef) → IsEntry entry → HasEntry log at entry ref → AllPass (slot_md_checks log (slot_like at entry ref))
+md-passes : (log : List ℕ) (at : ℕ) (entry : Entry) (ref : ValueRef) → IsEntry entry → HasEntry log at entry ref → AllHold (slot_md_checks log (slot_like at entry ref))
 md-passes log at entry ref is h =
     let two : at + length (field2 (length entry.md)) ≤ length log = h.md_len.within in
     let octets : at + 2 + length entry.md ≤ length log = h.md.within in
@@ -86,7 +85,7 @@ md-passes log at entry ref is h =
       ),
     )
 
-key-passes : (log : List ℕ) (keys : List (List ℕ)) (at : ℕ) (entry : Entry) (ref : ValueRef) → IsEntry entry → IsFresh entry.key keys → HasEntry log at entry ref → AllPass (slot_key_checks log keys (slot_like at entry ref))
+key-passes : (log : List ℕ) (keys : List (List ℕ)) (at : ℕ) (entry : Entry) (ref : ValueRef) → IsEntry entry → IsFresh entry.key keys → HasEntry log at entry ref → AllHold (slot_key_checks log keys (slot_like at entry ref))
 key-passes log keys at entry ref is fresh h =
     let two : at + 2 + length entry.md + length (field2 (length entry.key)) ≤ length log = h.key_len.within in
     let size = length-field2 (length entry.key) in
@@ -104,7 +103,7 @@ key-passes log keys at entry ref is fresh h =
       ),
     )
 
-ref-passes : (hash : Hash) (image : Files) (id at : ℕ) (entry : Entry) (ref : ValueRef) → HoldsEntry hash image id at entry ref → AllPass (slot_ref_checks image id (slot_like at entry ref))
+ref-passes : (hash : Hash) (image : Files) (id at : ℕ) (entry : Entry) (ref : ValueRef) → HoldsEntry hash image id at entry ref → AllHold (slot_ref_checks image id (slot_like at entry ref))
 ref-passes hash image id at entry ref h =
     let long : length ref.hval ≡ 32 = h.size in
     let p : ℕ = hval_place at (length entry.md) (length entry.key) in
@@ -141,7 +140,7 @@ ref-passes hash image id at entry ref h =
     )
 
 -- an entry that stands passes its checks
-pub slot-passes : (hash : Hash) (image : Files) (id at : ℕ) (keys : List (List ℕ)) (entry : Entry) (ref : ValueRef) → IsFresh entry.key keys → HoldsEntry hash image id at entry ref → AllPass (slot_checks image id keys (slot_like at entry ref))
+pub slot-passes : (hash : Hash) (image : Files) (id at : ℕ) (keys : List (List ℕ)) (entry : Entry) (ref : ValueRef) → IsFresh entry.key keys → HoldsEntry hash image id at entry ref → AllHold (slot_checks image id keys (slot_like at entry ref))
 slot-passes hash image id at keys entry ref fresh h =
     let slot : Slot = slot_like at entry ref in
     pass-both (slot_md_checks (image 0) slot) (slot_key_checks (image 0) keys slot ++ slot_ref_checks image id slot)
@@ -163,7 +162,7 @@ entry_of entry value = record { md = entry.md; key = entry.key; value = value }
 pub record EntriesRead (hash : Hash) (image : Files) (id : ℕ) (keys : List (List ℕ)) (at : ℕ) (entries : List Entry) (refs : List ValueRef) : Type 0 where
   pub are : map (entry_in image) (slots_at (image 0) at (length entries)) ≡ entries
   pub ends : slots_end (image 0) at (length entries) ≡ entries_end at entries
-  pub pass : AllPass (slots_checks hash image id keys at (length entries))
+  pub pass : AllHold (slots_checks hash image id keys at (length entries))
 
 -- an entry that stands is the slot that is read
 pub held-slot : (hash : Hash) (image : Files) (id at : ℕ) (entry : Entry) (ref : ValueRef) → id ≤ 1048576 → HoldsEntry hash image id at entry ref → slot_at (image 0) at ≡ slot_like at entry ref
@@ -189,7 +188,7 @@ entries-read hash image id keys at (entry ∷ entries) (ref ∷ refs) few apart 
           ∙ ap (λ v. entry_of entry v ∷ map (entry_in image) (slots_at (image 0) (entry_end at entry) n)) (value-read image entry.value ref h.0.refers.len h.0.reads)
           ∙ ap (λ es. entry ∷ es) more.are;
       ends = ap (λ (s : Slot). slots_end (image 0) s.end n) is ∙ more.ends;
-      pass = subst (λ (s : Slot). AllPass (slot_checks image id keys s ++ (value_check hash image s ∷ slots_checks hash image id (keys ++ s.key ∷ []) s.end n))) (sym is)
+      pass = subst (λ (s : Slot). AllHold (slot_checks image id keys s ++ (value_check hash image s ∷ slots_checks hash image id (keys ++ s.key ∷ []) s.end n))) (sym is)
           (pass-both (slot_checks image id keys slot) (value_check hash image slot ∷ slots_checks hash image id (keys ++ entry.key ∷ []) (entry_end at entry) n)
           (slot-passes hash image id at keys entry ref apart.0 h.0)
           (value-passes hash image id at entry ref h.0, more.pass));

@@ -9,13 +9,15 @@ use Rattle.im_format.specs.Damages.{index_of, slot_checks, slot_key_checks, slot
 use Rattle.im_format.specs.Reading.{Slot, entry_in, number2, slot_at, slot_of, slots_at, slots_end, value_at}
 use Rattle.im_format.specs.Spans.{octets_at}
 use Rattle.im_format.specs.declared.references.ValueRef.{ValueRef}
-use Rattle.im_standing.proofs.EntryLemmas.{HasReference, hval_place}
-use Rattle.im_standing.proofs.FieldsBack.{IsSmall, field2-back, field4-back, field8-back, octet-back}
-use Rattle.im_standing.proofs.HeldEntries.{HoldsEntries, HoldsEntry, entries_end, entry_end}
-use Rattle.im_standing.proofs.HoldLemmas.{holds-at, holds-here, holds-same, length-octets}
-use Rattle.im_standing.proofs.KeyLemmas.{AreApart, IsFresh, index-fresh, same-bytes}
-use Rattle.im_standing.proofs.MetadataLemmas.{AreAttributes, pass-attributes}
-use Rattle.im_standing.proofs.PassLemmas.{AllPass, pass-left, pass-right}
+use Rattle.im_format.proofs.EntryLemmas.{HasReference, hval_place, ref_read}
+use Rattle.im_format.proofs.FieldsBack.{IsSmall, field2-back, field4-back, field8-back, octet-back}
+use Rattle.im_format.proofs.HeldEntries.{HoldsEntries, HoldsEntry, entries_end, entry_end}
+use Rattle.im_format.proofs.HoldLemmas.{holds-at, holds-here, holds-same}
+use Rattle.im_format.proofs.KeyLemmas.{AreApart, IsFresh, index-fresh, same-bytes}
+use Rattle.im_format.proofs.MetadataLemmas.{AreAttributes, pass-attributes}
+use Rattle.im_format.proofs.PassLemmas.{pass-left, pass-right}
+use Rattle.im_format.proofs.LengthLemmas.{length-octets}
+use Rattle.im_mtree.proofs.CheckLemmas.{AllHold}
 
 -- the checks of an entry's metadata and key
 record HeadPasses (log : List ℕ) (keys : List (List ℕ)) (slot : Slot) : Type 0 where
@@ -28,7 +30,7 @@ record HeadPasses (log : List ℕ) (keys : List (List ℕ)) (slot : Slot) : Type
   pub key_short : slot.key_len ≤ 1024
   pub fresh : IsFresh slot.key keys
 
-head-passes : (log : List ℕ) (keys : List (List ℕ)) (slot : Slot) → AllPass (slot_md_checks log slot) → AllPass (slot_key_checks log keys slot) → HeadPasses log keys slot
+head-passes : (log : List ℕ) (keys : List (List ℕ)) (slot : Slot) → AllHold (slot_md_checks log slot) → AllHold (slot_key_checks log keys slot) → HeadPasses log keys slot
 head-passes log keys slot m k =
     let len_at : ℕ = slot.start + 2 + slot.md_len in
     record {
@@ -53,7 +55,7 @@ record RefPasses (image : Files) (id p : ℕ) (ref : ValueRef) : Type 0 where
   pub room : ref.at ≤ id * 2 ^ 22 - ref.len
   pub lies : ref.at + ref.len ≤ length (image (2 + ref.log))
 
-ref-passes : (image : Files) (id : ℕ) (slot : Slot) → AllPass (slot_ref_checks image id slot) → RefPasses image id (slot.start + 4 + slot.md_len + slot.key_len) slot.ref
+ref-passes : (image : Files) (id : ℕ) (slot : Slot) → AllHold (slot_ref_checks image id slot) → RefPasses image id (slot.start + 4 + slot.md_len + slot.key_len) slot.ref
 ref-passes image id slot r =
     let p : ℕ = slot.start + 4 + slot.md_len + slot.key_len in
     let ref : ValueRef = slot.ref in
@@ -75,10 +77,6 @@ pub record SlotBack (hash : Hash) (image : Files) (id : ℕ) (keys : List (List 
   pub fresh : IsFresh slot.key keys
   pub ends : entry_end at (entry_in image slot) ≡ slot.end
 
--- the reference that is read at a place
-abbrev ref_read : List ℕ → ℕ → ValueRef
-ref_read log p = (slot_of log 0 0 0 p).ref
-
 reference-back : (image : Files) (id p : ℕ) → IsSmall (image 0) → RefPasses image id p (ref_read (image 0) p) → HasReference (image 0) p (ref_read (image 0) p)
 reference-back image id p small h = record {
   hval = holds-here (image 0) p 32 h.hval_within;
@@ -88,15 +86,15 @@ reference-back image id p small h = record {
 }
 
 fields-back : (hash : Hash) (image : Files) (id : ℕ) (keys : List (List ℕ)) (at m k : ℕ) → IsSmall (image 0) → 1 ≤ id → m ≡ number2 (image 0) at → k ≡ number2 (image 0) (at + 2 + m)
-    → AllPass (slot_checks image id keys (slot_of (image 0) at m k (at + 4 + m + k))) → (value_check hash image (slot_of (image 0) at m k (at + 4 + m + k))).0 ≡ true
+    → AllHold (slot_checks image id keys (slot_of (image 0) at m k (at + 4 + m + k))) → (value_check hash image (slot_of (image 0) at m k (at + 4 + m + k))).0 ≡ true
     → SlotBack hash image id keys at (slot_of (image 0) at m k (at + 4 + m + k))
 fields-back hash image id keys at m k small some is_m is_k pass value =
     let log : List ℕ = image 0 in
     let p : ℕ = at + 4 + m + k in
     let slot : Slot = slot_of log at m k p in
     let ref : ValueRef = ref_read log p in
-    let rest : AllPass (slot_key_checks log keys slot ++ slot_ref_checks image id slot) = pass-right (slot_md_checks log slot) (slot_key_checks log keys slot ++ slot_ref_checks image id slot) pass in
-    let md_pass : AllPass (slot_md_checks log slot) = pass-left (slot_md_checks log slot) (slot_key_checks log keys slot ++ slot_ref_checks image id slot) pass in
+    let rest : AllHold (slot_key_checks log keys slot ++ slot_ref_checks image id slot) = pass-right (slot_md_checks log slot) (slot_key_checks log keys slot ++ slot_ref_checks image id slot) pass in
+    let md_pass : AllHold (slot_md_checks log slot) = pass-left (slot_md_checks log slot) (slot_key_checks log keys slot ++ slot_ref_checks image id slot) pass in
     let head : HeadPasses log keys slot = head-passes log keys slot md_pass (pass-left (slot_key_checks log keys slot) (slot_ref_checks image id slot) rest) in
     let refers : RefPasses image id p ref = ref-passes image id slot (pass-right (slot_key_checks log keys slot) (slot_ref_checks image id slot) rest) in
     let md : List ℕ = octets_at log (at + 2) m in
@@ -147,7 +145,7 @@ fields-back hash image id keys at m k small some is_m is_k pass value =
       ends = omega arith;
     }
 
-slot-back : (hash : Hash) (image : Files) (id : ℕ) (keys : List (List ℕ)) (at : ℕ) → IsSmall (image 0) → 1 ≤ id → AllPass (slot_checks image id keys (slot_at (image 0) at)) → (value_check hash image (slot_at (image 0) at)).0 ≡ true → SlotBack hash image id keys at (slot_at (image 0) at)
+slot-back : (hash : Hash) (image : Files) (id : ℕ) (keys : List (List ℕ)) (at : ℕ) → IsSmall (image 0) → 1 ≤ id → AllHold (slot_checks image id keys (slot_at (image 0) at)) → (value_check hash image (slot_at (image 0) at)).0 ≡ true → SlotBack hash image id keys at (slot_at (image 0) at)
 unfolding slot_at
 slot-back hash image id keys at small some pass value =
     fields-back hash image id keys at (number2 (image 0) at) (number2 (image 0) (at + 2 + number2 (image 0) at)) small some refl refl pass value
@@ -162,7 +160,7 @@ pub record SlotsBack (hash : Hash) (image : Files) (id : ℕ) (keys : List (List
   pub apart : AreApart keys entries
   pub ends : slots_end (image 0) at count ≡ entries_end at entries
 
-pub slots-back : (hash : Hash) (image : Files) (id : ℕ) (keys : List (List ℕ)) (at count : ℕ) → IsSmall (image 0) → 1 ≤ id → AllPass (slots_checks hash image id keys at count) → SlotsBack hash image id keys at count
+pub slots-back : (hash : Hash) (image : Files) (id : ℕ) (keys : List (List ℕ)) (at count : ℕ) → IsSmall (image 0) → 1 ≤ id → AllHold (slots_checks hash image id keys at count) → SlotsBack hash image id keys at count
 slots-back hash image id keys at zero small some pass = record { entries = []; refs = []; are = refl; many = refl; held = tt; apart = tt; ends = refl }
 slots-back hash image id keys at (suc count) small some pass =
     let slot : Slot = slot_at (image 0) at in

@@ -15,12 +15,13 @@ use Rattle.im_format.specs.Spans.{Reads}
 use Rattle.im_format.specs.Standing.{LiesIn}
 use Rattle.im_format.specs.declared.records.Record.{Record}
 use Rattle.im_format.specs.declared.references.ValueRef.{ValueRef}
-use Rattle.im_standing.proofs.EntryLemmas.{entry-joined, length-entry}
-use Rattle.im_standing.proofs.FieldLemmas.{length-field4, length-field8, length-signed}
-use Rattle.im_standing.proofs.HeldEntries.{HoldsEntries, entries_end, entry_end}
-use Rattle.im_standing.proofs.HeldRecords.{HoldsRecord, HoldsRecords, entries-end, grown, grown_by, length-grown}
-use Rattle.im_standing.proofs.HoldLemmas.{Holds, holds-at, holds-both}
-use Rattle.im_standing.proofs.StandSplits.{next-alh}
+use Rattle.im_format.proofs.EntryLemmas.{entry-joined}
+use Rattle.im_format.proofs.HeldEntries.{HoldsEntries, entries_end, entry_end}
+use Rattle.im_format.proofs.HeldRecords.{HoldsRecord, HoldsRecords, entries-end, grown, grown_by, length-grown}
+use Rattle.im_format.proofs.HoldLemmas.{Holds, holds-at, holds-both}
+use Rattle.im_format.proofs.StandSplits.{next-alh}
+use Rattle.im_format.proofs.LengthLemmas.{length-entry}
+use Rattle.im_octet.proofs.FieldLemmas.{length-field4, length-field8, length-signed}
 
 -- what stands of entries
 pub record EntriesStand (hash : Hash) (image : Files) (id at : ℕ) (entries : List Entry) (refs : List ValueRef) : Type 0 where

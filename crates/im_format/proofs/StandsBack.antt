@@ -15,13 +15,13 @@ use Rattle.im_format.specs.Spans.{Reads, octet_span}
 use Rattle.im_format.specs.Standing.{Stands}
 use Rattle.im_format.specs.declared.records.Record.{Record}
 use Rattle.im_format.specs.declared.spans.Span.{Span}
-use Rattle.im_standing.proofs.BatchesBack.{BatchesBack, batches-back}
-use Rattle.im_standing.proofs.FieldsBack.{IsSmall, octet-back}
-use Rattle.im_standing.proofs.HeldBatches.{HoldsBatches}
-use Rattle.im_standing.proofs.HeldRecords.{HoldsRecords, grown_by, length-grown_by, place-grown_by}
-use Rattle.im_standing.proofs.HoldLemmas.{Holds, holds-same}
-use Rattle.im_standing.proofs.PassLemmas.{all-pass}
-use Rattle.im_standing.proofs.StandJoins.{records-append, records-are, records-few, records-follow, records-joined, values-joined, values-lie}
+use Rattle.im_format.proofs.BatchesBack.{BatchesBack, batches-back}
+use Rattle.im_format.proofs.FieldsBack.{IsSmall, octet-back}
+use Rattle.im_format.proofs.HeldBatches.{HoldsBatches}
+use Rattle.im_format.proofs.HeldRecords.{HoldsRecords, grown_by, length-grown_by, place-grown_by}
+use Rattle.im_format.proofs.HoldLemmas.{Holds, holds-same}
+use Rattle.im_format.proofs.StandJoins.{records-append, records-are, records-few, records-follow, records-joined, values-joined, values-lie}
+use Rattle.im_mtree.proofs.CheckLemmas.{all-hold}
 
 -- an open gate is read
 gate-read : (image : Files) (gate : ℕ) → Counts (image 1) gate → Reads image (octet_span 1 gate 1)
@@ -111,7 +111,7 @@ holds-stands hash image batches h =
 pub undamaged-stands : (hash : Hash) (image : Files) → IsSmall (image 0) → IsSmall (image 1) → first_fail (image_checks hash image) ≡ Ok tt → Stands hash image (history_in image)
 undamaged-stands hash image small0 small1 e =
     let back : BatchesBack hash image (length (image 1)) 0 at_first =
-    batches-back hash image (length (image 1)) 0 at_first small0 small1 (omega arith) (all-pass (image_checks hash image) e) in
+    batches-back hash image (length (image 1)) 0 at_first small0 small1 (omega arith) (all-hold (image_checks hash image) e) in
     subst (λ txs. Stands hash image txs) back.txs_are (holds-stands hash image back.all back.held)
 
 pub read-stands : (hash : Hash) (image : Files) (history : List Transaction) → IsSmall (image 0) → IsSmall (image 1) → first_fail (image_checks hash image) ≡ Ok tt → history_in image ≡ history → Stands hash image history

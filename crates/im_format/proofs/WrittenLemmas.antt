@@ -2,7 +2,6 @@
 use Rattle.std.proofs.Common.{◌≡◌, ◌<◌, ◌≤◌, ◌+◌, ◌*◌, ◌^◌, suc, zero, ℕ, List, [], ◌∷◌, ◌++◌, length, length-append, map, refl, ap, subst, sym, ◌∙◌, arith, All}
 use Rattle.std.proofs.lemmas.List.{append-nil, take_all, take_at}
 use Rattle.std.proofs.lemmas.List.Elements.{All-append, All-cons}
-use Rattle.im_octet.specs.Fields.{field8}
 use Rattle.im_digest.specs.Digests.{Hash}
 use Rattle.im_disk.specs.Disk.{Files}
 use Rattle.im_model.specs.Headers.{alh}
@@ -17,10 +16,10 @@ use Rattle.im_format.specs.Standing.{LiesIn, Stands}
 use Rattle.im_format.specs.declared.records.Record.{Record}
 use Rattle.im_format.specs.declared.references.ValueRef.{ValueRef}
 use Rattle.im_format.specs.declared.spans.Span.{Span}
-use Rattle.im_standing.proofs.EmptyLemmas.{empty-stands}
-use Rattle.im_standing.proofs.FieldLemmas.{length-field8}
-use Rattle.im_standing.proofs.HoldLemmas.{Holds, holds-left, holds-right}
-use Rattle.im_standing.proofs.StandSplits.{next-alh}
+use Rattle.im_format.proofs.EmptyLemmas.{empty-stands}
+use Rattle.im_format.proofs.HoldLemmas.{Holds, holds-left, holds-right}
+use Rattle.im_format.proofs.StandSplits.{next-alh}
+use Rattle.im_format.proofs.LengthLemmas.{length-fields}
 
 -- the values of entries, one behind the other, and references to them from a place on
 abbrev values_of : List Entry → List ℕ
@@ -114,13 +113,6 @@ records-written hash image history alhs bl place (tx ∷ txs) follow e room h =
       lie = All-append (LiesIn image) refs (refs_of recs) one.lie more.lie;
       read = All-append (Reads image) (entries_spans tx.entries refs) (values_spans recs) one.read more.read;
     }
-
-length-fields : (first count end : ℕ) → length (batch_fields first count end) ≡ 24
-unfolding batch_fields
-length-fields first count end =
-    let a : List ℕ = field8 first in
-    let b : List ℕ = field8 count in
-    omega (arith, length-field8 first, length-field8 count, length-field8 end, length-append a b, length-append (a ++ b) (field8 end))
 
 -- a commit log of one batch
 abbrev one_batch : List ℕ → List ℕ

@@ -1,7 +1,6 @@
 -- Batches in the commit log, file 1: each has its gate, its fields, and behind them the next gate.
-use Rattle.std.specs.Prelude.{◌≡◌, ◌≢◌, ◌⊎◌, ◌<◌, ◌≤◌, ◌+◌, ◌*◌, ℕ, List, [], ◌∷◌, ◌++◌, length, slice_index_or}
+use Rattle.std.specs.Prelude.{◌≡◌, ◌<◌, ◌+◌, ◌*◌, ℕ, List, [], ◌∷◌, ◌++◌, length, slice_index_or}
 use Rattle.im_octet.specs.Fields.{field8}
-use Rattle.im_disk.specs.Disk.{Files}
 use Rattle.im_model.specs.declared.entries.Entry.{Entry}
 use Rattle.im_format.specs.Records.{records_octets}
 use Rattle.im_format.specs.Spans.{octet_span}

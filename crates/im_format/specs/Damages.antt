@@ -5,7 +5,7 @@ use Rattle.im_disk.specs.Disk.{Files}
 use Rattle.im_model.specs.Headers.{alh}
 use Rattle.im_model.specs.History.{next_header}
 use Rattle.im_mtree.specs.Checks.{Check}
-use Rattle.im_format.specs.Reading.{Slot, alh_place, bl_at, count_at, counts, end_at, first_at, number_at, record_end, records_end, slot_at, slots_end, transaction_in, value_at}
+use Rattle.im_format.specs.Reading.{Slot, alh_place, bl_at, count_at, counts, number_at, record_end, slot_at, transaction_in, value_at}
 use Rattle.im_format.specs.Reading.{number8}
 use Rattle.im_format.specs.Spans.{octets_at}
 use Rattle.im_format.specs.declared.damages.Damage.{Damage}

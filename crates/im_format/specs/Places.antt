@@ -1,5 +1,5 @@
 -- Where the values of transactions are put.
-use Rattle.std.specs.Prelude.{◌≡◌, ◌+◌, ◌%◌, ◌==◌, ℕ, max, List, [], ◌∷◌, ◌++◌, length, if◌then◌else◌}
+use Rattle.std.specs.Prelude.{◌≡◌, ◌+◌, ◌%◌, ◌==◌, ℕ, max, List, [], ◌∷◌, ◌++◌, if◌then◌else◌}
 use Rattle.im_model.specs.declared.entries.Entry.{Entry}
 use Rattle.im_format.specs.declared.records.Record.{Record}
 use Rattle.im_format.specs.declared.references.ValueRef.{ValueRef}

@@ -1,5 +1,5 @@
 -- The octets of a transaction in the transaction log, file 0.
-use Rattle.std.specs.Prelude.{◌≡◌, ◌≤◌, ◌<◌, ◌+◌, ◌*◌, ◌^◌, ℕ, List, [], ◌∷◌, ◌++◌, length}
+use Rattle.std.specs.Prelude.{◌≡◌, ◌≤◌, ◌+◌, ◌*◌, ◌^◌, ℕ, List, [], ◌∷◌, ◌++◌, length}
 use Rattle.im_octet.specs.Fields.{field2, field4, field8, signed_field8}
 use Rattle.im_digest.specs.Digests.{Hash}
 use Rattle.im_model.specs.History.{alh_of}

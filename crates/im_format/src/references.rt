@@ -1,3 +1,4 @@
+use crate::files::FIRST_VALUE_LOG;
 use im_digest::D32;
 use std::marker::Model;
 
@@ -12,6 +13,18 @@ pub struct ValueRef {
     pub log: u8,
     /// The place of its first octet in that log.
     pub at: u64,
+}
+
+impl ValueRef {
+    ghost use Rattle.std.specs.Prelude.{◌≡◌, ◌≤◌, ◌+◌};
+
+    /// The number of the file that holds the value.
+    pub fn file(&self) -> u8
+        requires { self.now.log ≤ 3 }
+        ensures { result ≡ 2 + self.now.log }
+    {
+        FIRST_VALUE_LOG + self.log
+    }
 }
 
 /// The references of a transaction's values, in the order of its entries. A clause sees the list of them.

@@ -12,15 +12,13 @@ use Rattle.im_format.specs.declared.spans.Span.{Span}
 use Rattle.im_alog.proofs.Torn.{keeps_all, same_all, same_reads, written_reads}
 use Rattle.im_journal.specs.Phases.{IsClosed, IsSafe, IsClear, AreClear, IsStaging, IsSealed, IsEither, IsGated, IsDone}
 use Rattle.im_journal.proofs.Torn.{keeps_long, keeps_safe, same_long, same_safe}
-
-pub all_front : {X : Type 0} (P : X → Type 0) (xs ys : List X) → All P (xs ++ ys) → All P xs
-all_front P xs ys h = subst (All P) (take_at xs ys (length xs) refl) (All-take P (length xs) (xs ++ ys) h)
+use Rattle.im_format.proofs.AllLemmas.{all-left}
 
 clear_front : (spans done : List Span) (gate : ℕ) (p : Span) → IsClear (spans ++ done) gate p → IsClear spans gate p
-clear_front spans done gate p c = record { misses = all_front (Misses p.file p.at (length p.octets)) spans done c.misses; behind = c.behind }
+clear_front spans done gate p c = record { misses = all-left (Misses p.file p.at (length p.octets)) spans done c.misses; behind = c.behind }
 
 pub safe_front : (ends : ℕ → ℕ) (spans more : List Span) (gate : ℕ) (image : Files) → IsSafe ends (spans ++ more) gate image → IsSafe ends spans gate image
-safe_front ends spans more gate image s = record { reads = all_front (Reads image) spans more s.reads; long = s.long; closed = s.closed }
+safe_front ends spans more gate image s = record { reads = all-left (Reads image) spans more s.reads; long = s.long; closed = s.closed }
 
 module _ (ends : ℕ → ℕ) (spans : List Span) (gate : ℕ) (done : List Span) (p : Span) (left : List Span) (t : Told) (s : IsStaging ends spans gate done (p ∷ left) t) where
   pub torn_safe : (old image : Files) → Images t old → TornFile p.file p.at (length p.octets) old image → IsSafe ends spans gate image
@@ -92,7 +90,7 @@ module _ (ends : ℕ → ℕ) (spans : List Span) (gate : ℕ) (pieces : List Sp
       let found : Reads image (octet_span 1 gate (get_or (image 1) gate 0)) = record { reads = ap (λ (l : List ℕ). take 1 l) (drop_more (image 1) gate 0 (omega (arith, there))) } in
       decide_same (get_or (image 1) gate 0) 1
       (λ open_now. inr (record { reads = reads; long = long; opened = subst (λ (x : ℕ). Reads image (octet_span 1 gate x)) open_now found }))
-      (λ shut. inl (record { reads = all_front (Reads image) spans pieces reads; long = long; closed = record { octet = get_or (image 1) gate 0; shut = shut; reads = found } }))
+      (λ shut. inl (record { reads = all-left (Reads image) spans pieces reads; long = long; closed = record { octet = get_or (image 1) gate 0; shut = shut; reads = found } }))
 
   gate_place : gate ≤ length (seen t 1)
   gate_place = omega (arith, closed_long (seen t) gate s.here.closed)

@@ -16,10 +16,9 @@ use Rattle.im_format.specs.declared.spans.Span.{Span}
 use Rattle.im_alog.proofs.Torn.{all_both}
 use Rattle.im_journal.specs.Phases.{AreClear, IsClear}
 use Rattle.im_journal.specs.Pieces.{end_of, log_pieces, pieces_of, value_piece}
-use Rattle.im_journal.proofs.Calls.{all_front}
-use Rattle.im_journal.proofs.Parts.{all_back}
 use Rattle.im_journal.proofs.Prefixes.{octets_more, refs_more}
-use Rattle.im_journal.proofs.Whole.{length-fields}
+use Rattle.im_format.proofs.LengthLemmas.{length-fields}
+use Rattle.im_format.proofs.AllLemmas.{all-left, all-right}
 
 -- the span lies below the end of its file
 pub record IsBelow (ends : ℕ → ℕ) (s : Span) : Type 0 where
@@ -127,8 +126,8 @@ values_below : (hash : Hash) (history : List Transaction) (bound : ℕ → ℕ) 
 values_below hash history bound id [] are le = All-nil (IsBelow bound)
 values_below hash history bound id (r ∷ rs) are le =
     All-append (IsBelow bound) (entries_spans r.tx.entries r.refs) (values_spans rs)
-    (entries_below hash bound id r.tx.entries r.refs are.0.refs (all_front (EndsIn bound) r.refs (refs_of rs) le))
-    (values_below hash history bound (id + 1) rs are.1 (all_back (EndsIn bound) r.refs (refs_of rs) le))
+    (entries_below hash bound id r.tx.entries r.refs are.0.refs (all-left (EndsIn bound) r.refs (refs_of rs) le))
+    (values_below hash history bound (id + 1) rs are.1 (all-right (EndsIn bound) r.refs (refs_of rs) le))
 
 records_apart : (hash : Hash) (history : List Transaction) (id : ℕ) (a b : List Record) → AreRecords hash history id (a ++ b) → AreRecords hash history id a × AreRecords hash history (id + length a) b
 records_apart hash history id [] b are = (tt, subst (λ (k : ℕ). AreRecords hash history k b) (omega arith) are)
@@ -152,5 +151,5 @@ spans_below hash history bound gate id end (b ∷ bs) are gates log values =
     (All-cons B (octet_span 1 gate 1) (b1 ∷ s0 ∷ values_spans b) (record { below = omega (arith, gates) })
     (All-cons B b1 (s0 ∷ values_spans b) (record { below = omega (arith, gates, length-fields id (length b) end2) })
     (All-cons B s0 (values_spans b) (record { below = omega (arith, sum) })
-    (values_below hash history bound id b apart.0 (all_front (EndsIn bound) (refs_of b) (refs_of (joined bs)) refs)))))
-    (spans_below hash history bound (gate + 25) (id + length b) end2 bs apart.1 (omega (arith, gates)) sum (all_back (EndsIn bound) (refs_of b) (refs_of (joined bs)) refs))
+    (values_below hash history bound id b apart.0 (all-left (EndsIn bound) (refs_of b) (refs_of (joined bs)) refs)))))
+    (spans_below hash history bound (gate + 25) (id + length b) end2 bs apart.1 (omega (arith, gates)) sum (all-right (EndsIn bound) (refs_of b) (refs_of (joined bs)) refs))

@@ -21,6 +21,7 @@ use Rattle.im_journal.specs.Holding.{AreFirst, AreNext, ends_of}
 use Rattle.im_record.specs.Writing.{IsWhole}
 use Rattle.im_journal.specs.Pieces.{end_of}
 use Rattle.im_journal.proofs.Placing.{ends_in, records_in}
+use Rattle.im_format.proofs.LengthLemmas.{length-attributes, length-entry, length-record}
 
 -- the entries of a transaction within the limits
 pub record IsSmall (tx : Transaction) : Type 0 where
@@ -60,27 +61,6 @@ all_whole hash history id (r ∷ rs) are small =
     All-cons IsWhole r rs (record { refs = same_number hash id r.tx.entries r.refs are.0.refs; few = omega (arith, head.few) })
     (all_whole hash history (id + 1) rs are.1 (All-tail (λ r. IsSmall r.tx) r rs small))
 
-two : (n : ℕ) → length (field2 n) ≡ 2
-unfolding field2
-two n = refl
-
-length-attributes : (deleted non_indexable : Bool) → length (attributes deleted non_indexable) ≤ 2
-length-attributes true true = omega arith
-length-attributes true false = omega arith
-length-attributes false true = omega arith
-length-attributes false false = omega arith
-
-length-reference : (ref : ValueRef) → length (reference_octets ref) ≡ length ref.hval + 13
-unfolding reference_octets field4 field8
-length-reference ref = omega (arith, length-append (ref.hval ++ field4 ref.len ++ (ref.log ∷ [])) (field8 ref.at), length-append (ref.hval ++ field4 ref.len) (ref.log ∷ []), length-append ref.hval (field4 ref.len))
-
-length-entry : (entry : Entry) (ref : ValueRef) → length (entry_octets entry ref) ≡ length entry.md + length entry.key + length ref.hval + 17
-unfolding entry_octets
-length-entry entry ref =
-    let md = field2 (length entry.md) in
-    let key = field2 (length entry.key) in
-    omega (arith, length-append (md ++ entry.md ++ key ++ entry.key) (reference_octets ref), length-append (md ++ entry.md ++ key) entry.key, length-append (md ++ entry.md) key, length-append md entry.md, two (length entry.md), two (length entry.key), length-reference ref)
-
 entries_short : (hash : Hash) (id : ℕ) (entries : List Entry) (refs : List ValueRef) → ((octets : List ℕ) → length (hash octets) ≡ 32) → AreReferences hash id entries refs → All IsEntry entries
     → length (entries_octets entries refs) ≤ 1100 * length entries
 entries_short hash id [] [] digests are all = omega arith
@@ -90,15 +70,7 @@ entries_short hash id (entry ∷ entries) (ref ∷ refs) digests are all =
     let head = All-head IsEntry entry entries all in
     let md : length entry.md ≤ 2 = omega (arith, ap length head.md, length-attributes head.deleted head.non_indexable) in
     let hval : length ref.hval ≡ 32 = ap length are.0.hval ∙ digests entry.value in
-    omega (arith, length-entry entry ref, md, head.key_short, hval, length-append (entry_octets entry ref) (entries_octets entries refs), entries_short hash id entries refs digests are.1 (All-tail IsEntry entry entries all))
-
-length-head : (id : ℕ) (tx : Transaction) → length (head_octets id tx) ≡ 28
-unfolding head_octets field8 field4 signed_field8
-length-head id tx = refl
-
-length-record : (id : ℕ) (r : Record) → length (record_octets id r) ≡ 28 + length (entries_octets r.tx.entries r.refs) + length r.alh
-unfolding record_octets
-length-record id r = omega (arith, length-append (head_octets id r.tx ++ entries_octets r.tx.entries r.refs) r.alh, length-append (head_octets id r.tx) (entries_octets r.tx.entries r.refs), length-head id r.tx)
+    omega (arith, length-entry entry ref hval, md, head.key_short, hval, length-append (entry_octets entry ref) (entries_octets entries refs), entries_short hash id entries refs digests are.1 (All-tail IsEntry entry entries all))
 
 all_short : (hash : Hash) (alhs : List (List ℕ)) (txs : List Transaction) → ((octets : List ℕ) → length (hash octets) ≡ 32) → All (λ (x : List ℕ). length x ≤ 32) alhs
     → All (λ (x : List ℕ). length x ≤ 32) (alhs_from hash alhs txs)

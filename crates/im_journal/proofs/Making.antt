@@ -17,23 +17,7 @@ use Rattle.im_journal.specs.declared.batches.Step.{Step}
 use Rattle.im_journal.specs.declared.batches.Step.TheVariants.{Idle, Staging, Staged, Sealed, Gated}
 use Rattle.im_journal.specs.declared.errors.JournalError.{JournalError}
 use Rattle.im_journal.specs.declared.errors.JournalError.TheVariants.{DiskFault, Memory}
-
--- some calls, and then others
-after_both : (a b : List Call) (t : Told) → after_all (a ++ b) t ≡ after_all b (after_all a t)
-after_both [] b t = refl
-after_both (call ∷ a) b t = after_both a b (after call t)
-
-told_both : (a b : List Call) (o : Option Told) → option_map (after_all (a ++ b)) o ≡ option_map (after_all b) (option_map (after_all a) o)
-told_both a b None = refl
-told_both a b (Some t) = ap (λ (x : Told). Some x) (after_both a b t)
-
-told_none : (o : Option Told) → o ≡ option_map (after_all []) o
-told_none None = refl
-told_none (Some t) = refl
-
-told_one : (call : Call) (o : Option Told) → option_map (after call) o ≡ option_map (after_all (call ∷ [])) o
-told_one call None = refl
-told_one call (Some t) = refl
+use Rattle.im_disk.proofs.Growing.{told_both, told_none, told_one}
 
 -- nothing is made yet
 pub none_made : (calls : List Call) (o : Option Told) → MadeUpTo calls calls o o
@@ -44,7 +28,7 @@ pub next_made : (calls : List Call) (call : Call) (left : List Call) (a b n : Op
 next_made calls call left a b n m is = record {
   made = m.made ++ call ∷ [];
   split = m.split ∙ sym (append_assoc m.made (call ∷ []) left);
-  told = is ∙ ap (λ (o : Option Told). option_map (after_all (call ∷ [])) o) m.told ∙ sym (told_both m.made (call ∷ []) a);
+  told = is ∙ ap (λ (o : Option Told). option_map (after_all (call ∷ [])) o) m.told ∙ told_both m.made (call ∷ []) a;
 }
 
 -- all are made
@@ -56,7 +40,7 @@ made_both : (calls first rest left : List Call) (o m n : Option Told) → MadeUp
 made_both calls first rest left o m n h g = record {
   made = h.made ++ g.made;
   split = h.split ∙ ap (λ (l : List Call). h.made ++ l) (ap (λ (l : List Call). l ++ left) g.split ∙ append_assoc g.made rest left) ∙ sym (append_assoc h.made g.made (rest ++ left));
-  told = g.told ∙ ap (λ (x : Option Told). option_map (after_all g.made) x) h.told ∙ sym (told_both h.made g.made o);
+  told = g.told ∙ ap (λ (x : Option Told). option_map (after_all g.made) x) h.told ∙ told_both h.made g.made o;
 }
 
 -- others before them
@@ -64,7 +48,7 @@ longer : (first calls left : List Call) (o m n : Option Told) → m ≡ option_m
 longer first calls left o m n is h = record {
   made = first ++ h.made;
   split = ap (λ (l : List Call). first ++ l) h.split ∙ sym (append_assoc first h.made left);
-  told = h.told ∙ ap (λ (x : Option Told). option_map (after_all h.made) x) is ∙ sym (told_both first h.made o);
+  told = h.told ∙ ap (λ (x : Option Told). option_map (after_all h.made) x) is ∙ told_both first h.made o;
 }
 
 -- others behind them
@@ -135,7 +119,7 @@ pub makes_then : {T : Type 0} (first calls left : List Call) (o m n : Option Tol
     → Makes DiskFault Memory calls left m n r → Makes DiskFault Memory (first ++ calls) left o n r
 makes_then first calls left o m n r is h = record {
   ok = on_then r (n ≡ option_map (after_all calls) m) (n ≡ option_map (after_all (first ++ calls)) o)
-      (λ p. p ∙ ap (λ (x : Option Told). option_map (after_all calls) x) is ∙ sym (told_both first calls o)) h.ok;
+      (λ p. p ∙ ap (λ (x : Option Told). option_map (after_all calls) x) is ∙ told_both first calls o) h.ok;
   failed = λ e. let f = h.failed e in (f.0, f.1, f.2, longer first calls (f.0 ∷ f.1) o m f.2 is f.3, f.4);
   ran_out = λ e. longer first calls left o m n is (h.ran_out e);
 }

@@ -7,9 +7,6 @@ use Rattle.im_disk.specs.Disk.{Files}
 use Rattle.im_format.specs.Spans.{Reads}
 use Rattle.im_alog.proofs.Torn.{part_reads}
 
-pub all_back : {X : Type 0} (P : X → Type 0) (xs ys : List X) → All P (xs ++ ys) → All P ys
-all_back P xs ys h = subst (All P) (drop_at xs ys (length xs) refl) (All-drop P (length xs) (xs ++ ys) h)
-
 -- the image has these octets at a place of a file
 abbrev pub reads_at : Files → ℕ → ℕ → List ℕ → Type 0
 reads_at image number place octets = Reads image (record { file = number; at = place; octets = octets })

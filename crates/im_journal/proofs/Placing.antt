@@ -15,26 +15,11 @@ use Rattle.im_format.specs.Spans.{Reads}
 use Rattle.im_format.specs.declared.records.Record.{Record}
 use Rattle.im_format.specs.declared.references.ValueRef.{ValueRef}
 use Rattle.im_journal.proofs.Parts.{reads_at, front_reads, back_reads}
-
-own_end : (v : ℕ) (ref : ValueRef) (refs : List ValueRef) → ref.log ≡ v → log_end v (ref ∷ refs) ≡ max (ref.at + ref.len) (log_end v refs)
-own_end v ref refs same = ap (λ t. if t then max (ref.at + ref.len) (log_end v refs) else log_end v refs) (eq-eqb ref.log v same)
-
-other_end : (v : ℕ) (ref : ValueRef) (refs : List ValueRef) → ref.log ≢ v → log_end v (ref ∷ refs) ≡ log_end v refs
-other_end v ref refs other = ap (λ t. if t then max (ref.at + ref.len) (log_end v refs) else log_end v refs) (ne_eqb ref.log v other)
-
--- the end behind more references
-log_end_both : (v : ℕ) (a b : List ValueRef) → log_end v (a ++ b) ≡ max (log_end v a) (log_end v b)
-log_end_both v [] b = omega arith
-log_end_both v (ref ∷ a) b = decide_same ref.log v
-    (λ same. omega (arith, own_end v ref (a ++ b) same, own_end v ref a same, log_end_both v a b))
-    (λ other. omega (arith, other_end v ref (a ++ b) other, other_end v ref a other, log_end_both v a b))
+use Rattle.im_format.proofs.EndLemmas.{log_end_append, log_end_other, other_end, own_end}
 
 -- behind a value at its log's end
 own_pushed : (before : List ValueRef) (ref : ValueRef) → ref.at ≡ log_end ref.log before → log_end ref.log (before ++ ref ∷ []) ≡ log_end ref.log before + ref.len
-own_pushed before ref is = omega (arith, log_end_both ref.log before (ref ∷ []), own_end ref.log ref [] refl, is)
-
-other_pushed : (v : ℕ) (before : List ValueRef) (ref : ValueRef) → ref.log ≢ v → log_end v (before ++ ref ∷ []) ≡ log_end v before
-other_pushed v before ref other = omega (arith, log_end_both v before (ref ∷ []), other_end v ref [] other)
+own_pushed before ref is = omega (arith, log_end_append ref.log before (ref ∷ []), own_end ref.log ref [] refl, is)
 
 own_value : (v : ℕ) (entry : Entry) (entries : List Entry) (ref : ValueRef) (refs : List ValueRef) → ref.log ≡ v
     → values_in v (entry ∷ entries) (ref ∷ refs) ≡ entry.value ++ values_in v entries refs
@@ -57,7 +42,7 @@ entries_end hash w id k i v before (entry ∷ entries) (ref ∷ refs) put are =
     (λ same.
     let here : log_end v (before ++ ref ∷ []) ≡ log_end v before + ref.len = subst (λ (x : ℕ). log_end x (before ++ ref ∷ []) ≡ log_end x before + ref.len) same (own_pushed before ref put.1) in
     omega (arith, rest, grouped, here, are.0.len, ap length (own_value v entry entries ref refs same), length-append entry.value (values_in v entries refs)))
-    (λ other. omega (arith, rest, grouped, other_pushed v before ref other, ap length (other_value v entry entries ref refs other)))
+    (λ other. omega (arith, rest, grouped, log_end_other v before ref other, ap length (other_value v entry entries ref refs other)))
 
 -- and behind those of some transactions
 pub records_end : (hash : Hash) (history : List Transaction) (w id v : ℕ) (before : List ValueRef) (rs : List Record) → ArePut w id before rs → AreRecords hash history id rs
@@ -81,7 +66,7 @@ rest_reads image before entry entries ref refs v tail is len reads =
     let here : log_end v before + length entry.value ≡ log_end v (before ++ ref ∷ []) = omega (arith, len, subst (λ (x : ℕ). log_end x (before ++ ref ∷ []) ≡ log_end x before + ref.len) same (own_pushed before ref is)) in
     subst (λ (k : ℕ). reads_at image (2 + v) k (rest ++ tail)) here (back_reads image (2 + v) (log_end v before) entry.value (rest ++ tail) all))
     (λ other.
-    subst (λ (k : ℕ). reads_at image (2 + v) k (rest ++ tail)) (sym (other_pushed v before ref other))
+    subst (λ (k : ℕ). reads_at image (2 + v) k (rest ++ tail)) (sym (log_end_other v before ref other))
     (subst (λ (l : List ℕ). reads_at image (2 + v) (log_end v before) l) (ap (λ (l : List ℕ). l ++ tail) (other_value v entry entries ref refs other)) reads))
 
 first_reads : (image : Files) (before : List ValueRef) (entry : Entry) (entries : List Entry) (ref : ValueRef) (refs : List ValueRef) (tail : List ℕ)

@@ -23,10 +23,9 @@ use Rattle.im_journal.specs.Pieces.{end_of}
 use Rattle.im_journal.specs.declared.batches.Step.{Step}
 use Rattle.im_journal.specs.declared.batches.Step.TheVariants.{Idle, Staging, Staged, Sealed, Gated}
 use Rattle.im_vlog.specs.Showing.{IsCorrupt, shown}
-use Rattle.im_vlog.specs.declared.showing.ReadError.{ReadError}
-use Rattle.im_vlog.specs.declared.showing.ReadError.TheVariants.{Corrupt}
-use Rattle.im_journal.proofs.Calls.{all_front}
-use Rattle.im_journal.proofs.Parts.{all_back}
+use Rattle.im_vlog.specs.declared.showing.ValueError.{ValueError}
+use Rattle.im_vlog.specs.declared.showing.ValueError.TheVariants.{Corrupt}
+use Rattle.im_format.proofs.AllLemmas.{all-left, all-right}
 
 values_both : (a b : List Record) → values_spans (a ++ b) ≡ values_spans a ++ values_spans b
 values_both [] b = refl
@@ -43,9 +42,9 @@ batches_values image gate id end (batch ∷ batches) reads =
     let rest = spans_from (gate + 25) (id + length batch) end2 batches in
     let s1 : Span = record { file = 1; at = gate + 1; octets = batch_fields id (length batch) end2 } in
     let s0 : Span = record { file = 0; at = end; octets = records_octets id batch } in
-    let values = All-tail R s0 (values_spans batch) (All-tail R s1 (s0 ∷ values_spans batch) (All-tail R (octet_span 1 gate 1) (s1 ∷ s0 ∷ values_spans batch) (all_front R first rest reads))) in
+    let values = All-tail R s0 (values_spans batch) (All-tail R s1 (s0 ∷ values_spans batch) (All-tail R (octet_span 1 gate 1) (s1 ∷ s0 ∷ values_spans batch) (all-left R first rest reads))) in
     subst (All R) (sym (values_both batch (joined batches)))
-    (All-append R (values_spans batch) (values_spans (joined batches)) values (batches_values image (gate + 25) (id + length batch) end2 batches (all_back R first rest reads)))
+    (All-append R (values_spans batch) (values_spans (joined batches)) values (batches_values image (gate + 25) (id + length batch) end2 batches (all-right R first rest reads)))
 
 -- one of these records
 record_at : (hash : Hash) (history : List Transaction) (image : Files) (id : ℕ) (rs : List Record) (n : ℕ) (r : Record) → slice_get rs n ≡ Some r
@@ -58,13 +57,13 @@ record_at hash history image id (x ∷ rs) zero r is are reads =
     let same : x ≡ r = cc in
     subst (λ (y : Record). AreReferences hash (id + 0) y.tx.entries y.refs × All (Reads image) (entries_spans y.tx.entries y.refs)) same (
       subst (λ (k : ℕ). AreReferences hash k x.tx.entries x.refs) (sym_zero id) are.0.refs,
-      all_front (Reads image) (entries_spans x.tx.entries x.refs) (values_spans rs) reads,
+      all-left (Reads image) (entries_spans x.tx.entries x.refs) (values_spans rs) reads,
     )
   where
     sym_zero : (k : ℕ) → k ≡ k + 0
     sym_zero k = omega arith
 record_at hash history image id (x ∷ rs) (suc n) r is are reads =
-    let rest = record_at hash history image (id + 1) rs n r is are.1 (all_back (Reads image) (entries_spans x.tx.entries x.refs) (values_spans rs) reads) in
+    let rest = record_at hash history image (id + 1) rs n r is are.1 (all-right (Reads image) (entries_spans x.tx.entries x.refs) (values_spans rs) reads) in
     (subst (λ (k : ℕ). AreReferences hash k r.tx.entries r.refs) (omega arith) rest.0, rest.1)
 
 -- one of these entries, with its reference
@@ -108,13 +107,13 @@ value_shows hash history image batches value ref are reads has =
 spans_at : (s : Step) (o : Option Told) (ends : ℕ → ℕ) (spans : List Span) (gate : ℕ) (pieces : List Span) (written : ℕ) → IsAt s o ends spans gate pieces written → IfSome o (λ t. All (Reads (seen t)) spans)
 spans_at Idle o ends spans gate pieces written at = absurd at
 spans_at Staging o ends spans gate pieces written at =
-    if_told (IsStaging ends spans gate (take written pieces) (drop written pieces)) (λ t. All (Reads (seen t)) spans) (λ t h. all_front (Reads (seen t)) spans (take written pieces) h.here.reads) o at
+    if_told (IsStaging ends spans gate (take written pieces) (drop written pieces)) (λ t. All (Reads (seen t)) spans) (λ t h. all-left (Reads (seen t)) spans (take written pieces) h.here.reads) o at
 spans_at Staged o ends spans gate pieces written at =
-    if_told (IsStaging ends spans gate pieces []) (λ t. All (Reads (seen t)) spans) (λ t h. all_front (Reads (seen t)) spans pieces h.here.reads) o at
+    if_told (IsStaging ends spans gate pieces []) (λ t. All (Reads (seen t)) spans) (λ t h. all-left (Reads (seen t)) spans pieces h.here.reads) o at
 spans_at Sealed o ends spans gate pieces written at =
-    if_told (IsSealed ends spans gate pieces) (λ t. All (Reads (seen t)) spans) (λ t h. all_front (Reads (seen t)) spans pieces h.here.reads) o at
+    if_told (IsSealed ends spans gate pieces) (λ t. All (Reads (seen t)) spans) (λ t h. all-left (Reads (seen t)) spans pieces h.here.reads) o at
 spans_at Gated o ends spans gate pieces written at =
-    if_told (IsGated ends spans gate pieces) (λ t. All (Reads (seen t)) spans) (λ t h. all_front (Reads (seen t)) spans pieces h.here.reads) o at
+    if_told (IsGated ends spans gate pieces) (λ t. All (Reads (seen t)) spans) (λ t h. all-left (Reads (seen t)) spans pieces h.here.reads) o at
 
 -- a value of durable batches is what its reference shows, where the disk tells
 pub holds_shows : {D : Type 0} (told : D → Option Told) (hash : Hash) (history : List Transaction) (batches : List (List Record)) (k : Kept D) (value : List ℕ) (ref : ValueRef)
@@ -133,7 +132,7 @@ placed_read items (Ok x) None hash value ref some shows read = absurd (let none 
 placed_read items (Ok x) (Some t) hash value ref some shows read = read ∙ shows.shown_as
 
 -- and no answer is that they differ
-pub sound_read : {X : Type 0} (result : Result X ReadError) (o : Option Told) (hash : Hash) (value : List ℕ) (ref : ValueRef) (want got : List ℕ) → IsSome o → IfSome o (λ t. Shows hash (seen t) value ref)
+pub sound_read : {X : Type 0} (result : Result X ValueError) (o : Option Told) (hash : Hash) (value : List ℕ) (ref : ValueRef) (want got : List ℕ) → IsSome o → IfSome o (λ t. Shows hash (seen t) value ref)
     → IfErr result (λ e. IsCorrupt hash o ref e) → IsErrOf result (Corrupt want got) → ⊥
 sound_read (Ok x) o hash value ref want got some shows corrupt is = cc
 sound_read (Err e) None hash value ref want got some shows corrupt is = cc

@@ -21,10 +21,10 @@ use Rattle.im_journal.specs.Pieces.{end_of, pieces_of}
 use Rattle.im_journal.proofs.Calls.{closed_long}
 use Rattle.im_journal.proofs.Clear.{EndsIn, IsBelow, all_pieces, pieces_clear, spans_below}
 use Rattle.im_journal.proofs.Limits.{durable_few, first_number}
-use Rattle.im_journal.proofs.Parts.{all_back}
 use Rattle.im_journal.proofs.Placing.{IsIn, records_in, refs_below}
 use Rattle.im_journal.proofs.Prefixes.{joined_more, records_both, records_front}
 use Rattle.im_journal.proofs.Whole.{batch_safe}
+use Rattle.im_format.proofs.AllLemmas.{all-right}
 
 module _ (hash : Hash) (history : List Transaction) (batches : List (List Record)) (durable : ℕ) (first : AreFirst hash history batches durable (ends_of batches)) where
   all_in : All (IsIn (1048576 * 2 ^ 22)) (refs_of (joined batches))
@@ -102,7 +102,7 @@ opened_at image gate id end (batch ∷ batches) reads (suc b) lt =
     let end2 = end + length (records_octets id batch) in
     subst (λ (k : ℕ). Reads image (octet_span 1 k 1)) (omega arith)
     (opened_at image (gate + 25) (id + length batch) end2 batches
-    (all_back (Reads image) (batch_spans gate id end batch) (spans_from (gate + 25) (id + length batch) end2 batches) reads) b (omega (arith, lt)))
+    (all-right (Reads image) (batch_spans gate id end batch) (spans_from (gate + 25) (id + length batch) end2 batches) reads) b (omega (arith, lt)))
 
 -- the octet that reads at a place
 octet_is : (l : List ℕ) (place octet : ℕ) → take 1 (drop place l) ≡ octet ∷ [] → get_or l place 0 ≡ octet

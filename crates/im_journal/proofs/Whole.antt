@@ -17,11 +17,13 @@ use Rattle.im_format.specs.declared.spans.Span.{Span}
 use Rattle.im_journal.specs.Holding.{AreFirst, AreNext, ends_of}
 use Rattle.im_journal.specs.Phases.{IsClosed, IsLong, IsOpened, IsSafe}
 use Rattle.im_journal.specs.Pieces.{end_of, ends_after, log_pieces, pieces_of, value_piece, value_pieces}
-use Rattle.im_journal.proofs.Calls.{all_front, closed_long}
+use Rattle.im_journal.proofs.Calls.{closed_long}
 use Rattle.im_journal.proofs.Limits.{first_number}
-use Rattle.im_journal.proofs.Parts.{all_back, back_reads, front_reads, none_reads, reads_at, reads_long}
+use Rattle.im_journal.proofs.Parts.{back_reads, front_reads, none_reads, reads_at, reads_long}
 use Rattle.im_journal.proofs.Placing.{records_end, values_read}
 use Rattle.im_journal.proofs.Prefixes.{joined_more, octets_more, refs_more}
+use Rattle.im_format.proofs.AllLemmas.{all-left, all-right}
+use Rattle.im_format.proofs.LengthLemmas.{length-fields}
 
 same_batch : (g g2 i i2 e e2 : ℕ) (batch : List Record) → g ≡ g2 → i ≡ i2 → e ≡ e2 → batch_spans g i e batch ≡ batch_spans g2 i2 e2 batch
 same_batch g g2 i i2 e e2 batch p q r =
@@ -43,10 +45,6 @@ spans_more gate id end (b ∷ bs) batch =
     (same_batch (gate + 25 + 25 * length bs) (gate + 25 * suc (length bs)) (id2 + length (joined bs)) (id + length (b ++ joined bs))
     (end2 + length (records_octets id2 (joined bs))) (end + length (records_octets id (b ++ joined bs))) batch
     (omega arith) (omega (arith, length-append b (joined bs))) (omega (arith, ap length (octets_more id b (joined bs)), length-append (records_octets id b) (records_octets id2 (joined bs)))))
-
-pub length-fields : (id count end : ℕ) → length (batch_fields id count end) ≡ 24
-unfolding field8 batch_fields
-length-fields id count end = refl
 
 pub staged_octets : (id count end : ℕ) → batch_octets id count end ≡ batch_fields id count end ++ (0 ∷ [])
 unfolding batch_octets
@@ -75,17 +73,17 @@ module _ (hash : Hash) (history : List Transaction) (batches : List (List Record
 
   log_reads : (image : Files) → All (Reads image) (value_pieces (ends_of batches) rs) → (v : ℕ) → v < 4 → reads_at image (2 + v) (log_end v (refs_of (joined batches))) (log_values v rs)
   log_reads image h zero few =
-      piece_reads image 2 (before 0) (log_values 0 rs) (all_front (Reads image) (vp 0) (vp 1) (all_front (Reads image) (vp 0 ++ vp 1) (vp 2) (all_front (Reads image) (vp 0 ++ vp 1 ++ vp 2) (vp 3) h)))
+      piece_reads image 2 (before 0) (log_values 0 rs) (all-left (Reads image) (vp 0) (vp 1) (all-left (Reads image) (vp 0 ++ vp 1) (vp 2) (all-left (Reads image) (vp 0 ++ vp 1 ++ vp 2) (vp 3) h)))
   log_reads image h (suc zero) few =
-      piece_reads image 3 (before 1) (log_values 1 rs) (all_back (Reads image) (vp 0) (vp 1) (all_front (Reads image) (vp 0 ++ vp 1) (vp 2) (all_front (Reads image) (vp 0 ++ vp 1 ++ vp 2) (vp 3) h)))
+      piece_reads image 3 (before 1) (log_values 1 rs) (all-right (Reads image) (vp 0) (vp 1) (all-left (Reads image) (vp 0 ++ vp 1) (vp 2) (all-left (Reads image) (vp 0 ++ vp 1 ++ vp 2) (vp 3) h)))
   log_reads image h (suc (suc zero)) few =
-      piece_reads image 4 (before 2) (log_values 2 rs) (all_back (Reads image) (vp 0 ++ vp 1) (vp 2) (all_front (Reads image) (vp 0 ++ vp 1 ++ vp 2) (vp 3) h))
+      piece_reads image 4 (before 2) (log_values 2 rs) (all-right (Reads image) (vp 0 ++ vp 1) (vp 2) (all-left (Reads image) (vp 0 ++ vp 1 ++ vp 2) (vp 3) h))
   log_reads image h (suc (suc (suc zero))) few =
-      piece_reads image 5 (before 3) (log_values 3 rs) (all_back (Reads image) (vp 0 ++ vp 1 ++ vp 2) (vp 3) h)
+      piece_reads image 5 (before 3) (log_values 3 rs) (all-right (Reads image) (vp 0 ++ vp 1 ++ vp 2) (vp 3) h)
   log_reads image h (suc (suc (suc (suc v)))) few = absurd (omega (arith, few))
 
   values_of : (image : Files) → All (Reads image) (pieces_of (ends_of batches) (durable + 1) rs) → (v : ℕ) → v < 4 → reads_at image (2 + v) (log_end v (refs_of (joined batches))) (log_values v rs)
-  values_of image h = log_reads image (all_front (Reads image) (value_pieces ends rs) (log_pieces ends id rs) h)
+  values_of image h = log_reads image (all-left (Reads image) (value_pieces ends rs) (log_pieces ends id rs) h)
 
   abbrev s0 : Span
   s0 = record { file = 0; at = length (records_octets 1 (joined batches)); octets = records_octets (durable + 1) rs }
@@ -94,7 +92,7 @@ module _ (hash : Hash) (history : List Transaction) (batches : List (List Record
   s1 = record { file = 1; at = gate_of (length batches) + 1; octets = batch_octets (durable + 1) (length rs) (length (records_octets 1 (joined batches)) + length (records_octets (durable + 1) rs)) }
 
   logs_read : (image : Files) → All (Reads image) (pieces_of (ends_of batches) (durable + 1) rs) → All (Reads image) (s0 ∷ s1 ∷ [])
-  logs_read image h = all_back (Reads image) (value_pieces ends rs) (s0 ∷ s1 ∷ []) h
+  logs_read image h = all-right (Reads image) (value_pieces ends rs) (s0 ∷ s1 ∷ []) h
 
   records_read : (image : Files) → All (Reads image) (pieces_of (ends_of batches) (durable + 1) rs) → Reads image s0
   records_read image h = All-head (Reads image) s0 (s1 ∷ []) (logs_read image h)
@@ -169,8 +167,8 @@ module _ (hash : Hash) (history : List Transaction) (batches : List (List Record
   batch_safe image opened =
       let R = Reads image in
       let pieces = pieces_of ends id rs in
-      let old = all_front R (spans_of batches) pieces opened.reads in
-      let new = all_back R (spans_of batches) pieces opened.reads in
+      let old = all-left R (spans_of batches) pieces opened.reads in
+      let new = all-right R (spans_of batches) pieces opened.reads in
       let number = first_number hash history batches durable (ends_of batches) first in
       let last = batch_spans (0 + 25 * length batches) (1 + length (joined batches)) (0 + length (records_octets 1 (joined batches))) rs in
       let same : batch_spans (gate_of (length batches)) (durable + 1) (length (records_octets 1 (joined batches))) rs ≡ last =

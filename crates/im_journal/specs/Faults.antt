@@ -3,8 +3,8 @@ use Rattle.std.specs.Prelude.{◌≡◌, ◌≤◌, ◌+◌, ◌-◌, ◌^◌, �
 use Rattle.im_edge.specs.Counts.{Rose}
 use Rattle.im_journal.specs.declared.errors.JournalError.{JournalError}
 use Rattle.im_journal.specs.declared.errors.JournalError.TheVariants.{DiskFault}
-use Rattle.im_vlog.specs.declared.showing.ReadError.{ReadError}
-use Rattle.im_vlog.specs.declared.showing.ReadError.TheVariants as Read
+use Rattle.im_vlog.specs.declared.showing.ValueError.{ValueError}
+use Rattle.im_vlog.specs.declared.showing.ValueError.TheVariants as Read
 
 -- The disk's count doesn't fall. `DiskFault` comes only where it rose, and is one failure more, until their number stands at its
 -- end; every other answer leaves both counts as they were
@@ -16,7 +16,7 @@ pub record IsCounted {T : Type 0} (before now failures_before failures_now : ℕ
   pub failures : (IsErrOf result DiskFault → ⊥) → failures_now ≡ failures_before
 
 -- the same of a read's answers
-pub record IsReadCounted {T : Type 0} (before now failures_before failures_now : ℕ) (result : Result T ReadError) : Type 0 where
+pub record IsReadCounted {T : Type 0} (before now failures_before failures_now : ℕ) (result : Result T ValueError) : Type 0 where
   pub later : before ≤ now
   pub rose : IsErrOf result Read.DiskFault → Rose before now
   pub more : IsErrOf result Read.DiskFault → failures_now ≡ min (failures_before + 1) (2 ^ 64 - 1)

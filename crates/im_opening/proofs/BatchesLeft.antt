@@ -9,7 +9,7 @@ use Rattle.im_format.specs.Reading.{counts, number_at, records_end}
 use Rattle.im_format.specs.declared.damages.Damage.{Damage}
 use Rattle.im_format.specs.declared.records.Record.{Record}
 use Rattle.im_mtree.specs.Checks.{Check, first_fail}
-use Rattle.im_standing.proofs.HeldBatches.{counts-false, counts-true}
+use Rattle.im_format.proofs.HeldBatches.{counts-false, counts-true}
 use Rattle.im_mtree.proofs.CheckLemmas.{fail_append}
 use Rattle.im_opening.specs.Answers.{Tells}
 use Rattle.im_opening.specs.Opening.{AreBatches}

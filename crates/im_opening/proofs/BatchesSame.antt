@@ -12,14 +12,15 @@ use Rattle.im_format.specs.declared.references.ValueRef.{ValueRef}
 use Rattle.im_model.specs.declared.entries.Entry.{Entry}
 use Rattle.im_model.specs.declared.transactions.Transaction.{Transaction}
 use Rattle.im_record.specs.Back.{record_in}
-use Rattle.im_standing.proofs.FieldLemmas.{number4-held, number8-held}
-use Rattle.im_standing.proofs.HeldBatches.{HoldsBatches, counts-false, counts-true, fields-split}
-use Rattle.im_standing.proofs.HeldEntries.{HoldsEntries, entries_end, entry_end}
-use Rattle.im_standing.proofs.HeldRecords.{Has32, HoldsRecord, HoldsRecords, entries-end, grown, grown_by, length-record}
-use Rattle.im_standing.proofs.RecordReads.{record-read, records-read}
-use Rattle.im_standing.proofs.SlotReads.{held-slot}
-use Rattle.im_standing.proofs.StandReads.{stands-holds}
+use Rattle.im_format.proofs.FieldLemmas.{number4-held, number8-held}
+use Rattle.im_format.proofs.HeldBatches.{HoldsBatches, counts-false, counts-true, fields-split}
+use Rattle.im_format.proofs.HeldEntries.{HoldsEntries, entries_end, entry_end}
+use Rattle.im_format.proofs.HeldRecords.{Has32, HoldsRecord, HoldsRecords, entries-end, grown, grown_by}
+use Rattle.im_format.proofs.RecordReads.{record-read, records-read}
+use Rattle.im_format.proofs.SlotReads.{held-slot}
+use Rattle.im_format.proofs.StandReads.{stands-holds}
 use Rattle.im_opening.specs.Parts.{batches_from, batches_in, records_in}
+use Rattle.im_format.proofs.LengthLemmas.{length-record}
 
 refs-same : (hash : Hash) (image : Files) (id at : ℕ) (entries : List Entry) (refs : List ValueRef) → id ≤ 1048576
     → HoldsEntries hash image id at entries refs → map (λ s. s.ref) (slots_at (image 0) at (length entries)) ≡ refs

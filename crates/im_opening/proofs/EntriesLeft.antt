@@ -17,7 +17,7 @@ use Rattle.im_opening.specs.Answers.{Tells}
 use Rattle.im_opening.specs.Parts.{AreEntriesAt, IsEntryAt, entry_checks}
 use Rattle.im_opening.specs.declared.errors.OpenError.{OpenError}
 use Rattle.im_opening.specs.declared.errors.OpenError.TheVariants.{DiskFault, Damaged, Memory}
-use Rattle.im_standing.proofs.KeyLemmas.{AreApart, IsFresh, index-fresh}
+use Rattle.im_format.proofs.KeyLemmas.{AreApart, IsFresh, index-fresh}
 
 -- what is read of them, and what is left, make this
 pub record EntriesLeft (hash : Hash) (image : Files) (id at count : ℕ) (entries : List Entry) (refs : List ValueRef) (end : ℕ) : Type 0 where
@@ -110,14 +110,6 @@ module _ (hash : Hash) (image : Files) (id at count : ℕ) (entries : List Entry
       → AreEntriesAt image at count entries refs end × (first_fail (slots_checks hash image id [] at count) ≡ Ok tt)
   entries-last left le = last-by left.rest left.sum le left.entries_are left.refs_are left.end_is left.finds
 
--- one more reference, and its value
-pub refers-next : (hash : Hash) (id : ℕ) (entries : List Entry) (refs : List ValueRef) (e : Entry) (ref : ValueRef)
-    → AreReferences hash id entries refs → IsReference hash id e.value ref → AreReferences hash id (entries ++ e ∷ []) (refs ++ ref ∷ [])
-refers-next hash id [] [] e ref h one = (one, tt)
-refers-next hash id [] (r ∷ refs) e ref h one = absurd h
-refers-next hash id (x ∷ entries) [] e ref h one = absurd h
-refers-next hash id (x ∷ entries) (r ∷ refs) e ref h one = (h.0, refers-next hash id entries refs e ref h.1 one)
-
 -- one more entry, whose key is none of those before
 apart-more : (keys : List (List ℕ)) (entries : List Entry) (e : Entry) → AreApart keys entries
     → IsFresh e.key (keys ++ map (λ e. e.key) entries) → AreApart keys (entries ++ e ∷ [])
@@ -134,8 +126,3 @@ pub keys-next : (entries : List Entry) (e : Entry) (keys more : List (List ℕ))
     → more ≡ keys ++ e.key ∷ [] → more ≡ map (λ e. e.key) (entries ++ e ∷ [])
 keys-next entries e keys more are is =
     is ∙ ap (λ (ks : List (List ℕ)). ks ++ e.key ∷ []) are ∙ sym (map-append (λ (e : Entry). e.key) entries (e ∷ []))
-
--- one more of which the same holds
-pub all-next : {X : Type 0} (P : X → Type 0) → (xs : List X) (x : X) → All P xs → P x → All P (xs ++ x ∷ [])
-all-next P [] x h p = All-cons P x [] p (All-nil P)
-all-next P (y ∷ ys) x h p = All-cons P y (ys ++ x ∷ []) (All-head P y ys h) (all-next P ys x (All-tail P y ys h) p)

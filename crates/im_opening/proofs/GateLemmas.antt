@@ -19,25 +19,13 @@ use Rattle.im_clog.specs.declared.marks.Uncounted.{Uncounted}
 use Rattle.im_clog.specs.declared.marks.Uncounted.TheVariants.{Missing, Closed, Short}
 use Rattle.im_format.specs.Reading.{counts, number_at, records_end}
 use Rattle.im_opening.specs.Parts.{batches_from, batches_in, records_in}
-use Rattle.im_standing.proofs.HeldBatches.{true-counts}
+use Rattle.im_format.proofs.HeldBatches.{true-counts}
 use Rattle.std.proofs.lemmas.Bool.{cases_Bool, cases_lt}
 use Rattle.std.proofs.Common.{if◌then◌else◌}
 use Rattle.im_opening.specs.Cut.{IsCut, IsShut}
-use Rattle.im_standing.proofs.FieldLemmas.{length-field8}
 use Rattle.im_octet.specs.Fields.{field8}
 use Rattle.std.proofs.Common.{length-append}
-
-length-fields : (a b c : ℕ) → length (batch_fields a b c) ≡ 24
-unfolding batch_fields
-length-fields a b c =
-    omega (
-      arith,
-      length-append (field8 a ++ field8 b) (field8 c),
-      length-append (field8 a) (field8 b),
-      length-field8 a,
-      length-field8 b,
-      length-field8 c,
-    )
+use Rattle.im_format.proofs.LengthLemmas.{length-fields}
 
 module _ (gate : ℕ) where
   M : Span → Type 0

@@ -16,10 +16,10 @@ use Rattle.im_format.specs.declared.references.ValueRef.{ValueRef}
 use Rattle.im_model.specs.declared.entries.Entry.{Entry}
 use Rattle.im_mtree.specs.Checks.{first_fail}
 use Rattle.im_record.specs.Slots.{ref_part, slot_checks_by}
-use Rattle.im_standing.proofs.HeldRecords.{length-record}
-use Rattle.im_standing.proofs.HoldLemmas.{length-octets}
-use Rattle.im_standing.proofs.PassLemmas.{all-pass, pass-left, pass-right}
+use Rattle.im_format.proofs.PassLemmas.{pass-left, pass-right}
 use Rattle.im_opening.specs.Opening.{AreGrouped}
+use Rattle.im_format.proofs.LengthLemmas.{length-record, length-octets}
+use Rattle.im_mtree.proofs.CheckLemmas.{all-hold}
 
 -- an entry that passes its checks
 pub slot-ends : (log lengths : List ℕ) (id : ℕ) (keys : List (List ℕ)) (at : ℕ) → first_fail (slot_checks_by log lengths id keys (slot_at log at)) ≡ Ok tt
@@ -30,7 +30,7 @@ slot-ends log lengths id keys at ok =
     let by = ref_part log lengths id (slot.start + 4 + slot.md_len + slot.key_len) in
     let md_checks = slot_md_checks log slot in
     let key_checks = slot_key_checks log keys slot in
-    let all = all-pass (slot_checks_by log lengths id keys slot) ok in
+    let all = all-hold (slot_checks_by log lengths id keys slot) ok in
     let m = pass-left md_checks (key_checks ++ by) all in
     let k = pass-left key_checks by (pass-right md_checks (key_checks ++ by) all) in
     let md_within : at + 2 + slot.md_len ≤ length log = leb-true (at + 2 + slot.md_len) (length log) m.1.1.0 in

@@ -8,16 +8,16 @@ use Rattle.im_format.specs.declared.damages.Damage.{Damage}
 use Rattle.im_mtree.specs.Checks.{Check, first_fail}
 use Rattle.im_record.specs.Slots as Read
 use Rattle.im_record.specs.Slots.{HaveLengths, ref_part, slot_checks_by}
-use Rattle.im_record.specs.declared.errors.ReadError.{ReadError}
-use Rattle.im_record.specs.declared.errors.ReadError.TheVariants.{Damaged, Memory}
-use Rattle.im_mtree.proofs.CheckLemmas.{fail_append, fail_first}
+use Rattle.im_record.specs.declared.errors.SlotError.{SlotError}
+use Rattle.im_record.specs.declared.errors.SlotError.TheVariants.{Damaged, Memory}
+use Rattle.im_mtree.proofs.CheckLemmas.{fail_append, fail_first, all-hold}
 use Rattle.im_opening.specs.Answers.{Tells, of_record}
 use Rattle.im_opening.specs.Parts.{Shows, digest_check, entry_checks}
 use Rattle.im_opening.specs.declared.errors.OpenError.{OpenError}
 use Rattle.im_opening.specs.declared.errors.OpenError.TheVariants as Open
 use Rattle.im_format.specs.declared.references.ValueRef.{ValueRef}
 use Rattle.im_digest.specs.Digests.{Hash}
-use Rattle.im_standing.proofs.PassLemmas.{all-pass, pass-left, pass-right}
+use Rattle.im_format.proofs.PassLemmas.{pass-left, pass-right}
 use Rattle.im_opening.proofs.Finding.{find-same, find-stop}
 
 -- the checks of a reference before that of its log
@@ -81,11 +81,11 @@ pub key-fresh : (log lengths : List ℕ) (id : ℕ) (keys : List (List ℕ)) (sl
 key-fresh log lengths id keys slot ok =
     let by = ref_part log lengths id (slot.start + 4 + slot.md_len + slot.key_len) in
     let key = slot_key_checks log keys slot in
-    let h = pass-left key by (pass-right (slot_md_checks log slot) (key ++ by) (all-pass (slot_checks_by log lengths id keys slot) ok)) in
+    let h = pass-left key by (pass-right (slot_md_checks log slot) (key ++ by) (all-hold (slot_checks_by log lengths id keys slot) ok)) in
     eqb-true _ _ h.1.1.1.1.0
 
 -- where the image has this transaction log
-pub slot-fails : (hash : Hash) (image : Files) (log lengths : List ℕ) (id : ℕ) (keys : List (List ℕ)) (at : ℕ) (e : ReadError) → Shows image log lengths
+pub slot-fails : (hash : Hash) (image : Files) (log lengths : List ℕ) (id : ℕ) (keys : List (List ℕ)) (at : ℕ) (e : SlotError) → Shows image log lengths
     → Read.Tells (slot_checks_by log lengths id keys (slot_at log at)) e → Tells (entry_checks hash image id keys at) (of_record e)
 slot-fails hash image log lengths id keys at (Damaged d) shows bad =
     let slot = slot_at (image 0) at in

@@ -5,8 +5,8 @@ use Rattle.im_disk.specs.declared.disk.DiskError.TheVariants as Disk
 use Rattle.im_edge.specs.Counts.{Rose}
 use Rattle.im_format.specs.declared.damages.Damage.{Damage}
 use Rattle.im_mtree.specs.Checks.{Check, first_fail}
-use Rattle.im_record.specs.declared.errors.ReadError.{ReadError}
-use Rattle.im_record.specs.declared.errors.ReadError.TheVariants as Read
+use Rattle.im_record.specs.declared.errors.SlotError.{SlotError}
+use Rattle.im_record.specs.declared.errors.SlotError.TheVariants as Read
 use Rattle.im_opening.specs.declared.errors.OpenError.{OpenError}
 use Rattle.im_opening.specs.declared.errors.OpenError.TheVariants.{DiskFault, Damaged, Memory}
 
@@ -16,7 +16,7 @@ of_disk Disk.Failed = DiskFault
 of_disk Disk.Memory = Memory
 
 -- the error that an error of reading a record is
-abbrev pub of_record : ReadError → OpenError
+abbrev pub of_record : SlotError → OpenError
 of_record (Read.Damaged damage) = Damaged damage
 of_record Read.Memory = Memory
 

@@ -5,7 +5,7 @@ use im_format::records::Record;
 use im_format::references::ValueRef;
 
 /// Where a value log ends behind the references of records, at most `u64::MAX`. It takes no memory.
-#[tactic(auto, using(crate::proofs::EndLemmas::log_end_append))]
+#[tactic(auto, using(im_format::proofs::EndLemmas::log_end_append))]
 pub(crate) fn end_of(log: u8, records: &[Record]) -> u64
     ensures { result ≡ min (log_end log (refs_of records.now)) (2 ^ 64 - 1) }
 {

@@ -1,6 +1,6 @@
 use im_disk::disk::DiskError;
 use im_format::damages::Damage;
-use im_record::errors::ReadError;
+use im_record::errors::SlotError;
 use std::alloc::{AllocError, AllocFailed};
 use thiserror::Error;
 
@@ -43,16 +43,16 @@ impl From<Damage> for OpenError {
     }
 }
 
-impl From<ReadError> for OpenError {
+impl From<SlotError> for OpenError {
     ghost use Rattle.std.specs.Prelude.{◌≡◌};
     ghost use Rattle.im_opening.specs.Answers.{of_record};
 
     ghost from_gives = { λ cause error. error ≡ of_record cause };
 
-    fn from(cause: ReadError) -> Self {
+    fn from(cause: SlotError) -> Self {
         match cause {
-            ReadError::Damaged(damage) => OpenError::Damaged(damage),
-            ReadError::Memory => OpenError::Memory,
+            SlotError::Damaged(damage) => OpenError::Damaged(damage),
+            SlotError::Memory => OpenError::Memory,
         }
     }
 }

@@ -9,6 +9,7 @@ use im_digest::Hash32;
 use im_disk::disk::Disk;
 use im_format::damages::{Damage, Difference};
 use im_format::references::ValueRef;
+use im_vlog::showing::{ValueError, read_whole};
 use std::alloc::Global;
 
 /// The octets that a reference shows, by one read, where they have its digest.
@@ -28,19 +29,14 @@ pub(crate) fn read_value<D: Disk, H: Hash32>(
     ensures told { D.told disk.new ≡ D.told disk.old }
     ensures cause { HasOpenCause (D.faults disk.old) (D.faults disk.new) result }
 {
-    let mut octets = vec![in alloc; 0u8; value.len as usize]?;
-    disk.read(2 + value.log, value.at, &mut octets)?;
-    let got = hash.hash(octets.as_slice(), &[], &[]);
-    if got != value.hval {
-        let found = Difference::Digests {
-            want: value.hval,
-            got,
-        };
-        return Err(OpenError::Damaged(Damage {
-            file: 2 + value.log,
+    match read_whole(alloc, hash, disk, value) {
+        Ok(octets) => Ok(octets),
+        Err(ValueError::Corrupt { want, got }) => Err(OpenError::Damaged(Damage {
+            file: value.file(),
             at: value.at,
-            found,
-        }));
+            found: Difference::Digests { want, got },
+        })),
+        Err(ValueError::DiskFault) => Err(OpenError::DiskFault),
+        Err(ValueError::Memory) => Err(OpenError::Memory),
     }
-    Ok(octets)
 }

@@ -1,5 +1,5 @@
 -- Octets that stand at a place of a log, and numbers read there.
-use Rattle.std.proofs.Common.{◌≡◌, ◌<◌, ◌≤◌, ◌+◌, ◌^◌, ℕ, ℤ, FitsSigned, List, [], ◌∷◌, ◌++◌, length, take, drop, arith, refl, sym, ◌∙◌, ap, length-append, append_assoc, get_or, subst}
+use Rattle.std.proofs.Common.{◌≡◌, ◌<◌, ◌≤◌, ◌+◌, ◌^◌, ℕ, ℤ, FitsSigned, List, [], ◌∷◌, ◌++◌, length, take, drop, arith, sym, ◌∙◌, ap, length-append, append_assoc, get_or, subst}
 use Rattle.std.specs.Prelude.{slice_index_or}
 use Rattle.std.specs.Int.{w16, w32, w64, from_be_bytes, cast_signed, cast_unsigned}
 use Rattle.std.proofs.Math.Facts.{Fits-of_z}
@@ -83,20 +83,3 @@ octet-at log at n h =
     let one : get_or (take 1 (drop at log)) 0 0 ≡ n = ap (λ xs. get_or xs 0 0) h.has in
     let same : at ≡ at + 0 = omega arith in
     ap (λ k. get_or log k 0) same ∙ sym (get_or-drop at log 0 0) ∙ sym (get_or-take 1 (drop at log) 0 0 (omega arith)) ∙ one
-
--- lengths
-pub length-field2 : (n : ℕ) → length (field2 n) ≡ 2
-unfolding field2
-length-field2 n = refl
-
-pub length-field4 : (n : ℕ) → length (field4 n) ≡ 4
-unfolding field4
-length-field4 n = refl
-
-pub length-field8 : (n : ℕ) → length (field8 n) ≡ 8
-unfolding field8
-length-field8 n = refl
-
-pub length-signed : (z : ℤ) → length (signed_field8 z) ≡ 8
-unfolding signed_field8
-length-signed z = refl

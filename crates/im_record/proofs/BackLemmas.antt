@@ -13,7 +13,9 @@ use Rattle.im_format.specs.declared.records.Record.{Record}
 use Rattle.im_format.specs.declared.references.ValueRef.{ValueRef}
 use Rattle.im_record.specs.Back.{AreEntriesOf, FitsEntry, FitsRecord, FitsRef, HasAt, IsEntryOf, IsReadAs}
 use Rattle.im_record.specs.Slots.{ref_at}
-use Rattle.im_record.proofs.AtLemmas.{HasAt-front, HasAt-back, HasAt-moved, HasAt-within, number2-field, number4-field, number8-field, signed-field, octet-at, length-field2, length-field4, length-field8, length-signed}
+use Rattle.im_record.proofs.AtLemmas.{HasAt-front, HasAt-back, HasAt-moved, HasAt-within, number2-field, number4-field, number8-field, signed-field, octet-at}
+use Rattle.im_octet.proofs.FieldLemmas.{length-field2, length-field4, length-field8, length-signed}
+use Rattle.im_format.proofs.LengthLemmas.{length-head, length-reference}
 
 -- the numbers of a head
 pub record IsHead (log : List ℕ) (at id : ℕ) (tx : Transaction) : Type 0 where
@@ -21,15 +23,6 @@ pub record IsHead (log : List ℕ) (at id : ℕ) (tx : Transaction) : Type 0 whe
   pub ts : ts_at log at ≡ tx.ts
   pub bl : bl_at log at ≡ tx.bl
   pub count : count_at log at ≡ length tx.entries
-
-pub length-head : (id : ℕ) (tx : Transaction) → length (head_octets id tx) ≡ 28
-unfolding head_octets
-length-head id tx =
-    let a : List ℕ = field8 id in
-    let b : List ℕ = signed_field8 tx.ts in
-    let c : List ℕ = field8 tx.bl in
-    let d : List ℕ = field4 (length tx.entries) in
-    omega (arith, length-append (a ++ b ++ c) d, length-append (a ++ b) c, length-append a b, length-field8 id, length-signed tx.ts, length-field8 tx.bl, length-field4 (length tx.entries))
 
 pub head-back : (log : List ℕ) (at id : ℕ) (tx : Transaction) → id < 2 ^ 64 → FitsSigned w64 tx.ts → tx.bl < 2 ^ 64 → length tx.entries < 2 ^ 32
     → HasAt log at (head_octets id tx) → IsHead log at id tx
@@ -55,16 +48,6 @@ head-back log at id tx p q r s h =
 abbrev pub ref_with : List ℕ → ℕ → ℕ → ℕ → ValueRef
 ref_with hval len log at = record { hval = hval; len = len; log = log; at = at }
 
--- a reference
-pub length-reference : (ref : ValueRef) → length ref.hval ≡ 32 → length (reference_octets ref) ≡ 45
-unfolding reference_octets
-length-reference ref e =
-    let a : List ℕ = ref.hval in
-    let b : List ℕ = field4 ref.len in
-    let c : List ℕ = ref.log ∷ [] in
-    let d : List ℕ = field8 ref.at in
-    omega (arith, length-append (a ++ b ++ c) d, length-append (a ++ b) c, length-append a b, e, length-field4 ref.len, length-field8 ref.at)
-
 pub ref-back : (log : List ℕ) (at : ℕ) (ref : ValueRef) → FitsRef ref → HasAt log at (reference_octets ref) → ref_at log at ≡ ref
 unfolding reference_octets
 ref-back log at ref fits h =
@@ -88,27 +71,6 @@ ref-back log at ref fits h =
     ∙ ap (λ (x : ℕ). ref_with ref.hval x (slice_index_or log (at + 36) 0) (number8 log (at + 37))) len
     ∙ ap (λ (x : ℕ). ref_with ref.hval ref.len x (number8 log (at + 37))) number
     ∙ ap (λ (x : ℕ). ref_with ref.hval ref.len ref.log x) place
-
--- an entry
-pub length-entry : (entry : Entry) (ref : ValueRef) → length ref.hval ≡ 32
-    → length (entry_octets entry ref) ≡ 49 + length entry.md + length entry.key
-unfolding entry_octets
-length-entry entry ref e =
-    let a : List ℕ = field2 (length entry.md) in
-    let b : List ℕ = entry.md in
-    let c : List ℕ = field2 (length entry.key) in
-    let d : List ℕ = entry.key in
-    let r : List ℕ = reference_octets ref in
-    omega (
-      arith,
-      length-append (a ++ b ++ c ++ d) r,
-      length-append (a ++ b ++ c) d,
-      length-append (a ++ b) c,
-      length-append a b,
-      length-field2 (length entry.md),
-      length-field2 (length entry.key),
-      length-reference ref e,
-    )
 
 pub entry-back : (log : List ℕ) (at : ℕ) (entry : Entry) (ref : ValueRef) → FitsEntry entry → FitsRef ref
     → HasAt log at (entry_octets entry ref)

@@ -1,5 +1,5 @@
 -- The octets of a record of a history pass the checks that they are read by.
-use Rattle.std.proofs.Common.{◌≡◌, ◌≢◌, ◌<◌, ◌≤◌, ◌+◌, ◌-◌, ◌*◌, ◌^◌, ℕ, ℤ, suc, Bool, true, false, List, [], ◌∷◌, ◌++◌, length, map, arith, refl, sym, ◌∙◌, ap, subst, length-append, get_or, lit≤, Ok, if◌then◌else◌}
+use Rattle.std.proofs.Common.{◌≡◌, ◌≢◌, ◌<◌, ◌≤◌, ◌+◌, ◌-◌, ◌*◌, ◌^◌, ℕ, ℤ, suc, Bool, true, false, List, [], ◌∷◌, ◌++◌, length, map, arith, refl, sym, ◌∙◌, ap, subst, length-append, get_or, Ok, if◌then◌else◌}
 use Rattle.std.specs.Prelude.{All, AllPairs, bytes_eq}
 use Rattle.std.proofs.lemmas.Bool.{eq-eqb, le-leb, false_from_ne_true}
 use Rattle.std.proofs.lemmas.List.Elements.{All-cons, All-tail}
@@ -21,13 +21,11 @@ use Rattle.im_format.specs.declared.references.ValueRef.{ValueRef}
 use Rattle.im_record.specs.Back.{FitsEntry, FitsRecord, FitsRef, HasAt, Holds, IsEntryOf, IsReadAs, IsSound, Passes}
 use Rattle.im_record.specs.Slots.{AreAttributes}
 use Rattle.im_record.proofs.AtLemmas.{HasAt-front, HasAt-back, HasAt-moved, HasAt-within}
-use Rattle.im_record.proofs.BackLemmas.{entry-back, length-entry, length-head, record-back}
+use Rattle.im_record.proofs.BackLemmas.{entry-back, record-back}
 use Rattle.im_mtree.proofs.CheckLemmas.{all-hold, both-hold, none-fails}
 use Rattle.im_record.proofs.NumberLemmas.{Put, put}
-
--- equal octets are found equal
-pub bytes-same : (a b : List ℕ) → a ≡ b → bytes_eq a b ≡ true
-bytes-same a b e = grind (arith, bytes_eq-Decides a b, e)
+use Rattle.im_format.proofs.LengthLemmas.{length-attributes, length-entry, length-head}
+use Rattle.im_octet.proofs.Common.{bytes-same}
 
 -- the metadata of attributes
 pub md-holds : (at : ℕ) (md : List ℕ) → AreAttributes md → first_fail (md_checks at md) ≡ Ok tt
@@ -39,11 +37,7 @@ md-holds at md (d, n, e) = subst (λ (xs : List ℕ). first_fail (md_checks at x
 
 -- has 2 octets at most
 pub attributes-short : (md : List ℕ) → AreAttributes md → length md ≤ 2
-attributes-short md (d, n, e) = subst (λ (xs : List ℕ). length xs ≤ 2) (sym e)
-    (elim d as (λ (b : Bool). length (attributes b n) ≤ 2) [
-      | true ↦ elim n as (λ (b : Bool). length (attributes true b) ≤ 2) [ true ↦ lit≤ tt | false ↦ lit≤ tt ]
-      | false ↦ elim n as (λ (b : Bool). length (attributes false b) ≤ 2) [ true ↦ lit≤ tt | false ↦ lit≤ tt ]
-    ])
+attributes-short md (d, n, e) = subst (λ (xs : List ℕ). length xs ≤ 2) (sym e) (length-attributes d n)
 
 -- an entry that is read of transaction id, whose fields are within the limits
 pub record IsFineSlot (image : Files) (id : ℕ) (keys : List (List ℕ)) (s : Slot) : Type 0 where

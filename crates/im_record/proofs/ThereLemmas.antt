@@ -5,17 +5,14 @@ use Rattle.std.specs.Int.{w64, to_be_bytes, cast_signed, cast_unsigned}
 use Rattle.std.proofs.Math.Facts.{sfits_to_z}
 use Rattle.std.proofs.lemmas.Bool.{cases_lt}
 use Rattle.std.proofs.lemmas.Int.{of_z-to_z}
-use Rattle.std.proofs.lemmas.List.{length-take, length-take-le, length-drop, get_or-drop, get_or-take, get_or_past}
+use Rattle.std.proofs.lemmas.List.{length-take, get_or-drop, get_or-take, get_or_past}
 use Rattle.std.proofs.lemmas.Nat.{be_bytes_2, be_bytes_4, be_bytes_8}
 use Rattle.im_octet.specs.Fields.{field2, field4, field8, signed_field8}
 use Rattle.im_format.specs.Reading.{number2, number4, number8}
 use Rattle.im_format.specs.Spans.{octets_at}
 use Rattle.im_record.specs.Back.{AreOctets, HasAt}
-use Rattle.im_record.proofs.AtLemmas.{length-field2, length-field4, length-field8}
-
--- so many octets of a log, where it reaches that far
-pub length-octets_at : (log : List ℕ) (at n : ℕ) → at + n ≤ length log → length (octets_at log at n) ≡ n
-length-octets_at log at n h = length-take-le n (drop at log) (omega (arith, length-drop at log))
+use Rattle.im_octet.proofs.FieldLemmas.{length-field2, length-field4, length-field8}
+use Rattle.im_format.proofs.LengthLemmas.{length-octets}
 
 -- are octets
 pub octets-at : (log : List ℕ) (at n : ℕ) → AreOctets log → AreOctets (octets_at log at n)
@@ -30,28 +27,28 @@ octets-at log at n octets i = elim (cases_lt i n) [
 
 -- and stand there
 pub HasAt-octets : (log : List ℕ) (at n : ℕ) → at + n ≤ length log → HasAt log at (octets_at log at n)
-HasAt-octets log at n h = record { has = ap (octets_at log at) (length-octets_at log at n h) }
+HasAt-octets log at n h = record { has = ap (octets_at log at) (length-octets log at n h) }
 
 -- so do the fields of numbers
 pub HasAt-number2 : (log : List ℕ) (at : ℕ) → AreOctets log → at + 2 ≤ length log → HasAt log at (field2 (number2 log at))
 unfolding number2 field2
 HasAt-number2 log at octets h = record {
   has = ap (octets_at log at) (length-field2 (number2 log at))
-      ∙ sym (be_bytes_2 (octets_at log at 2) (number2 log at) (length-octets_at log at 2 h) (octets-at log at 2 octets) refl);
+      ∙ sym (be_bytes_2 (octets_at log at 2) (number2 log at) (length-octets log at 2 h) (octets-at log at 2 octets) refl);
 }
 
 pub HasAt-number4 : (log : List ℕ) (at : ℕ) → AreOctets log → at + 4 ≤ length log → HasAt log at (field4 (number4 log at))
 unfolding number4 field4
 HasAt-number4 log at octets h = record {
   has = ap (octets_at log at) (length-field4 (number4 log at))
-      ∙ sym (be_bytes_4 (octets_at log at 4) (number4 log at) (length-octets_at log at 4 h) (octets-at log at 4 octets) refl);
+      ∙ sym (be_bytes_4 (octets_at log at 4) (number4 log at) (length-octets log at 4 h) (octets-at log at 4 octets) refl);
 }
 
 pub HasAt-number8 : (log : List ℕ) (at : ℕ) → AreOctets log → at + 8 ≤ length log → HasAt log at (field8 (number8 log at))
 unfolding number8 field8
 HasAt-number8 log at octets h = record {
   has = ap (octets_at log at) (length-field8 (number8 log at))
-      ∙ sym (be_bytes_8 (octets_at log at 8) (number8 log at) (length-octets_at log at 8 h) (octets-at log at 8 octets) refl);
+      ∙ sym (be_bytes_8 (octets_at log at 8) (number8 log at) (length-octets log at 8 h) (octets-at log at 8 octets) refl);
 }
 
 -- a number of eight octets fits them

@@ -24,12 +24,13 @@ use Rattle.im_format.specs.declared.records.Record.{Record}
 use Rattle.im_format.specs.declared.references.ValueRef.{ValueRef}
 use Rattle.im_record.specs.Back.{AreOctets, HasAt, IsWritten, record_in}
 use Rattle.im_record.specs.Slots.{AreAttributes, ref_at}
-use Rattle.im_record.proofs.AtLemmas.{HasAt-both, HasAt-moved, length-field2, length-field4, length-field8, length-signed}
-use Rattle.im_record.proofs.BackLemmas.{length-entry, length-head}
+use Rattle.im_record.proofs.AtLemmas.{HasAt-both, HasAt-moved}
 use Rattle.im_mtree.proofs.CheckLemmas.{AllHold, all-hold, each-holds}
 use Rattle.im_record.proofs.NumberLemmas.{Put, put}
 use Rattle.im_record.proofs.PassLemmas.{IsFineSlot}
-use Rattle.im_record.proofs.ThereLemmas.{HasAt-number2, HasAt-number4, HasAt-number8, HasAt-octet, HasAt-octets, HasAt-signed, length-octets_at, signed-fits}
+use Rattle.im_record.proofs.ThereLemmas.{HasAt-number2, HasAt-number4, HasAt-number8, HasAt-octet, HasAt-octets, HasAt-signed, signed-fits}
+use Rattle.im_octet.proofs.FieldLemmas.{length-field2, length-field4, length-field8, length-signed}
+use Rattle.im_format.proofs.LengthLemmas.{length-entry, length-head, length-octets}
 
 -- both tests
 and-both : (a b : Bool) → (a && b) ≡ true → (a ≡ true) × (b ≡ true)
@@ -93,7 +94,7 @@ ref-there log at octets w =
     let b : List ℕ = field4 ref.len in
     let c : List ℕ = ref.log ∷ [] in
     let d : List ℕ = field8 ref.at in
-    let la : length a ≡ 32 = length-octets_at log at 32 (omega arith) in
+    let la : length a ≡ 32 = length-octets log at 32 (omega arith) in
     let lb : length (a ++ b) ≡ 36 = omega (arith, length-append a b, la, length-field4 ref.len) in
     let lc : length (a ++ b ++ c) ≡ 37 = omega (arith, length-append (a ++ b) c, lb) in
     let ab : HasAt log at (a ++ b) =
@@ -111,8 +112,8 @@ fields-there : (log : List ℕ) (at : ℕ) → AreOctets log → (m k : ℕ) →
 fields-there log at octets m k em ek w =
     let md : List ℕ = octets_at log (at + 2) m in
     let key : List ℕ = octets_at log (at + 4 + m) k in
-    let lm : length md ≡ m = length-octets_at log (at + 2) m (omega arith) in
-    let lk : length key ≡ k = length-octets_at log (at + 4 + m) k (omega arith) in
+    let lm : length md ≡ m = length-octets log (at + 2) m (omega arith) in
+    let lk : length key ≡ k = length-octets log (at + 4 + m) k (omega arith) in
     let a : List ℕ = field2 (length md) in
     let c : List ℕ = field2 (length key) in
     let r : List ℕ = reference_octets (ref_at log (at + 4 + m + k)) in
@@ -145,12 +146,12 @@ entry-end image at w =
     let log : List ℕ = image 0 in
     let s : Slot = slot_at log at in
     let place : ℕ = at + 4 + number2 log at + number2 log (at + 2 + number2 log at) in
-    let long = length-entry (entry_in image s) s.ref (length-octets_at log place 32 (omega arith)) in
+    let long = length-entry (entry_in image s) s.ref (length-octets log place 32 (omega arith)) in
     omega (
       arith,
       long,
-      length-octets_at log (at + 2) (number2 log at) (omega arith),
-      length-octets_at log (at + 4 + number2 log at) (number2 log (at + 2 + number2 log at)) (omega arith),
+      length-octets log (at + 2) (number2 log at) (omega arith),
+      length-octets log (at + 4 + number2 log at) (number2 log (at + 2 + number2 log at)) (omega arith),
     )
 
 -- the lengths of its metadata and key
@@ -158,13 +159,13 @@ pub slot-sizes : (log : List ℕ) (at : ℕ) → (slot_at log at).start + 49 + (
     → (length (slot_at log at).md ≡ (slot_at log at).md_len) × (length (slot_at log at).key ≡ (slot_at log at).key_len)
 unfolding slot_at
 slot-sizes log at w = (
-  length-octets_at log (at + 2) (number2 log at) (omega arith),
-  length-octets_at log (at + 4 + number2 log at) (number2 log (at + 2 + number2 log at)) (omega arith),
+  length-octets log (at + 2) (number2 log at) (omega arith),
+  length-octets log (at + 4 + number2 log at) (number2 log (at + 2 + number2 log at)) (omega arith),
 )
 
 md-size : (log : List ℕ) (at : ℕ) → (slot_at log at).start + 2 + (slot_at log at).md_len ≤ length log → length (slot_at log at).md ≡ (slot_at log at).md_len
 unfolding slot_at
-md-size log at w = length-octets_at log (at + 2) (number2 log at) w
+md-size log at w = length-octets log (at + 2) (number2 log at) w
 
 -- its metadata is within the log
 md-within : (image : Files) (id : ℕ) (keys : List (List ℕ)) (s : Slot) → first_fail (slot_checks image id keys s) ≡ Ok tt
@@ -181,7 +182,7 @@ entry-within image id keys s f size = record {
   md = f.md.2;
   key_given = omega (arith, size, f.key_given);
   key_short = omega (arith, size, f.key_short);
-  value_short = omega (arith, length-octets_at (image (2 + s.ref.log)) s.ref.at s.ref.len f.lies, f.short);
+  value_short = omega (arith, length-octets (image (2 + s.ref.log)) s.ref.at s.ref.len f.lies, f.short);
 }
 
 -- the reference is that of its value
@@ -189,7 +190,7 @@ reference-of : (hash : Hash) (image : Files) (id : ℕ) (keys : List (List ℕ))
     → (value_check hash image s).0 ≡ true → IsReference hash id (value_at image s.ref) s.ref
 reference-of hash image id keys s f v = record {
   hval = sym ((bytes_eq-Decides (hash (value_at image s.ref)) s.ref.hval).0 v);
-  len = sym (length-octets_at (image (2 + s.ref.log)) s.ref.at s.ref.len f.lies);
+  len = sym (length-octets (image (2 + s.ref.log)) s.ref.at s.ref.len f.lies);
   log = f.log;
   room = f.room;
 }
@@ -197,7 +198,7 @@ reference-of hash image id keys s f v = record {
 -- and the image has the value where it says
 value-there : (image : Files) (id : ℕ) (keys : List (List ℕ)) (s : Slot) → IsFineSlot image id keys s → Reads image (value_span (value_at image s.ref) s.ref)
 value-there image id keys s f = record {
-  reads = ap (octets_at (image (2 + s.ref.log)) s.ref.at) (length-octets_at (image (2 + s.ref.log)) s.ref.at s.ref.len f.lies);
+  reads = ap (octets_at (image (2 + s.ref.log)) s.ref.at) (length-octets (image (2 + s.ref.log)) s.ref.at s.ref.len f.lies);
 }
 
 -- a key that is none of some and one more
@@ -329,7 +330,7 @@ record-written hash image id least at want octets some few h e l =
     head-there log at id r.tx octets reach (eqb-true (number8 log at) id hh.1.0) refl refl (sym long) in
     let hab : HasAt log at (a ++ b) = HasAt-both log at a b ha (HasAt-moved log _ _ b w.octets (sym (ap (λ k. at + k) la))) in
     let stop : place ≡ at + length (a ++ b) = omega (arith, w.ends, length-append a b, la) in
-    let alh : length r.alh ≡ 32 = length-octets_at log place 32 end in
+    let alh : length r.alh ≡ 32 = length-octets log place 32 end in
     let bl : bl_at log at ≤ id - 1 = leb-true (bl_at log at) (id - 1) hh.1.1.1.1.1.0 in
     let grows : least ≤ bl_at log at = leb-true least (bl_at log at) hh.1.1.1.1.0 in
     let given : 1 ≤ count = leb-true 1 count hh.1.1.1.1.1.1.1.0 in

@@ -8,8 +8,8 @@ use Rattle.im_format.specs.Reading.{Slot, number2, number4, number8, slot_at}
 use Rattle.im_format.specs.Spans.{octets_at}
 use Rattle.im_format.specs.declared.damages.Damage.{Damage}
 use Rattle.im_format.specs.declared.references.ValueRef.{ValueRef}
-use Rattle.im_record.specs.declared.errors.ReadError.{ReadError}
-use Rattle.im_record.specs.declared.errors.ReadError.TheVariants.{Damaged, Memory}
+use Rattle.im_record.specs.declared.errors.SlotError.{SlotError}
+use Rattle.im_record.specs.declared.errors.SlotError.TheVariants.{Damaged, Memory}
 use Rattle.im_record.specs.declared.slots.Slot as lent
 
 -- the value logs of an image, 0 to 3, have these lengths
@@ -78,7 +78,7 @@ slot_checks_by log logs id keys slot =
     ++ (slot_key_checks log keys slot ++ ref_part log logs id (slot.start + 4 + slot.md_len + slot.key_len))
 
 -- what an error tells of checks: the first that fails, and nothing where memory is short
-abbrev pub Tells : List (Check Damage) → ReadError → Type 0
+abbrev pub Tells : List (Check Damage) → SlotError → Type 0
 Tells checks (Damaged d) = first_fail checks ≡ Err d
 Tells checks Memory = Unit {0}
 

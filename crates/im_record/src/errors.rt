@@ -4,7 +4,7 @@ use thiserror::Error;
 
 /// Why an entry isn't read.
 #[derive(Clone, Copy, Debug, PartialEq, Eq, Error)]
-pub enum ReadError {
+pub enum SlotError {
     /// A field doesn't hold what it should, or the log ends within it.
     #[error("the transaction log is damaged")]
     Damaged(Damage),
@@ -13,24 +13,24 @@ pub enum ReadError {
     Memory,
 }
 
-impl From<Damage> for ReadError {
+impl From<Damage> for SlotError {
     ghost use Rattle.std.specs.Prelude.{◌≡◌};
-    ghost use Rattle.im_record.specs.declared.errors.ReadError.TheVariants.{Damaged};
+    ghost use Rattle.im_record.specs.declared.errors.SlotError.TheVariants.{Damaged};
 
     ghost from_gives = { λ d e. e ≡ Damaged d };
 
     fn from(damage: Damage) -> Self {
-        ReadError::Damaged(damage)
+        SlotError::Damaged(damage)
     }
 }
 
-impl From<AllocError> for ReadError {
+impl From<AllocError> for SlotError {
     ghost use Rattle.std.specs.Prelude.{◌≡◌};
-    ghost use Rattle.im_record.specs.declared.errors.ReadError.TheVariants.{Memory};
+    ghost use Rattle.im_record.specs.declared.errors.SlotError.TheVariants.{Memory};
 
     ghost from_gives = { λ _ e. e ≡ Memory };
 
     fn from(_: AllocError) -> Self {
-        ReadError::Memory
+        SlotError::Memory
     }
 }

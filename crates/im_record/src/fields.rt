@@ -4,13 +4,18 @@ ghost use Rattle.im_format.specs.Reading.{number2, number4, number8};
 ghost use Rattle.im_format.specs.Spans.{octets_at};
 
 use im_format::damages::{Damage, Difference};
+use im_format::files::TRANSACTION_LOG;
 
 // Two numbers of the transaction log that differ where they should not.
 pub(crate) fn numbers(at: u64, want: u64, got: u64) -> Damage
     ensures { result ≡ numbers 0 at want got }
 {
     let found = Difference::Numbers { want, got };
-    Damage { file: 0, at, found }
+    Damage {
+        file: TRANSACTION_LOG,
+        at,
+        found,
+    }
 }
 
 // The `n` octets at a place, which aren't copied; else the log doesn't reach that far.

@@ -6,6 +6,7 @@ ghost use Rattle.im_record.specs.Heads.{head_at, bl_checks, count_checks};
 
 use crate::fields::{number4, number8, numbers};
 use im_format::damages::Damage;
+use im_model::limits::MOST_ENTRIES;
 
 /// What a record begins with, behind its ID.
 #[derive(Clone, Copy, Debug, PartialEq, Eq)]
@@ -76,8 +77,8 @@ fn read_count(log: &[u8], at: u64) -> Result<u32, Damage>
     if count == 0 {
         return Err(numbers(at, 1, 0));
     }
-    if count > 1024 {
-        return Err(numbers(at, 1024, count as u64));
+    if count > MOST_ENTRIES {
+        return Err(numbers(at, MOST_ENTRIES as u64, count as u64));
     }
     Ok(count)
 }

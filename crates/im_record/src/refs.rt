@@ -5,7 +5,9 @@ ghost use Rattle.im_record.specs.Slots.{ref_at, len_part, log_part, place_part, 
 
 use crate::fields::{field, number4, number8, numbers};
 use im_format::damages::Damage;
+use im_format::files::LAST_VALUE_LOG;
 use im_format::references::ValueRef;
+use im_model::limits::MOST_VALUE_OCTETS;
 
 // A value of transaction id ends at most at this many octets for each transaction up to it.
 const PLACES_EACH: u64 = 4_194_304;
@@ -44,8 +46,8 @@ fn read_len(log: &[u8], at: u64) -> Result<u32, Damage>
     ensures first { MatchResult result (λ len. first_fail (len_part log.now at) ≡ Ok tt) (λ d. first_fail (len_part log.now at) ≡ Err d) }
 {
     let len = number4(log, at)?;
-    if len > 4096 {
-        return Err(numbers(at, 4096, len as u64));
+    if len as usize > MOST_VALUE_OCTETS {
+        return Err(numbers(at, MOST_VALUE_OCTETS as u64, len as u64));
     }
     Ok(len)
 }
@@ -61,8 +63,8 @@ fn read_log(log: &[u8], at: u64) -> Result<u8, Damage>
     let Some(number) = log.get(at as usize) else {
         return Err(numbers(at, at + 1, log.len() as u64));
     };
-    if *number > 3 {
-        return Err(numbers(at, 3, *number as u64));
+    if *number > LAST_VALUE_LOG {
+        return Err(numbers(at, LAST_VALUE_LOG as u64, *number as u64));
     }
     Ok(*number)
 }

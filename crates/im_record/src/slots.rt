@@ -5,12 +5,13 @@ ghost use Rattle.im_format.specs.Reading.{number2, slot_at};
 ghost use Rattle.im_format.specs.Spans.{octets_at};
 ghost use Rattle.im_record.specs.Slots.{md_part, key_part, slot_checks_by, AreAttributes, IsSlot, Lies, Tells};
 
-use crate::errors::ReadError;
+use crate::errors::SlotError;
 use crate::fields::{number2, numbers, octets_at};
 use crate::keys::Keys;
 use crate::refs::read_ref;
 use im_format::damages::Damage;
 use im_format::references::ValueRef;
+use im_model::limits::MOST_KEY_OCTETS;
 
 /// An entry of a record, with the reference of its value. Its octets are those of the log, and aren't copied.
 #[derive(Clone, Copy)]
@@ -45,7 +46,7 @@ pub fn read_slot<'a>(
     id: u64,
     logs: &[u64; 4],
     keys: &mut Keys<'a>,
-) -> Result<Slot<'a>, ReadError>
+) -> Result<Slot<'a>, SlotError>
     requires place { at ≤ length log.now }
     requires some { 1 ≤ id }
     requires few { id < 2 ^ 42 }
@@ -66,7 +67,7 @@ pub fn read_slot<'a>(
     let ref_at = key_at + 2 + key.len() as u64;
     let value = match read_ref(log, ref_at, id, logs) {
         Ok(value) => value,
-        Err(damage) => return Err(ReadError::Damaged(damage)),
+        Err(damage) => return Err(SlotError::Damaged(damage)),
     };
     keys.add(key)?;
     Ok(Slot {
@@ -127,8 +128,8 @@ fn read_key<'a>(log: &'a [u8], at: u64, keys: &Keys) -> Result<&'a [u8], Damage>
     if len == 0 {
         return Err(numbers(at, 1, 0));
     }
-    if len > 1024 {
-        return Err(numbers(at, 1024, len as u64));
+    if len as usize > MOST_KEY_OCTETS {
+        return Err(numbers(at, MOST_KEY_OCTETS as u64, len as u64));
     }
     let key = octets_at(log, at + 2, len)?;
     if let Some(earlier) = keys.number_of(key) {

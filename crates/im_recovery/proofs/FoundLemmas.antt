@@ -26,8 +26,8 @@ use Rattle.im_opening.specs.Reach.{txs_of}
 use Rattle.im_opening.specs.declared.errors.OpenError.{OpenError}
 use Rattle.im_opening.specs.declared.errors.OpenError.TheVariants.{Damaged}
 use Rattle.im_opening.specs.declared.reading.Opened.{Opened}
-use Rattle.im_standing.proofs.HeldRecords.{Has32}
-use Rattle.im_standing.proofs.StandReads.{stands-read}
+use Rattle.im_format.proofs.HeldRecords.{Has32}
+use Rattle.im_format.proofs.StandReads.{stands-read}
 
 held-safe : (batches : List (List Record)) (ends : List ℕ) (image : Files) → IsHeld batches ends image
     → IsSafe (end_of ends) (spans_of batches) (gate_of (length batches)) image

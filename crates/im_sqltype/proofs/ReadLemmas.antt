@@ -9,6 +9,7 @@ use Rattle.im_sqltype.specs.declared.kinds.ValueKind.{ValueKind}
 use Rattle.im_sqltype.specs.declared.kinds.ValueKind.TheVariants as kinds
 use Rattle.im_sqltype.specs.declared.values.Value.{Value}
 use Rattle.im_sqltype.specs.declared.values.Value.TheVariants.{Null, Integer, Boolean, Varchar, Blob}
+use Rattle.im_octet.proofs.FieldLemmas.{length-field8}
 
 -- the two are one octet, which they are not
 unlike : (m n : ℕ) (s t : List ℕ) → m ≢ n → m ∷ s ≡ n ∷ t → ⊥
@@ -19,10 +20,6 @@ unlike_null s t e = let same : 1 ≡ 0 = ap (λ u. get_or u 0 0) e in omega (ari
 
 behind : (n : ℕ) (s t : List ℕ) → n ∷ s ≡ n ∷ t → s ≡ t
 behind n s t e = ap (drop 1) e
-
-length-field8 : (n : ℕ) → length (field8 n) ≡ 8
-unfolding field8
-length-field8 n = refl
 
 pub no_truth_in_empty : (text : List ℕ) → length text ≡ 0 → HasNoTruth text
 no_truth_in_empty [] h = record { none = λ truth rest e. cc }

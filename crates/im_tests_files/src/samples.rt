@@ -13,7 +13,7 @@ use im_model::entries::{Entries, Entry};
 use im_model::limits::{EntryValue, Key, Metadata};
 use im_model::transactions::Transaction;
 use im_octet::octets::Octets;
-use im_vlog::showing::ReadError;
+use im_vlog::showing::ValueError;
 use std::alloc::{AllocError, Global};
 
 /// Its record: ID, Ts, BlTxID, number of entries; no metadata, key, hVal, length, log, place; Alh.
@@ -110,13 +110,13 @@ pub enum Shown {
 }
 
 /// Whether this was read by a reference whose octets add up to `total`.
-pub fn shows(read: Result<Vec<u8>, ReadError>, total: u8, want: Shown) -> bool {
+pub fn shows(read: Result<Vec<u8>, ValueError>, total: u8, want: Shown) -> bool {
     match (read, want) {
         (Ok(octets), Shown::Octets(want)) => octets.as_slice() == want,
-        (Err(ReadError::Corrupt { want, got }), Shown::Corrupt(sum)) => {
+        (Err(ValueError::Corrupt { want, got }), Shown::Corrupt(sum)) => {
             want == sum_is(total) && got == sum_is(sum)
         }
-        (Err(ReadError::DiskFault), Shown::Fault) => true,
+        (Err(ValueError::DiskFault), Shown::Fault) => true,
         _ => false,
     }
 }

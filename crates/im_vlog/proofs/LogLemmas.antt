@@ -24,22 +24,3 @@ values_end number k es rs is =
     (λ lt. ap (λ (l : List Entry). values_in number l (drop k rs)) (drop_all k es (omega (arith, lt, is))))
     (λ le. ap (λ (l : List ValueRef). values_in number (drop k es) l) (drop_all k rs (omega (arith, le, is))) ∙ no_references number (drop k es))
     (cases_lt (length es) (length rs))
-
--- a greatest end that is behind all others
-behind : (t : Bool) (a b c e : ℕ) → (if t then max a b else b) ≤ e → (b ≤ e → c ≡ e) → (if t then max a c else c) ≡ e
-behind true a b c e le ih = let is : c ≡ e = ih (omega (arith, le)) in omega (arith, le, is)
-behind false a b c e le ih = ih le
-
-pub log_end_same : (number : ℕ) (refs : List ValueRef) (ref : ValueRef) → ref.log ≡ number → log_end number refs ≤ ref.at + ref.len
-    → log_end number (refs ++ ref ∷ []) ≡ ref.at + ref.len
-log_end_same number [] ref is le =
-    ap (λ t. if t then max (ref.at + ref.len) 0 else 0) (eq-eqb ref.log number is) ∙ omega arith
-log_end_same number (r ∷ rs) ref is le =
-    behind (r.log == number) (r.at + r.len) (log_end number rs) (log_end number (rs ++ ref ∷ [])) (ref.at + ref.len) le
-    (λ h. log_end_same number rs ref is h)
-
-pub log_end_other : (number : ℕ) (refs : List ValueRef) (ref : ValueRef) → ref.log ≢ number
-    → log_end number (refs ++ ref ∷ []) ≡ log_end number refs
-log_end_other number [] ref other = ap (λ t. if t then max (ref.at + ref.len) 0 else 0) (ne_eqb ref.log number other)
-log_end_other number (r ∷ rs) ref other =
-    ap (λ (e : ℕ). if r.log == number then max (r.at + r.len) e else e) (log_end_other number rs ref other)

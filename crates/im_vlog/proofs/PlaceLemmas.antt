@@ -8,7 +8,7 @@ use Rattle.im_format.specs.Records.{AreReferences, IsReference}
 use Rattle.im_format.specs.declared.references.ValueRef.{ValueRef}
 use Rattle.im_model.specs.declared.entries.Entry.{Entry}
 use Rattle.im_vlog.specs.Ends.{reference_of, AreEnds}
-use Rattle.im_vlog.proofs.LogLemmas.{log_end_same, log_end_other}
+use Rattle.im_format.proofs.EndLemmas.{log_end_same, log_end_other}
 
 pub appended_more : (w id i : ℕ) (before refs : List ValueRef) (ref : ValueRef) → AreAppended w id i before refs
     → ref.log ≡ (id + (i + length refs)) % w → ref.at ≡ log_end ref.log (before ++ refs) → AreAppended w id i before (refs ++ ref ∷ [])
@@ -24,14 +24,6 @@ appended_more w id i before (r ∷ rs) ref are log_is at_is = (
       (log_is ∙ ap (λ (k : ℕ). (id + k) % w) (omega arith))
       (at_is ∙ ap (λ (l : List ValueRef). log_end ref.log l) (sym (append_assoc before (r ∷ []) rs))),
 )
-
-pub references_more : (hash : Hash) (id : ℕ) (entries : List Entry) (refs : List ValueRef) (entry : Entry) (ref : ValueRef)
-    → AreReferences hash id entries refs → IsReference hash id entry.value ref
-    → AreReferences hash id (entries ++ entry ∷ []) (refs ++ ref ∷ [])
-references_more hash id [] [] entry ref are is = (is, tt)
-references_more hash id [] (r ∷ rs) entry ref are is = absurd are
-references_more hash id (e ∷ es) [] entry ref are is = absurd are
-references_more hash id (e ∷ es) (r ∷ rs) entry ref are is = (are.0, references_more hash id es rs entry ref are.1 is)
 
 module _ (hash : Hash) (value : List ℕ) (number : ℕ) (next : List ℕ) (ref : ValueRef) (is : ref ≡ reference_of hash value number (get_or next number 0)) where
   log_is : ref.log ≡ number

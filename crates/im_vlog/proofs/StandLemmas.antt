@@ -16,7 +16,7 @@ use Rattle.im_format.specs.declared.records.Record.{Record}
 use Rattle.im_format.specs.declared.references.ValueRef.{ValueRef}
 use Rattle.im_model.specs.declared.entries.Entry.{Entry}
 use Rattle.im_model.specs.declared.transactions.Transaction.{Transaction}
-use Rattle.im_vlog.proofs.LogLemmas.{log_end_same, log_end_other}
+use Rattle.im_format.proofs.EndLemmas.{log_end_same, log_end_other}
 
 -- from its end behind references on, each log has octets
 pub record Has (image : Files) (before : List ValueRef) (octets : ℕ → List ℕ) : Type 0 where

@@ -15,7 +15,7 @@ use crate::journal::Journal;
 use im_digest::Hash32;
 use im_disk::disk::Disk;
 use im_format::references::ValueRef;
-use im_vlog::showing::{ReadError, read_value};
+use im_vlog::showing::{ValueError, read_value};
 use std::alloc::Global;
 
 impl<D: Disk> Journal<D> {
@@ -34,7 +34,7 @@ impl<D: Disk> Journal<D> {
         alloc: Global,
         hash: &H,
         value: &ValueRef,
-    ) -> Result<Vec<u8>, ReadError>
+    ) -> Result<Vec<u8>, ValueError>
         ensures octets { IfOk result (λ octets. IfSome (D.told self.old.disk) (λ t. octets.items ≡ shown (seen t) value.now)) }
         ensures digest { IfOk result (λ octets. H.digest hash.now octets.items ≡ value.now.hval) }
         ensures most { IfOk result (λ octets. length octets.items ≤ value.now.len) }
@@ -44,14 +44,14 @@ impl<D: Disk> Journal<D> {
             → HasValue (joined batches) octets value.now → IfOk result (λ read. read.items ≡ octets) }
         ensures sound { (history : List Transaction) (batches : List (List Record)) (octets want got : List ℕ)
             → HoldsBatches D.told (H.digest hash.now) history batches self.old → IsSome (D.told self.old.disk)
-            → HasValue (joined batches) octets value.now → IsErrOf result (ReadError.Corrupt want got) → ⊥ }
+            → HasValue (joined batches) octets value.now → IsErrOf result (ValueError.Corrupt want got) → ⊥ }
         ensures at_rest { (digest : Hash) (history : List Transaction) (batches : List (List Record))
             → IsAtRest D.told digest history batches self.old → IsAtRest D.told digest history batches self.new }
         ensures in_batch { (digest : Hash) (history : List Transaction) (batches : List (List Record)) (rs : List Record)
             → IsInBatch D.told digest history batches rs self.old → IsInBatch D.told digest history batches rs self.new }
         ensures told { D.told self.new.disk ≡ D.told self.old.disk }
         ensures none { 3 < value.now.log → self.new ≡ self.old }
-        ensures hashed { 3 < value.now.log → (IsErrOf result ReadError.DiskFault → ⊥) × (IsErrOf result ReadError.Memory → ⊥) }
+        ensures hashed { 3 < value.now.log → (IsErrOf result ValueError.DiskFault → ⊥) × (IsErrOf result ValueError.Memory → ⊥) }
         ensures kept { (self.new.ends ≡ self.old.ends) × (self.new.durable ≡ self.old.durable) × (self.new.batch ≡ self.old.batch) }
         ensures counted { IsReadCounted (D.faults self.old.disk) (D.faults self.new.disk) self.old.failures self.new.failures result }
     {
@@ -61,12 +61,12 @@ impl<D: Disk> Journal<D> {
     }
 
     // Counts a read at which the disk failed.
-    fn count_read(&mut self, answer: &Result<Vec<u8>, ReadError>)
-        ensures fault { IsErrOf answer.now ReadError.DiskFault → self.new.failures ≡ min (self.old.failures + 1) (2 ^ 64 - 1) }
-        ensures others { (IsErrOf answer.now ReadError.DiskFault → ⊥) → self.new.failures ≡ self.old.failures }
+    fn count_read(&mut self, answer: &Result<Vec<u8>, ValueError>)
+        ensures fault { IsErrOf answer.now ValueError.DiskFault → self.new.failures ≡ min (self.old.failures + 1) (2 ^ 64 - 1) }
+        ensures others { (IsErrOf answer.now ValueError.DiskFault → ⊥) → self.new.failures ≡ self.old.failures }
         ensures kept { (self.new.disk ≡ self.old.disk) × (self.new.ends ≡ self.old.ends) × (self.new.durable ≡ self.old.durable) × (self.new.batch ≡ self.old.batch) }
     {
-        if let Err(ReadError::DiskFault) = answer {
+        if let Err(ValueError::DiskFault) = answer {
             self.failures = self.failures.saturating_add(1);
         }
     }

@@ -3,8 +3,10 @@ use Rattle.std.proofs.lemmas.List.{get_or_at}
 use Rattle.im_octet.specs.Fields.{field8}
 use Rattle.im_format.specs.Batches.{batch_octets}
 use Rattle.im_format.specs.Reading.{number8}
-use Rattle.im_clog.proofs.FieldLemmas.{length-field8, length-batch_octets, number8-field8, cut_first, cut_count, cut_end}
+use Rattle.im_clog.proofs.FieldLemmas.{number8-field8, cut_first, cut_count, cut_end}
 use Rattle.im_clog.proofs.laws.a_staged_batch_is_read_back.Goals as goal
+use Rattle.im_octet.proofs.FieldLemmas.{length-field8}
+use Rattle.im_format.proofs.LengthLemmas.{length-batch}
 
 pub returns-clause-counts : goal.returns-clause-counts
 returns-clause-counts c before rest first count end = record {
@@ -13,7 +15,7 @@ returns-clause-counts c before rest first count end = record {
     arith,
     length-append before (1 ∷ (batch_octets first count end ++ rest)),
     length-append (batch_octets first count end) rest,
-    length-batch_octets first count end,
+    length-batch first count end,
   );
 }
 

@@ -1,5 +1,5 @@
-use Rattle.im_standing.proofs.EmptyLemmas.{empty-stands, none-stands, none-alone}
-use Rattle.im_standing.proofs.laws.no_batch_stands_for_the_empty_history.Goals as goal
+use Rattle.im_format.proofs.EmptyLemmas.{empty-stands, none-stands, none-alone}
+use Rattle.im_format.proofs.laws.no_batch_stands_for_the_empty_history.Goals as goal
 
 pub returns-clause-stands : goal.returns-clause-stands
 returns-clause-stands c = λ hash image none. none-stands hash image none

@@ -8,7 +8,7 @@ use Rattle.im_disk.specs.declared.calls.Call.TheVariants.{Wrote}
 use Rattle.im_disk.specs.declared.disk.DiskError.TheVariants as Disk
 use Rattle.im_journal.specs.Made.{MadeUpTo, Makes, writes_of}
 use Rattle.std.proofs.lemmas.List.{drop_all}
-use Rattle.im_journal.proofs.Making.{all_made, next_made, none_made, ok_isnt_err, stops_makes}
+use Rattle.im_journal.proofs.Making.{all_made, next_made, ok_isnt_err, stops_makes}
 use Rattle.im_journal.proofs.steps.put_pieces.Goals as goal
 
 pub put_piece-requires-clause-within : goal.put_piece-requires-clause-within

@@ -2,8 +2,8 @@ use Rattle.std.proofs.Common.{arith, ◌≡◌, ◌+◌, ◌∷◌, suc, ℕ, Li
 use Rattle.std.proofs.Math.ListN.{drop_of_length-le}
 use Rattle.im_format.specs.Places.{log_end, refs_of}
 use Rattle.im_format.specs.declared.records.Record.{Record}
-use Rattle.im_opening.proofs.EndLemmas.{log_end_append}
 use Rattle.im_opening.proofs.ends.end_of.Goals as goal
+use Rattle.im_format.proofs.EndLemmas.{log_end_append}
 
 pub loop-record-preserved : goal.loop-record-preserved
 loop-record-preserved c =

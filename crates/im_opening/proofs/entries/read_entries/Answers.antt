@@ -4,18 +4,19 @@ use Rattle.im_format.specs.Damages.{index_of}
 use Rattle.im_format.specs.Records.{AreReferences, entries_octets}
 use Rattle.im_format.specs.declared.references.ValueRef.{ValueRef}
 use Rattle.std.proofs.lemmas.List.{map-append}
-use Rattle.std.proofs.lemmas.List.Elements.{All-nil}
+use Rattle.std.proofs.lemmas.List.Elements.{All-nil, All-push}
 use Rattle.im_model.specs.Entries.{entry_digest}
 use Rattle.im_model.specs.History.{IsEntry}
 use Rattle.im_model.specs.declared.entries.Entry.{Entry}
 use Rattle.im_mtree.specs.Checks.{first_fail}
 use Rattle.im_opening.specs.Answers.{Tells}
 use Rattle.im_opening.specs.Parts.{entry_checks}
-use Rattle.im_opening.proofs.EntriesLeft.{EntriesLeft, all-next, apart-next, entries-first, entries-last, entries-next, entries-tell, keys-next, refers-next}
+use Rattle.im_opening.proofs.EntriesLeft.{EntriesLeft, apart-next, entries-first, entries-last, entries-next, entries-tell, keys-next}
 use Rattle.im_opening.proofs.Finding.{judge-err, ok-leaves}
 use Rattle.im_opening.proofs.PlaceLemmas.{entries-longer}
 use Rattle.im_opening.proofs.entries.read_entries.Goals as goal
-use Rattle.im_standing.proofs.KeyLemmas.{AreApart, apart-distinct}
+use Rattle.im_format.proofs.KeyLemmas.{AreApart, apart-distinct}
+use Rattle.im_format.proofs.EndLemmas.{references_more}
 
 pub loop-alloc-preserved : goal.loop-alloc-preserved
 loop-alloc-preserved g c =
@@ -42,14 +43,14 @@ loop-alloc-preserved g c =
           ∙ ap (λ (d : List ℕ). map (entry_digest hash) entries ++ d ∷ []) ens.digest
           ∙ sym (map-append (entry_digest hash) entries (e ∷ []))
           ∙ ap (λ (xs : List Entry). map (entry_digest hash) xs) (sym one);
-      are = subst (All IsEntry) (sym one) (all-next IsEntry entries e inv.are ens.is);
+      are = subst (All IsEntry) (sym one) (All-push IsEntry entries e inv.are ens.is);
       apart =
           subst (AreApart []) (sym one)
           (apart-next entries e inv.apart (subst (λ (ks : List (List ℕ)). index_of e.key ks ≡ length ks) inv.keys ens.fresh));
       refer =
           subst (λ (xs : List Entry). AreReferences hash c.args.id xs c.push-in-loop-alloc.new.self.items) (sym one)
           (subst (λ (rs : List ValueRef). AreReferences hash c.args.id (entries ++ e ∷ []) rs) (sym two)
-          (refers-next hash c.args.id entries refs e ref inv.refer ens.refers));
+          (references_more hash c.args.id entries refs e ref inv.refer ens.refers));
       whole =
           subst (λ (xs : List Entry). next ≡ c.args.at + length (entries_octets xs c.push-in-loop-alloc.new.self.items)) (sym one)
           (subst (λ (rs : List ValueRef). next ≡ c.args.at + length (entries_octets (entries ++ e ∷ []) rs)) (sym two)

@@ -4,7 +4,7 @@ use Rattle.im_format.specs.Records.{AreReferences, entries_octets}
 use Rattle.im_model.specs.Entries.{entry_digest}
 use Rattle.im_model.specs.History.{IsEntry}
 use Rattle.im_opening.proofs.EntriesLeft.{EntriesLeft}
-use Rattle.im_standing.proofs.KeyLemmas.{AreApart}
+use Rattle.im_format.proofs.KeyLemmas.{AreApart}
 use Rattle.im_opening.proofs.entries.read_entries.Given as goal
 
 abbrev pub invariant-loop-alloc : goal.invariant-loop-alloc

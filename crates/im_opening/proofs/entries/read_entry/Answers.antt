@@ -8,9 +8,9 @@ use Rattle.im_opening.specs.Answers.{of_record}
 use Rattle.im_opening.specs.Parts.{Shows}
 use Rattle.im_opening.proofs.Finding.{at-told, judge-err}
 use Rattle.im_opening.proofs.PlaceLemmas.{slot-ends}
-use Rattle.im_standing.proofs.EntryLemmas.{length-entry}
 use Rattle.im_opening.proofs.SlotFinds.{key-fresh, slot-fails, value-fails, value-finds}
 use Rattle.im_opening.proofs.entries.read_entry.Goals as goal
+use Rattle.im_format.proofs.LengthLemmas.{length-entry}
 
 entry-same : (a b c d e f : List ℕ) → a ≡ d → b ≡ e → c ≡ f
     → (let x : Entry = record { md = a; key = b; value = c } in let y : Entry = record { md = d; key = e; value = f } in x ≡ y)

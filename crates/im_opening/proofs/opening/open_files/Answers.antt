@@ -8,8 +8,8 @@ use Rattle.im_format.specs.Reading.{history_in}
 use Rattle.im_opening.specs.Cut.{IsHalfOpened, WasLeft}
 use Rattle.im_opening.specs.Answers.{of_disk}
 use Rattle.im_opening.specs.Opening.{IsRead}
-use Rattle.im_standing.proofs.HeldRecords.{Has32}
-use Rattle.im_standing.proofs.StandReads.{stands-once}
+use Rattle.im_format.proofs.HeldRecords.{Has32}
+use Rattle.im_format.proofs.StandReads.{stands-once}
 use Rattle.im_opening.proofs.GateLemmas.{batches-same, lacks-none}
 use Rattle.im_opening.proofs.OpenLemmas.{failed-left, failed-opened, if-err, read-left, repaired-leaves, rest-leaves, stopped-left, synced-told}
 use Rattle.im_opening.specs.Cut.{repaired}

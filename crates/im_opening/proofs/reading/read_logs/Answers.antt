@@ -14,9 +14,9 @@ use Rattle.im_opening.proofs.HistoryReads.{txs-read}
 use Rattle.im_opening.proofs.PlaceLemmas.{ends-lie, six-long}
 use Rattle.im_opening.proofs.RecordGrows.{consistent-records}
 use Rattle.im_opening.proofs.reading.read_logs.Goals as goal
-use Rattle.im_standing.proofs.FieldsBack.{IsSmall}
-use Rattle.im_standing.proofs.HeldRecords.{Has32}
-use Rattle.im_standing.proofs.StandsBack.{undamaged-stands}
+use Rattle.im_format.proofs.FieldsBack.{IsSmall}
+use Rattle.im_format.proofs.HeldRecords.{Has32}
+use Rattle.im_format.proofs.StandsBack.{undamaged-stands}
 
 pub returns-clause-records : goal.returns-clause-records
 returns-clause-records g c =

@@ -14,8 +14,8 @@ use Rattle.im_opening.proofs.GateLemmas.{batches-same, lacks-none}
 use Rattle.im_opening.proofs.OpenLemmas.{if-err}
 use Rattle.im_opening.specs.Opening.{IsRead}
 use Rattle.im_opening.specs.Reach.{txs_of}
-use Rattle.im_standing.proofs.HeldRecords.{Has32}
-use Rattle.im_standing.proofs.StandReads.{stands-once}
+use Rattle.im_format.proofs.HeldRecords.{Has32}
+use Rattle.im_format.proofs.StandReads.{stands-once}
 use Rattle.im_recovery.proofs.FoundLemmas.{IsOpened, Rests, match-err, never-damaged, rests-with}
 use Rattle.im_recovery.proofs.recovery.open.Goals as goal
 

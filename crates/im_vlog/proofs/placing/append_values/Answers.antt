@@ -5,8 +5,9 @@ use Rattle.im_format.specs.Records.{AreReferences}
 use Rattle.im_format.specs.declared.references.ValueRef.{ValueRef}
 use Rattle.im_model.specs.declared.entries.Entry.{Entry}
 use Rattle.im_vlog.specs.Ends.{reference_of, AreEnds}
-use Rattle.im_vlog.proofs.PlaceLemmas.{appended_more, references_more, at_end, ends_more, is_reference, room_more}
+use Rattle.im_vlog.proofs.PlaceLemmas.{appended_more, at_end, ends_more, is_reference, room_more}
 use Rattle.im_vlog.proofs.placing.append_values.Goals as goal
+use Rattle.im_format.proofs.EndLemmas.{references_more}
 
 one_taken : (es : List Entry) (i : ℕ) (e : Entry) → i < length es → e ≡ get_or es i e → take (i + 1) es ≡ take i es ++ e ∷ []
 one_taken es i e lt is = take_more es i e lt ∙ ap (λ (x : Entry). take i es ++ x ∷ []) (sym is)
