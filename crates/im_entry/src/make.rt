@@ -7,7 +7,7 @@ ghost use Rattle.im_entry.specs.declared.make.EntryError.{EntryError};
 
 use im_draft::drafts::{Attrs, Draft};
 use im_model::entries::Entry;
-use im_model::limits::{EntryValue, Key, Metadata};
+use im_model::limits::{EntryValue, Key, MOST_KEY_OCTETS, MOST_VALUE_OCTETS, Metadata};
 use im_octet::octets::Octets;
 use std::alloc::{AllocError, Global};
 use thiserror::Error;
@@ -49,11 +49,11 @@ pub fn check_lengths(draft: &Draft) -> Result<(), EntryError>
     if key == 0 {
         return Err(EntryError::KeyEmpty);
     }
-    if key > 1024 {
+    if key > MOST_KEY_OCTETS {
         return Err(EntryError::KeyLong { len: key as u64 });
     }
     let value = draft.value.len();
-    if value > 4096 {
+    if value > MOST_VALUE_OCTETS {
         return Err(EntryError::ValueLong { len: value as u64 });
     }
     Ok(())

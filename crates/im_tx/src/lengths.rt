@@ -5,6 +5,7 @@ ghost use Rattle.im_tx.specs.Faults.{refusal_at};
 use im_draft::drafts::Draft;
 use im_draft::refusals::PrepareError;
 use im_entry::make::{EntryError, check_lengths};
+use im_model::limits::MOST_ENTRIES;
 
 // Tests that the drafts are neither none nor too many.
 pub(crate) fn check_number(drafts: &[Draft]) -> Result<(), PrepareError>
@@ -16,7 +17,7 @@ pub(crate) fn check_number(drafts: &[Draft]) -> Result<(), PrepareError>
     if n == 0 {
         return Err(PrepareError::NoEntries);
     }
-    if n > 1024 {
+    if n > MOST_ENTRIES as usize {
         return Err(PrepareError::TooMany { n: n as u64 });
     }
     Ok(())

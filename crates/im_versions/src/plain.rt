@@ -13,13 +13,11 @@ use crate::refusals::PlaceError;
 use crate::versions::{Version, Versions};
 use im_draft::preconditions::Pre;
 use im_model::entries::Entry;
+use im_model::limits::MOST_TRANSACTIONS;
 use im_model::transactions::Transaction;
 use im_octet::octets::Octets;
 use std::alloc::{AllocError, Global};
 use std::cmp::Ordering;
-
-// The most transactions that a history may hold.
-const MOST: usize = 1_048_576;
 
 // Puts the versions that the entries of transaction `k` are behind the others.
 fn add_versions(
@@ -248,7 +246,7 @@ pub fn place_refusal(
 ) -> Result<Option<PlaceError>, AllocError>
     ensures { IfOk result (λ refusal. refusal ≡ place_refusal history.now pres.now) }
 {
-    if history.len() >= MOST {
+    if history.len() >= MOST_TRANSACTIONS as usize {
         return Ok(Some(PlaceError::Full));
     }
     first_refusal(alloc, history, pres)
