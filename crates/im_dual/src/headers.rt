@@ -5,6 +5,7 @@ ghost use Rattle.im_proof.specs.HeaderChecks.{header_checks};
 ghost use Rattle.im_proof.specs.Duals.{as_faults, order_checks, both_headers_checks};
 
 use im_model::headers::Header;
+use im_model::limits::MOST_ENTRIES;
 use im_proof::faults::{DualFault, HeaderFault};
 
 /// Whether a header is one that this store makes. It takes no memory.
@@ -25,9 +26,9 @@ pub fn check_header(header: &Header) -> Result<(), HeaderFault>
     if header.nentries == 0 {
         return Err(HeaderFault::Entries { want: 1, got: 0 });
     }
-    if header.nentries > 1024 {
+    if header.nentries > MOST_ENTRIES {
         return Err(HeaderFault::Entries {
-            want: 1024,
+            want: MOST_ENTRIES,
             got: header.nentries,
         });
     }
