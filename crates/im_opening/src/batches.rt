@@ -14,10 +14,8 @@ use im_clog::marks::Mark;
 use im_digest::Hash32;
 use im_disk::disk::Disk;
 use im_format::damages::{Damage, Difference};
+use im_model::limits::MOST_TRANSACTIONS;
 use std::alloc::Global;
-
-// The greatest number of transactions.
-const MOST: u64 = 1_048_576;
 
 // Two numbers of the commit log that differ where they should not.
 fn damage(at: u64, want: u64, got: u64) -> Damage
@@ -41,8 +39,8 @@ fn check_mark(mark: &Mark, gate: u64, before: u64) -> Result<(), Damage>
     if mark.count == 0 {
         return Err(damage(gate + 9, 1, 0));
     }
-    if mark.count > MOST - before {
-        return Err(damage(gate + 9, MOST - before, mark.count));
+    if mark.count > MOST_TRANSACTIONS - before {
+        return Err(damage(gate + 9, MOST_TRANSACTIONS - before, mark.count));
     }
     Ok(())
 }

@@ -21,13 +21,11 @@ use im_alog::reading::read_all;
 use im_clog::marks::{Mark, Uncounted, batch_at};
 use im_digest::{D32, Hash32};
 use im_disk::disk::{Disk, DiskError};
+use im_format::files::{BATCH_OCTETS, COMMIT_LOG, FIRST_VALUE_LOG, TRANSACTION_LOG};
 use im_format::records::Record;
 use im_frontier::frontiers::Frontier;
 use im_model::headers::Header;
 use std::alloc::Global;
-
-// The number of octets from a gate to the next one.
-const BATCH: usize = 25;
 
 /// The files as they were read: the records of the batches that count, in order, and where these end.
 #[derive(Drop)]
@@ -94,7 +92,7 @@ fn read_batches<D: Disk, H: Hash32>(
         match batch_at(commits, gate) {
             Ok(mark) => {
                 read_batch(alloc, hash, disk, source, &mark, gate as u64, &mut progress)?;
-                gate += BATCH;
+                gate += BATCH_OCTETS;
                 batches += 1;
             }
             Err(behind) => {
@@ -115,10 +113,10 @@ fn log_lengths<D: Disk>(disk: &mut D) -> Result<[u64; 4], DiskError>
     ensures told { D.told disk.new ≡ D.told disk.old }
     ensures cause { HasCause (D.faults disk.old) (D.faults disk.new) result }
 {
-    let first = disk.len(2)?;
-    let second = disk.len(3)?;
-    let third = disk.len(4)?;
-    let fourth = disk.len(5)?;
+    let first = disk.len(FIRST_VALUE_LOG)?;
+    let second = disk.len(FIRST_VALUE_LOG + 1)?;
+    let third = disk.len(FIRST_VALUE_LOG + 2)?;
+    let fourth = disk.len(FIRST_VALUE_LOG + 3)?;
     Ok([first, second, third, fourth])
 }
 
@@ -199,7 +197,7 @@ pub fn read_files<D: Disk, H: Hash32>(
     ensures told { D.told disk.new ≡ D.told disk.old }
     ensures cause { HasOpenCause (D.faults disk.old) (D.faults disk.new) result }
 {
-    let commits = read_all(alloc, disk, 1)?;
-    let log = read_all(alloc, disk, 0)?;
+    let commits = read_all(alloc, disk, COMMIT_LOG)?;
+    let log = read_all(alloc, disk, TRANSACTION_LOG)?;
     read_logs(alloc, hash, disk, commits.as_slice(), log.as_slice())
 }
