@@ -6,14 +6,12 @@ use im_draft::preconditions::Pres;
 use im_frontier::frontiers::Frontier;
 use im_header::alh;
 use im_model::headers::Header;
+use im_model::limits::MOST_TRANSACTIONS;
 use im_model::transactions::Transaction;
 use im_tx::prepared::Prepared;
 use im_versions::refusals::PlaceError;
 use std::alloc::{AllocError, Global};
 use std::marker::Model;
-
-// The most transactions that a history may hold.
-const MOST: usize = 1_048_576;
 
 /// Placed transactions, with the header and the Alh of each. A clause sees the three lists.
 ///
@@ -151,7 +149,7 @@ impl Book {
         ensures refused { IfErr result (λ why. place_refusal self.now.transactions pres ≡ Some why) }
         ensures room { OnOk result (length self.now.transactions < 1048576) }
     {
-        if self.transactions.len() >= MOST {
+        if self.transactions.len() >= MOST_TRANSACTIONS as usize {
             return Err(PlaceError::Full);
         }
         judge_each(self.transactions.as_slice(), pres)
