@@ -1,10 +1,12 @@
 // The writes of a batch.
 ghost use Rattle.std.specs.Prelude.{◌≡◌, ◌<◌, ◌≤◌, ◌+◌, ◌^◌, ◌++◌, ℕ, IfOk, OnOk, length, All};
+ghost use Rattle.im_format.specs.Places.{log_values};
 ghost use Rattle.im_format.specs.Records.{records_octets};
 ghost use Rattle.im_record.specs.Writing.{IsWhole};
 ghost use Rattle.im_journal.specs.Pieces.{end_of, ends_after, log_pieces, pieces_of, value_piece};
 
 use im_clog::batches::batch_octets;
+use im_format::files::{BATCH_OCTETS, COMMIT_LOG, FIRST_VALUE_LOG, TRANSACTION_LOG};
 use im_format::records::Record;
 use im_format::spans::Span;
 use im_octet::octets::Octets;
@@ -34,30 +36,35 @@ pub(crate) fn plan_of(
     ensures ends { IfOk result (λ plan. plan.ends ≡ ends_after ends.now id records.now) }
 {
     let mut pieces = Vec::new(alloc);
-    let first = push_value_piece(&mut pieces, 2, ends[2], log_values(alloc, 0, records)?)?;
-    let second = push_value_piece(&mut pieces, 3, ends[3], log_values(alloc, 1, records)?)?;
-    let third = push_value_piece(&mut pieces, 4, ends[4], log_values(alloc, 2, records)?)?;
-    let fourth = push_value_piece(&mut pieces, 5, ends[5], log_values(alloc, 3, records)?)?;
+    let first = push_value_piece(alloc, &mut pieces, 0, ends[2], records)?;
+    let second = push_value_piece(alloc, &mut pieces, 1, ends[3], records)?;
+    let third = push_value_piece(alloc, &mut pieces, 2, ends[4], records)?;
+    let fourth = push_value_piece(alloc, &mut pieces, 3, ends[5], records)?;
     let end = push_log_pieces(alloc, &mut pieces, ends, id, records)?;
+    let gate = ends[1] + BATCH_OCTETS as u64;
     Ok(Plan {
         pieces,
-        ends: [end, ends[1] + 25, first, second, third, fourth],
+        ends: [end, gate, first, second, third, fourth],
     })
 }
 
 // Adds the write of a value log, where it gets octets, and gives the log's end behind it.
 fn push_value_piece(
+    alloc: Global,
     pieces: &mut Vec<Span>,
-    file: u8,
+    log: u8,
     at: u64,
-    octets: Vec<u8>,
+    records: &[Record],
 ) -> Result<u64, AllocError>
-    requires { at < 2 ^ 61 }
-    ensures piece { OnOk result (pieces.new.items ≡ pieces.old.items ++ value_piece file at octets.items) }
-    ensures end { IfOk result (λ end. end ≡ at + length octets.items) }
+    requires log { log ≤ 3 }
+    requires place { at < 2 ^ 61 }
+    ensures piece { OnOk result (pieces.new.items ≡ pieces.old.items ++ value_piece (2 + log) at (log_values log records.now)) }
+    ensures end { IfOk result (λ end. end ≡ at + length (log_values log records.now)) }
 {
+    let octets = log_values(alloc, log, records)?;
     let end = at + octets.len() as u64;
     if !octets.is_empty() {
+        let file = FIRST_VALUE_LOG + log;
         let octets = Octets::from_vec(octets);
         pieces
             .push(Span { file, at, octets })
@@ -89,14 +96,14 @@ fn push_log_pieces(
     let octets = Octets::from_vec(octets);
     pieces
         .push(Span {
-            file: 0,
+            file: TRANSACTION_LOG,
             at: ends[0],
             octets,
         })
         .map_err(AllocError::from)?;
     pieces
         .push(Span {
-            file: 1,
+            file: COMMIT_LOG,
             at: ends[1] + 1,
             octets: fields,
         })

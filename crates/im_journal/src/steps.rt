@@ -9,6 +9,7 @@ ghost use Rattle.im_journal.specs.Made.{Makes, writes_of};
 ghost use Rattle.im_journal.specs.Phases.{FitsDisk, IsSafe, IsStaging, IsSealed, IsEither, IsGated, IsDone};
 
 use im_disk::disk::{Disk, DiskError};
+use im_format::files::COMMIT_LOG;
 use im_format::spans::Span;
 
 /// Writes the next piece of a batch.
@@ -94,7 +95,7 @@ pub(crate) fn open_gate<D: Disk>(disk: &mut D, gate: u64) -> Result<(), DiskErro
     ensures calls { Makes DiskError.Failed DiskError.Memory (Wrote 1 gate (1 ∷ []) ∷ []) (Wrote 1 gate (1 ∷ []) ∷ []) (D.told disk.old) (D.told disk.new) result }
     ensures cause { HasCause (D.faults disk.old) (D.faults disk.new) result }
 {
-    disk.write_at(1, gate, &[1])
+    disk.write_at(COMMIT_LOG, gate, &[1])
 }
 
 /// Makes the gate of a batch durable.
