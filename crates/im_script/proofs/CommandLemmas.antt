@@ -9,7 +9,7 @@ use Rattle.im_text.specs.Fields.{IsOctets}
 use Rattle.im_script.specs.declared.commands.Command.{Command}
 use Rattle.im_script.specs.declared.commands.Command.TheVariants.{Set, Get, Scan, History, Header, State, Prove, Advance, Item, Link}
 use Rattle.im_script.specs.Script.{AreAsked, AreNumbers, IsItem, IsLookup, IsCommand}
-use Rattle.im_script.specs.Arguments.{IsSet, IsDelete, IsGet, IsScanCommand, IsHistoryCommand, IsHeader, IsState, IsProve, IsAdvance, IsItemCommand, IsLink}
+use Rattle.im_script.specs.Arguments.{IsSet, IsDelete, IsGet, IsScanCommand, IsHistoryCommand, IsHeaderCommand, IsState, IsProve, IsAdvance, IsItemCommand, IsLink}
 
 seconds-differ : (o p q : ℕ) (a b : List ℕ) → (p == q) ≡ false → o ∷ p ∷ a ≡ o ∷ q ∷ b → ⊥
 seconds-differ o p q a b other e = heads-differ p q a b other (head-is o o (p ∷ a) (q ∷ b) e).1
@@ -64,7 +64,7 @@ only-history rest (Header n) h = absurd (seconds-differ 104 105 101 _ _ refl h.1
 only-history rest State h = absurd (heads-differ 104 115 _ _ refl h)
 only-history rest other h = absurd (heads-differ 104 _ _ _ refl h.1)
 
-pub only-header : (rest : List ℕ) (c : Command) → IsCommand (codes "header " ++ rest) c → IsHeader rest c
+pub only-header : (rest : List ℕ) (c : Command) → IsCommand (codes "header " ++ rest) c → IsHeaderCommand rest c
 only-header rest (Header n) h =
     (n, refl, subst (λ (t : List ℕ). IsNumber t n) (append-same (codes "header ") h.0 rest (sym h.1)) h.2)
 only-header rest (Set pres drafts) h = absurd (no-set 104 _ pres drafts refl refl h)
@@ -132,9 +132,9 @@ pub found-history : (text rest : List ℕ) → text ≡ codes "history " ++ rest
 found-history text rest e =
     found (codes "history ") text rest (IsHistoryCommand rest) e (λ c h. subst (λ (d : Command). IsCommand (codes "history " ++ rest) d) (sym h.1) (rest, refl, h.2)) (only-history rest)
 
-pub found-header : (text rest : List ℕ) → text ≡ codes "header " ++ rest → (o : Option Command) → Finds o (IsHeader rest) → Finds o (IsCommand text)
+pub found-header : (text rest : List ℕ) → text ≡ codes "header " ++ rest → (o : Option Command) → Finds o (IsHeaderCommand rest) → Finds o (IsCommand text)
 found-header text rest e =
-    found (codes "header ") text rest (IsHeader rest) e (λ c h. subst (λ (d : Command). IsCommand (codes "header " ++ rest) d) (sym h.1) (rest, refl, h.2)) (only-header rest)
+    found (codes "header ") text rest (IsHeaderCommand rest) e (λ c h. subst (λ (d : Command). IsCommand (codes "header " ++ rest) d) (sym h.1) (rest, refl, h.2)) (only-header rest)
 
 pub found-state : (text rest : List ℕ) → text ≡ codes "state" ++ rest → (o : Option Command) → Finds o (IsState rest) → Finds o (IsCommand text)
 found-state text rest e =

@@ -14,8 +14,8 @@ use Rattle.im_text.specs.Fields.{IsOctets, is_session_octet}
 use Rattle.im_script.specs.declared.commands.Command.{Command}
 use Rattle.im_script.specs.declared.commands.Command.TheVariants.{Set, Get, Scan, History, Header, State, Prove, Advance, Item, Link}
 use Rattle.im_script.specs.declared.commands.Line.{Line}
-use Rattle.im_script.specs.Script.{deletion, AreNumbers, IsAt, IsCommand, IsLine, IsLookup, IsPassedOver, IsScript, MayFollow, Say, Stop, StopsAfter}
-use Rattle.im_script.specs.Arguments.{IsSet, IsDelete, IsGet, IsScanCommand, IsHistoryCommand, IsHeader, IsIndex, IsState, IsProve, IsAdvance, IsItemCommand, IsLink}
+use Rattle.im_script.specs.Script.{deletion, AreNumbers, IsAt, IsCommand, IsScriptLine, IsLookup, IsPassedOver, IsScript, MayFollow, Say, Stop, StopsAfter}
+use Rattle.im_script.specs.Arguments.{IsSet, IsDelete, IsGet, IsScanCommand, IsHistoryCommand, IsHeaderCommand, IsIndex, IsState, IsProve, IsAdvance, IsItemCommand, IsLink}
 use Rattle.im_script.proofs.CommandLemmas.{advance-no-numbers, found-set, found-delete, found-get, found-scan, found-history, found-header, found-state, found-prove, found-advance, found-item, found-link, prove-no-numbers}
 use Rattle.im_text.proofs.DecideLemmas.{truth}
 use Rattle.im_script.proofs.Decisions.{Decided, after-decided, by-cut, decided-by, decided-else, first-field, index-decided, number-decided, octets-decided}
@@ -99,9 +99,9 @@ history-decided : (text : List ℕ) → Decided (IsHistoryCommand text)
 history-decided text =
     decided-by (IsOctets text) (IsHistoryCommand text) (λ key k. inl (History key, (key, refl, k))) (λ none c h. none h.0 h.2) (octets-decided text)
 
-header-decided : (text : List ℕ) → Decided (IsHeader text)
+header-decided : (text : List ℕ) → Decided (IsHeaderCommand text)
 header-decided text =
-    decided-by (IsNumber text) (IsHeader text) (λ n h. inl (Header n, (n, refl, h))) (λ none c h. none h.0 h.2) (number-decided text)
+    decided-by (IsNumber text) (IsHeaderCommand text) (λ n h. inl (Header n, (n, refl, h))) (λ none c h. none h.0 h.2) (number-decided text)
 
 state-decided : (text : List ℕ) → Decided (IsState text)
 state-decided [] = inl (State, (refl, refl))
@@ -156,7 +156,7 @@ command-decided text = by-word text (codes "set") IsSet (found-set text) set-dec
     (λ delete. by-word text (codes "get ") IsGet (found-get text) get-decided
     (λ get. by-word text (codes "scan ") IsScanCommand (found-scan text) scan-decided
     (λ scan. by-word text (codes "history ") IsHistoryCommand (found-history text) history-decided
-    (λ history. by-word text (codes "header ") IsHeader (found-header text) header-decided
+    (λ history. by-word text (codes "header ") IsHeaderCommand (found-header text) header-decided
     (λ header. by-word text (codes "state") IsState (found-state text) state-decided
     (λ state. by-word text (codes "prove ") IsProve (found-prove text) prove-decided
     (λ prove. by-word text (codes "advance ") IsAdvance (found-advance text) advance-decided
@@ -165,14 +165,14 @@ command-decided text = by-word text (codes "set") IsSet (found-set text) set-dec
     (λ link. inr (no-command text set delete get scan history header state prove advance item link))))))))))))
 
 -- the line that a text says
-pub line-decided : (text : List ℕ) → Decided (IsLine text)
-line-decided text = by-cut (IsLine text) 58 text (λ front tail cut. go front tail cut (truth (is_word 16 is_session_octet front)))
+pub line-decided : (text : List ℕ) → Decided (IsScriptLine text)
+line-decided text = by-cut (IsScriptLine text) 58 text (λ front tail cut. go front tail cut (truth (is_word 16 is_session_octet front)))
     (λ lacks line h. Lacks-mark 58 line.session (32 ∷ h.0) (subst (λ (t : List ℕ). Lacks 58 t) h.1 lacks))
   where
-    go : (front tail : List ℕ) → IsCut 58 text front tail → (is_word 16 is_session_octet front ≡ true) ⊎ (is_word 16 is_session_octet front ≡ false) → Decided (IsLine text)
+    go : (front tail : List ℕ) → IsCut 58 text front tail → (is_word 16 is_session_octet front ≡ true) ⊎ (is_word 16 is_session_octet front ≡ false) → Decided (IsScriptLine text)
     go front tail cut (inl is) =
-        decided-by (λ (rest : List ℕ). tail ≡ codes " " ++ rest) (IsLine text)
-        (λ rest e. decided-by (IsCommand rest) (IsLine text)
+        decided-by (λ (rest : List ℕ). tail ≡ codes " " ++ rest) (IsScriptLine text)
+        (λ rest e. decided-by (IsCommand rest) (IsScriptLine text)
         (λ c h. inl (record { session = front; command = c }, (rest, cut.1 ∙ ap (λ (t : List ℕ). front ++ 58 ∷ t) e, is, h)))
         (line-bad-command text front tail rest cut e) (command-decided rest))
         (line-no-space text front tail cut) (after-decided (codes " ") tail)
@@ -209,16 +209,16 @@ one-text before text texts rest = go (passed-decided text)
     passed p (inl h) = inl (h.0, inl (p, h.1))
     passed p (inr h) = inr (suc h.0, inl (p, h.1))
 
-    said : (line : Line) → IsLine text line → MayFollow before line → SaysOrStops (before ++ line ∷ []) texts → SaysOrStops before (text ∷ texts)
+    said : (line : Line) → IsScriptLine text line → MayFollow before line → SaysOrStops (before ++ line ∷ []) texts → SaysOrStops before (text ∷ texts)
     said line is follows (inl h) = inl (line ∷ h.0, inr (line, h.0, refl, is, follows, h.1))
     said line is follows (inr h) = inr (suc h.0, inr (line, is, follows, h.1))
 
-    placed : (IsPassedOver text → ⊥) → (line : Line) → IsLine text line → MayFollow before line ⊎ (MayFollow before line → ⊥) → SaysOrStops before (text ∷ texts)
+    placed : (IsPassedOver text → ⊥) → (line : Line) → IsScriptLine text line → MayFollow before line ⊎ (MayFollow before line → ⊥) → SaysOrStops before (text ∷ texts)
     placed unpassed line is (inl follows) = said line is follows (rest (before ++ line ∷ []))
     placed unpassed line is (inr bad) =
         inr (zero, (unpassed, λ other so follows. bad (subst (λ (l : Line). MayFollow before l) (line-unique text other line so is) follows)))
 
-    read : (IsPassedOver text → ⊥) → Decided (IsLine text) → SaysOrStops before (text ∷ texts)
+    read : (IsPassedOver text → ⊥) → Decided (IsScriptLine text) → SaysOrStops before (text ∷ texts)
     read unpassed (inl h) = placed unpassed h.0 h.1 (follow-decided before h.0)
     read unpassed (inr none) = inr (zero, (unpassed, λ line is follows. none line is))
 

@@ -5,7 +5,7 @@ use Rattle.im_script.specs.declared.commands.Line.{Line}
 use Rattle.im_text.specs.Lines.{AreTexts, IsFirstText}
 use Rattle.im_text.proofs.LineLemmas.{texts-exist, texts-more}
 use Rattle.im_script.specs.Script.{Say, Stop, IsScript, StopsAfter}
-use Rattle.im_script.specs.Arguments.{IsTaken, IsRefused}
+use Rattle.im_script.specs.Arguments.{IsTaken, IsTextRefused}
 
 -- behind the lines before them, the octets say these lines
 abbrev pub ScriptBehind : List Line → List ℕ → List Line → Type 0
@@ -16,7 +16,7 @@ abbrev pub StopsBehind : List Line → List ℕ → ℕ → Type 0
 StopsBehind before octets n = (texts : List (List ℕ)) × AreTexts octets texts × Stop before texts n
 
 -- the next text is refused
-pub stops-here : (before : List Line) (octets text behind : List ℕ) → 0 < length octets → IsFirstText octets text behind → IsRefused before text → StopsBehind before octets 0
+pub stops-here : (before : List Line) (octets text behind : List ℕ) → 0 < length octets → IsFirstText octets text behind → IsTextRefused before text → StopsBehind before octets 0
 stops-here before octets text behind some first refused =
     let t = texts-exist behind in (text ∷ t.0, texts-more octets text behind t.0 some first t.1, refused)
 

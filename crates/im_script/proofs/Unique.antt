@@ -11,7 +11,7 @@ use Rattle.im_script.specs.declared.commands.Command.TheVariants.{Set, Get, Scan
 use Rattle.im_script.specs.declared.commands.Line.{Line}
 use Rattle.im_text.specs.Fields.{is_session_octet, IsSession}
 use Rattle.im_text.proofs.LineLemmas.{texts-unique}
-use Rattle.im_script.specs.Script.{deletion, IsCommand, IsLine, IsPassedOver, Say, Stop, IsScript, StopsAfter}
+use Rattle.im_script.specs.Script.{deletion, IsCommand, IsScriptLine, IsPassedOver, Say, Stop, IsScript, StopsAfter}
 use Rattle.im_script.proofs.FieldLemmas.{octets-unique, session-lacks}
 use Rattle.im_script.proofs.AskedLemmas.{asked-unique}
 use Rattle.im_script.proofs.NumberLemmas.{numbers-unique, item-unique}
@@ -59,7 +59,7 @@ command-unique text (Link m) b x y =
     ap Link (number-unique x.0 m z.0 x.2 z.2) ∙ sym z.1
 
 -- a text says one line at most
-pub line-unique : (text : List ℕ) (a b : Line) → IsLine text a → IsLine text b → a ≡ b
+pub line-unique : (text : List ℕ) (a b : Line) → IsScriptLine text a → IsScriptLine text b → a ≡ b
 line-unique text a b x y =
     let e = cut-unique 58 a.session b.session (32 ∷ x.0) (32 ∷ y.0) (session-lacks a.session x.2) (session-lacks b.session y.2) (sym x.1 ∙ y.1) in
     let rest = (head-is 32 32 x.0 y.0 e.1).1 in
@@ -84,7 +84,7 @@ some-text [] rest e = cc
 some-text (o ∷ session) rest e = cc
 
 -- what is passed over says no line
-pub passed-no-line : (text : List ℕ) (line : Line) → IsPassedOver text → IsLine text line → ⊥
+pub passed-no-line : (text : List ℕ) (line : Line) → IsPassedOver text → IsScriptLine text line → ⊥
 passed-no-line text line (inl e) h = some-text line.session (32 ∷ h.0) (sym e ∙ h.1)
 passed-no-line text line (inr x) h = begins-no-session line.session (32 ∷ h.0) x.0 35 refl h.2 (sym x.1 ∙ h.1)
 

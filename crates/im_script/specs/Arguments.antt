@@ -5,7 +5,7 @@ use Rattle.im_text.specs.Words.{IsNumber}
 use Rattle.im_text.specs.Fields.{IsOctets}
 use Rattle.im_draft.specs.declared.drafts.Draft.{Draft}
 use Rattle.im_draft.specs.declared.preconditions.Pre.{Pre}
-use Rattle.im_script.specs.Script.{deletion, AreAsked, AreNumbers, IsItem, IsLookup, IsLine, IsPassedOver, MayFollow}
+use Rattle.im_script.specs.Script.{deletion, AreAsked, AreNumbers, IsItem, IsLookup, IsScriptLine, IsPassedOver, MayFollow}
 use Rattle.im_script.specs.declared.commands.Command.{Command}
 use Rattle.im_script.specs.declared.commands.Command.TheVariants.{Set, Get, Scan, History, Header, State, Prove, Advance, Item, Link}
 use Rattle.im_script.specs.declared.commands.Line.{Line}
@@ -43,8 +43,8 @@ abbrev pub IsHistoryCommand : List ℕ → Command → Type 0
 IsHistoryCommand text command = (key : List ℕ) × (command ≡ History key) × IsOctets text key
 
 -- the text behind `header `
-abbrev pub IsHeader : List ℕ → Command → Type 0
-IsHeader text command = (number : ℕ) × (command ≡ Header number) × IsNumber text number
+abbrev pub IsHeaderCommand : List ℕ → Command → Type 0
+IsHeaderCommand text command = (number : ℕ) × (command ≡ Header number) × IsNumber text number
 
 -- the text behind `state`
 abbrev pub IsState : List ℕ → Command → Type 0
@@ -71,9 +71,9 @@ IsLink text command = (count : ℕ) × (command ≡ Link count) × IsNumber text
 abbrev pub IsTaken : List Line → List ℕ → List Line → Type 0
 IsTaken before text after =
     (IsPassedOver text × (after ≡ before))
-    ⊎ ((line : Line) × (after ≡ before ++ line ∷ []) × IsLine text line × MayFollow before line)
+    ⊎ ((line : Line) × (after ≡ before ++ line ∷ []) × IsScriptLine text line × MayFollow before line)
 
 -- the text is neither passed over nor says a line that may follow
-abbrev pub IsRefused : List Line → List ℕ → Type 0
-IsRefused before text =
-    (IsPassedOver text → ⊥) × ((line : Line) → IsLine text line → MayFollow before line → ⊥)
+abbrev pub IsTextRefused : List Line → List ℕ → Type 0
+IsTextRefused before text =
+    (IsPassedOver text → ⊥) × ((line : Line) → IsScriptLine text line → MayFollow before line → ⊥)

@@ -88,8 +88,8 @@ IsCommand text (Item number index under) = (rest : List ℕ) × (text ≡ codes 
 IsCommand text (Link count) = (digits : List ℕ) × (text ≡ codes "link " ++ digits) × IsNumber digits count
 
 -- the text of a line, without its LF: `<session>: <command>`
-abbrev pub IsLine : List ℕ → Line → Type 0
-IsLine text line =
+abbrev pub IsScriptLine : List ℕ → Line → Type 0
+IsScriptLine text line =
     (rest : List ℕ) × (text ≡ line.session ++ 58 ∷ 32 ∷ rest) × IsSession line.session × IsCommand rest line.command
 
 -- a text that is passed over: an empty one, or a comment
@@ -106,16 +106,16 @@ abbrev pub Say : List Line → List (List ℕ) → List Line → Type 0
 Say before [] lines = lines ≡ []
 Say before (text ∷ texts) lines =
     (IsPassedOver text × Say before texts lines)
-    ⊎ ((line : Line) × (rest : List Line) × (lines ≡ line ∷ rest) × IsLine text line × MayFollow before line × Say (before ++ line ∷ []) texts rest)
+    ⊎ ((line : Line) × (rest : List Line) × (lines ≡ line ∷ rest) × IsScriptLine text line × MayFollow before line × Say (before ++ line ∷ []) texts rest)
 
 -- behind the lines before them, n of the texts are passed over or say lines, and the next one does neither
 abbrev pub Stop : List Line → List (List ℕ) → ℕ → Type 0
 Stop before [] n = ⊥
 Stop before (text ∷ texts) zero =
-    (IsPassedOver text → ⊥) × ((line : Line) → IsLine text line → MayFollow before line → ⊥)
+    (IsPassedOver text → ⊥) × ((line : Line) → IsScriptLine text line → MayFollow before line → ⊥)
 Stop before (text ∷ texts) (suc n) =
     (IsPassedOver text × Stop before texts n)
-    ⊎ ((line : Line) × IsLine text line × MayFollow before line × Stop (before ++ line ∷ []) texts n)
+    ⊎ ((line : Line) × IsScriptLine text line × MayFollow before line × Stop (before ++ line ∷ []) texts n)
 
 -- the octets are a script of these lines
 abbrev pub IsScript : List ℕ → List Line → Type 0

@@ -3,7 +3,7 @@
 
 ghost use Rattle.std.specs.Prelude.{◌≡◌, ◌⊎◌, ℕ, List};
 ghost use Rattle.im_script.specs.declared.commands.Line.{Line};
-ghost use Rattle.im_script.specs.Script.{IsLine, IsScript, StopsAfter};
+ghost use Rattle.im_script.specs.Script.{IsScriptLine, IsScript, StopsAfter};
 
 /// A script is read in one way at most.
 pub fn one_reading()
@@ -22,7 +22,7 @@ pub fn one_stop()
 
 /// A text says one line at most.
 pub fn one_line()
-    ensures { (text : List ℕ) (a b : Line) → IsLine text a → IsLine text b → a ≡ b }
+    ensures { (text : List ℕ) (a b : Line) → IsScriptLine text a → IsScriptLine text b → a ≡ b }
 {}
 
 /// Octets are a script, or they stop at a line.

@@ -1,7 +1,7 @@
 ghost use Rattle.std.specs.Prelude.{IfOk};
 ghost use Rattle.im_text.specs.Finds.{Finds};
-ghost use Rattle.im_script.specs.Script.{IsCommand, IsLine};
-ghost use Rattle.im_script.specs.Arguments.{IsSet, IsDelete, IsGet, IsScanCommand, IsHistoryCommand, IsHeader, IsState, IsProve, IsAdvance, IsItemCommand, IsLink};
+ghost use Rattle.im_script.specs.Script.{IsCommand, IsScriptLine};
+ghost use Rattle.im_script.specs.Arguments.{IsSet, IsDelete, IsGet, IsScanCommand, IsHistoryCommand, IsHeaderCommand, IsState, IsProve, IsAdvance, IsItemCommand, IsLink};
 
 use crate::commands::{Command, Line};
 use crate::fields::first_field;
@@ -82,7 +82,7 @@ fn read_history(alloc: Global, text: &[u8]) -> Result<Option<Command>, AllocErro
 
 // What stands behind `header `.
 fn read_header(text: &[u8]) -> Option<Command>
-    ensures { Finds result (IsHeader text.now) }
+    ensures { Finds result (IsHeaderCommand text.now) }
 {
     let number = read_number(text)?;
     Some(Command::Header { number })
@@ -180,7 +180,7 @@ fn read_command(alloc: Global, text: &[u8]) -> Result<Option<Command>, AllocErro
 
 /// The line that a text says, without its LF, or `None` where it says none. Only memory fails.
 pub fn read_line(alloc: Global, text: &[u8]) -> Result<Option<Line>, AllocError>
-    ensures { IfOk result (λ line. Finds line (IsLine text.now)) }
+    ensures { IfOk result (λ line. Finds line (IsScriptLine text.now)) }
 {
     let Some((session, tail)) = cut(text, b':') else {
         return Ok(None);

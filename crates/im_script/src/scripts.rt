@@ -1,7 +1,7 @@
 ghost use Rattle.std.specs.Prelude.{◌≡◌, ◌+◌, ◌↔◌, ℕ, IfOk, IsTrue, false};
 ghost use Rattle.im_text.specs.Finds.{Finds};
-ghost use Rattle.im_script.specs.Script.{IsLine, IsPassedOver, MayFollow, IsScript, StopsAfter};
-ghost use Rattle.im_script.specs.Arguments.{IsTaken, IsRefused};
+ghost use Rattle.im_script.specs.Script.{IsScriptLine, IsPassedOver, MayFollow, IsScript, StopsAfter};
+ghost use Rattle.im_script.specs.Arguments.{IsTaken, IsTextRefused};
 
 use crate::commands::Line;
 use crate::lines::read_line;
@@ -46,7 +46,7 @@ fn may_follow(before: &[Line], line: &Line) -> bool
 
 // The line that a text says, if it may stand behind these.
 fn read_next(alloc: Global, text: &[u8], before: &[Line]) -> Result<Option<Line>, AllocError>
-    ensures { IfOk result (λ line. Finds line (λ l. IsLine text.now l × MayFollow before.now l)) }
+    ensures { IfOk result (λ line. Finds line (λ l. IsScriptLine text.now l × MayFollow before.now l)) }
 {
     let Some(line) = read_line(alloc, text)? else {
         return Ok(None);
@@ -61,7 +61,7 @@ fn read_next(alloc: Global, text: &[u8], before: &[Line]) -> Result<Option<Line>
 // that the text is neither.
 fn take_text(alloc: Global, text: &[u8], lines: &mut Vec<Line>) -> Result<bool, AllocError>
     ensures taken { IfOk result (λ taken. IsTrue taken → IsTaken lines.old.items text.now lines.new.items) }
-    ensures refused { IfOk result (λ taken. taken ≡ false → IsRefused lines.old.items text.now) }
+    ensures refused { IfOk result (λ taken. taken ≡ false → IsTextRefused lines.old.items text.now) }
 {
     if is_passed_over(text) {
         return Ok(true);
