@@ -1,13 +1,12 @@
 -- Each line has an outcome.
-use Rattle.std.proofs.Common.{◌≡◌, ◌≢◌, ◌⊎◌, ◌==◌, ℕ, List, [], ◌∷◌, ◌++◌, Bool, true, false, Option, Some, None, Result, Ok, Err, IsUtf8, inl, inr, refl, ap, ◌∙◌}
-use Rattle.std.proofs.lemmas.Bool.{and_from, both_ways, not_from_false}
-use Rattle.std.proofs.lemmas.Bool.Decides.{eqb_tells}
+use Rattle.std.proofs.Common.{◌≡◌, ◌⊎◌, ℕ, List, [], ◌∷◌, ◌++◌, true, false, Option, Some, None, Result, Ok, Err, IsUtf8, inl, inr, refl, ap, ◌∙◌}
+use Rattle.std.proofs.lemmas.Bool.{both_ways}
 use Rattle.std.proofs.lemmas.Str.{IsUtf8-from_is_utf8, is_utf8-from_IsUtf8}
 use Rattle.std.specs.Char.{is_ascii_digit}
 use Rattle.std.specs.Str.{is_utf8}
 use Rattle.serde_json.specs.Data.{Data}
 use Rattle.serde_json.specs.Read.{read}
-use Rattle.im_text.specs.Cuts.{IsCut, Lacks}
+use Rattle.im_text.specs.Cuts.{IsCut}
 use Rattle.im_text.specs.Words.{is_word}
 use Rattle.im_text.proofs.DecideLemmas.{CutOrNone, cut-tells, truth}
 use Rattle.im_digest.specs.Digests.{Hash}

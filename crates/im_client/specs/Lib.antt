@@ -1,3 +1,4 @@
-pub mod LineChecks
 pub mod Folds
+pub mod Keeping
+pub mod LineChecks
 pub mod Texts

@@ -1,15 +1,16 @@
-ghost use Rattle.std.specs.Prelude.{◌≡◌, ◌++◌, option_copied};
+ghost use Rattle.std.specs.Prelude.{◌≡◌, ◌∷◌, ◌++◌, bytes_eq, IfSome, option_copied, option_map};
 ghost use Rattle.im_mtree.specs.Checks.{first_fail};
 ghost use Rattle.im_mtree.specs.PathChecks.{path_checks};
 ghost use Rattle.im_model.specs.Entries.{entry_digest};
+ghost use Rattle.im_model.specs.Headers.{alh};
 ghost use Rattle.im_proof.specs.HeaderChecks.{header_checks};
 ghost use Rattle.im_proof.specs.Duals.{as_faults, dual_checks};
 ghost use Rattle.im_client.specs.LineChecks.{same_state_checks, state_checks, dual_line_checks, is_anchored, anchor_ends_checks, anchor_checks, advance_line_checks, line_checks};
-ghost use Rattle.im_client.specs.declared.faults.LineFault.TheVariants.{State, Dual, Anchor, Path};
+ghost use Rattle.im_client.specs.declared.faults.LineFault.TheVariants.{State, Dual, Anchor, AnchorTargetAlh, Path};
 
 use crate::faults::LineFault;
 use im_digest::{D32, Hash32};
-use im_dual::check::check;
+use im_dual::check::check_known as check_dual_proof;
 use im_dual::headers::check_header;
 use im_entry::digests::digest;
 use im_header::alh;
@@ -19,9 +20,16 @@ use im_mtree::paths::check_path;
 use im_proof::proofs::DualProof;
 use im_wire::messages::Message;
 
+/// A kept header, and its Alh.
+#[derive(Clone, Copy)]
+pub(crate) struct Known<'k> {
+    pub(crate) header: &'k Header,
+    pub(crate) alh: D32,
+}
+
 /// Whether a message passes every check under the kept state: what a client stands on. Without a kept state
-/// only a state does. It takes no memory. It hashes each header at most three times, each term of a list at most
-/// twice, a leaf for each path, and an item's entry once.
+/// only a state does. It takes no memory. It hashes each header once, each term of a list at most twice, a leaf for
+/// each path, and an item's entry once.
 ///
 /// # Errors
 ///
@@ -32,6 +40,22 @@ pub fn check_message<H: Hash32>(
     message: &Message,
 ) -> Result<(), LineFault>
     ensures { result ≡ first_fail (line_checks (H.digest hash.now) (option_copied kept.entry) message.now) }
+{
+    let Some(header) = kept else {
+        return check_known(hash, None, message);
+    };
+    let alh = alh(hash, header);
+    check_known(hash, Some(Known { header, alh }), message)
+}
+
+/// The same where the Alh of the kept state is known, and not hashed again.
+pub(crate) fn check_known<H: Hash32>(
+    hash: &H,
+    kept: Option<Known<'_>>,
+    message: &Message,
+) -> Result<(), LineFault>
+    requires { IfSome kept (λ known. known.alh ≡ alh (H.digest hash.now) known.header.now) }
+    ensures { result ≡ first_fail (line_checks (H.digest hash.now) (option_map (λ known. known.header.now) kept.entry) message.now) }
 {
     match message {
         Message::State { header } => check_state(hash, kept, header),
@@ -57,8 +81,13 @@ pub fn check_message<H: Hash32>(
 
 // Whether a state is well formed, and the kept one where one is kept.
 #[tactic(auto, using(im_mtree::proofs::CheckLemmas::fail_both, im_mtree::proofs::CheckLemmas::fail_append))]
-fn check_state<H: Hash32>(hash: &H, kept: Option<&Header>, header: &Header) -> Result<(), LineFault>
-    ensures { result ≡ first_fail (state_checks (H.digest hash.now) (option_copied kept.entry) header.now) }
+fn check_state<H: Hash32>(
+    hash: &H,
+    kept: Option<Known<'_>>,
+    header: &Header,
+) -> Result<(), LineFault>
+    requires { IfSome kept (λ known. known.alh ≡ alh (H.digest hash.now) known.header.now) }
+    ensures { result ≡ first_fail (state_checks (H.digest hash.now) (option_map (λ known. known.header.now) kept.entry) header.now) }
 {
     check_state_header(header)?;
     check_same_state(hash, kept, header)
@@ -74,21 +103,22 @@ fn check_state_header(header: &Header) -> Result<(), LineFault>
 // Whether a state is the kept one, where one is kept.
 fn check_same_state<H: Hash32>(
     hash: &H,
-    kept: Option<&Header>,
+    kept: Option<Known<'_>>,
     header: &Header,
 ) -> Result<(), LineFault>
-    ensures { result ≡ first_fail (same_state_checks (H.digest hash.now) (option_copied kept.entry) header.now) }
+    requires { IfSome kept (λ known. known.alh ≡ alh (H.digest hash.now) known.header.now) }
+    ensures { result ≡ first_fail (same_state_checks (H.digest hash.now) (option_map (λ known. known.header.now) kept.entry) header.now) }
 {
     let Some(kept) = kept else {
         return Ok(());
     };
-    if header.id != kept.id {
+    if header.id != kept.header.id {
         return Err(LineFault::StateId {
-            want: kept.id,
+            want: kept.header.id,
             got: header.id,
         });
     }
-    let want = alh(hash, kept);
+    let want = kept.alh;
     let got = alh(hash, header);
     if got != want {
         return Err(LineFault::StateAlh { want, got });
@@ -97,28 +127,37 @@ fn check_same_state<H: Hash32>(
 }
 
 // Whether a dual proof leads to the kept state.
-fn check_dual_line<H: Hash32>(hash: &H, kept: &Header, dual: &DualProof) -> Result<(), LineFault>
-    ensures { result ≡ first_fail (dual_line_checks (H.digest hash.now) kept.now dual.now) }
+fn check_dual_line<H: Hash32>(hash: &H, kept: Known<'_>, dual: &DualProof) -> Result<(), LineFault>
+    requires { kept.alh ≡ alh (H.digest hash.now) kept.header.now }
+    ensures { result ≡ first_fail (dual_line_checks (H.digest hash.now) kept.entry.header.now dual.now) }
 {
-    if dual.target.id != kept.id {
+    if dual.target.id != kept.header.id {
         return Err(LineFault::TargetId {
-            want: kept.id,
+            want: kept.header.id,
             got: dual.target.id,
         });
     }
-    let want = alh(hash, kept);
+    let want = kept.alh;
     let got = alh(hash, &dual.target);
     if got != want {
         return Err(LineFault::TargetAlh { want, got });
     }
-    check_dual(hash, dual)
+    let source_alh = alh(hash, &dual.source);
+    check_dual(hash, dual, &source_alh, &got)
 }
 
-// Whether the dual proof of a line holds.
-fn check_dual<H: Hash32>(hash: &H, dual: &DualProof) -> Result<(), LineFault>
+// Whether the dual proof of a line holds, the Alh of its headers being these.
+fn check_dual<H: Hash32>(
+    hash: &H,
+    dual: &DualProof,
+    source_alh: &D32,
+    target_alh: &D32,
+) -> Result<(), LineFault>
+    requires source { source_alh.now ≡ alh (H.digest hash.now) dual.now.source }
+    requires target { target_alh.now ≡ alh (H.digest hash.now) dual.now.target }
     ensures { result ≡ first_fail (as_faults Dual (dual_checks (H.digest hash.now) dual.now)) }
 {
-    match check(hash, dual) {
+    match check_dual_proof(hash, dual, source_alh, target_alh) {
         Ok(()) => Ok(()),
         Err(fault) => Err(LineFault::Dual { fault }),
     }
@@ -127,37 +166,41 @@ fn check_dual<H: Hash32>(hash: &H, dual: &DualProof) -> Result<(), LineFault>
 // Whether an advance leads from the kept state on.
 fn check_advance_line<H: Hash32>(
     hash: &H,
-    kept: &Header,
+    kept: Known<'_>,
     dual: &DualProof,
     anchor: Option<&DualProof>,
 ) -> Result<(), LineFault>
-    ensures { result ≡ first_fail (advance_line_checks (H.digest hash.now) kept.now dual.now (option_copied anchor.entry)) }
+    requires { kept.alh ≡ alh (H.digest hash.now) kept.header.now }
+    ensures { result ≡ first_fail (advance_line_checks (H.digest hash.now) kept.entry.header.now dual.now (option_copied anchor.entry)) }
 {
-    if dual.source.id != kept.id {
+    if dual.source.id != kept.header.id {
         return Err(LineFault::SourceId {
-            want: kept.id,
+            want: kept.header.id,
             got: dual.source.id,
         });
     }
-    let want = alh(hash, kept);
+    let want = kept.alh;
     let got = alh(hash, &dual.source);
     if got != want {
         return Err(LineFault::SourceAlh { want, got });
     }
-    check_anchored(hash, dual, anchor)
+    check_anchored(hash, dual, &got, anchor)
 }
 
-// Whether the dual proof of an advance holds, and its anchor is as is due.
+// Whether the dual proof of an advance, whose source has this Alh, holds, and its anchor is as is due.
 #[tactic(auto, using(im_mtree::proofs::CheckLemmas::fail_both, im_mtree::proofs::CheckLemmas::fail_append))]
 fn check_anchored<H: Hash32>(
     hash: &H,
     dual: &DualProof,
+    source_alh: &D32,
     anchor: Option<&DualProof>,
 ) -> Result<(), LineFault>
+    requires { source_alh.now ≡ alh (H.digest hash.now) dual.now.source }
     ensures { result ≡ first_fail (as_faults Dual (dual_checks (H.digest hash.now) dual.now) ++ anchor_checks (H.digest hash.now) dual.now (option_copied anchor.entry)) }
 {
-    check_dual(hash, dual)?;
-    check_anchor(hash, dual, anchor)
+    let target_alh = alh(hash, &dual.target);
+    check_dual(hash, dual, source_alh, &target_alh)?;
+    check_anchor(hash, dual, source_alh, anchor)
 }
 
 // Whether an advance has an anchor: the target's tree ends behind the source's, and before the source.
@@ -167,12 +210,14 @@ fn is_anchored(dual: &DualProof) -> bool
     dual.source.bl_tx_id < dual.target.bl_tx_id && dual.target.bl_tx_id < dual.source.id
 }
 
-// Whether the anchor of an advance is there exactly where it is due, and holds.
+// Whether the anchor of an advance, whose source has this Alh, is there exactly where it is due, and holds.
 fn check_anchor<H: Hash32>(
     hash: &H,
     dual: &DualProof,
+    source_alh: &D32,
     anchor: Option<&DualProof>,
 ) -> Result<(), LineFault>
+    requires { source_alh.now ≡ alh (H.digest hash.now) dual.now.source }
     ensures { result ≡ first_fail (anchor_checks (H.digest hash.now) dual.now (option_copied anchor.entry)) }
 {
     let due = is_anchored(dual);
@@ -180,30 +225,19 @@ fn check_anchor<H: Hash32>(
         None if due => Err(LineFault::AnchorMissing),
         None => Ok(()),
         Some(_) if !due => Err(LineFault::AnchorExtra),
-        Some(anchor) => check_due_anchor(hash, dual, anchor),
+        Some(anchor) => check_due_anchor(hash, dual, source_alh, anchor),
     }
 }
 
-// Whether an anchor leads from the end of the target's tree to the source, and holds.
-#[tactic(auto, using(im_mtree::proofs::CheckLemmas::fail_both, im_mtree::proofs::CheckLemmas::fail_append))]
+// Whether an anchor leads from the end of the target's tree to the source, which has this Alh, and holds.
 fn check_due_anchor<H: Hash32>(
     hash: &H,
     dual: &DualProof,
+    source_alh: &D32,
     anchor: &DualProof,
 ) -> Result<(), LineFault>
+    requires { source_alh.now ≡ alh (H.digest hash.now) dual.now.source }
     ensures { result ≡ first_fail (anchor_ends_checks (H.digest hash.now) dual.now anchor.now ++ as_faults Anchor (dual_checks (H.digest hash.now) anchor.now)) }
-{
-    check_anchor_ends(hash, dual, anchor)?;
-    check_anchor_dual(hash, anchor)
-}
-
-// Whether an anchor leads from the end of the target's tree to the source.
-fn check_anchor_ends<H: Hash32>(
-    hash: &H,
-    dual: &DualProof,
-    anchor: &DualProof,
-) -> Result<(), LineFault>
-    ensures { result ≡ first_fail (anchor_ends_checks (H.digest hash.now) dual.now anchor.now) }
 {
     if anchor.source.id != dual.target.bl_tx_id {
         return Err(LineFault::AnchorSourceId {
@@ -217,26 +251,45 @@ fn check_anchor_ends<H: Hash32>(
             got: anchor.target.id,
         });
     }
+    let want = dual.target_bl_tx_alh;
     let got = alh(hash, &anchor.source);
-    if got != dual.target_bl_tx_alh {
-        return Err(LineFault::AnchorSourceAlh {
-            want: dual.target_bl_tx_alh,
-            got,
-        });
+    if got != want {
+        return Err(LineFault::AnchorSourceAlh { want, got });
     }
-    let want = alh(hash, &dual.source);
+    check_due_target(hash, source_alh, anchor, &got)
+}
+
+// Whether an anchor, whose source has the Alh `first`, leads to this Alh, and holds.
+fn check_due_target<H: Hash32>(
+    hash: &H,
+    wanted: &D32,
+    anchor: &DualProof,
+    first: &D32,
+) -> Result<(), LineFault>
+    requires { first.now ≡ alh (H.digest hash.now) anchor.now.source }
+    ensures { result ≡ first_fail ((bytes_eq (alh (H.digest hash.now) anchor.now.target) wanted.now, AnchorTargetAlh wanted.now (alh (H.digest hash.now) anchor.now.target))
+        ∷ as_faults Anchor (dual_checks (H.digest hash.now) anchor.now)) }
+{
+    let want = *wanted;
     let got = alh(hash, &anchor.target);
     if got != want {
         return Err(LineFault::AnchorTargetAlh { want, got });
     }
-    Ok(())
+    check_anchor_dual(hash, anchor, first, &got)
 }
 
-// Whether the dual proof of an anchor holds.
-fn check_anchor_dual<H: Hash32>(hash: &H, anchor: &DualProof) -> Result<(), LineFault>
+// Whether the dual proof of an anchor holds, the Alh of its headers being these.
+fn check_anchor_dual<H: Hash32>(
+    hash: &H,
+    anchor: &DualProof,
+    source_alh: &D32,
+    target_alh: &D32,
+) -> Result<(), LineFault>
+    requires source { source_alh.now ≡ alh (H.digest hash.now) anchor.now.source }
+    requires target { target_alh.now ≡ alh (H.digest hash.now) anchor.now.target }
     ensures { result ≡ first_fail (as_faults Anchor (dual_checks (H.digest hash.now) anchor.now)) }
 {
-    match check(hash, anchor) {
+    match check_dual_proof(hash, anchor, source_alh, target_alh) {
         Ok(()) => Ok(()),
         Err(fault) => Err(LineFault::Anchor { fault }),
     }
@@ -246,13 +299,14 @@ fn check_anchor_dual<H: Hash32>(hash: &H, anchor: &DualProof) -> Result<(), Line
 #[tactic(auto, using(im_mtree::proofs::CheckLemmas::fail_both, im_mtree::proofs::CheckLemmas::fail_append))]
 fn check_item_line<H: Hash32>(
     hash: &H,
-    kept: &Header,
+    kept: Known<'_>,
     dual: &DualProof,
     entry: &Entry,
     index: u32,
     path: &[D32],
 ) -> Result<(), LineFault>
-    ensures { result ≡ first_fail (dual_line_checks (H.digest hash.now) kept.now dual.now ++ as_faults Path (path_checks (H.digest hash.now) (entry_digest (H.digest hash.now) entry.now) index dual.now.source.nentries path.now dual.now.source.eh)) }
+    requires { kept.alh ≡ alh (H.digest hash.now) kept.header.now }
+    ensures { result ≡ first_fail (dual_line_checks (H.digest hash.now) kept.entry.header.now dual.now ++ as_faults Path (path_checks (H.digest hash.now) (entry_digest (H.digest hash.now) entry.now) index dual.now.source.nentries path.now dual.now.source.eh)) }
 {
     check_dual_line(hash, kept, dual)?;
     check_entry(hash, &dual.source, entry, index, path)

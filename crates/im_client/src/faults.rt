@@ -3,7 +3,7 @@ use im_mtree::faults::PathFault;
 use im_proof::faults::{DualFault, HeaderFault};
 
 /// The first check of a line that fails: what was wanted, and what was found.
-#[derive(Clone, Copy, Debug, PartialEq, Eq)]
+#[derive(Clone, Copy, Debug)]
 pub enum LineFault {
     /// The line is no message.
     Syntax,

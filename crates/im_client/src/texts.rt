@@ -39,33 +39,33 @@ fn push_dual_fault(out: &mut Vec<u8>, fault: &DualFault) -> Result<(), AllocErro
     ensures { OnOk result (out.new.items ≡ out.old.items ++ dual_fault_text fault.now) }
 {
     use DualFault as Fault;
-    match *fault {
-        Fault::Source { fault } => push_header_fault(out, b"source", &fault),
-        Fault::Target { fault } => push_header_fault(out, b"target", &fault),
-        Fault::Order { source, target } => push_numbers(out, b"order", source, target),
-        Fault::Shrink { source, target } => push_numbers(out, b"shrink", source, target),
-        Fault::InclusionLength { want, got } => push_numbers(out, b"inclusion-length", want, got),
-        Fault::InclusionRoot { want, got } => push_digests(out, b"inclusion-root", want, got),
+    match fault {
+        Fault::Source { fault } => push_header_fault(out, b"source", fault),
+        Fault::Target { fault } => push_header_fault(out, b"target", fault),
+        Fault::Order { source, target } => push_numbers(out, b"order", *source, *target),
+        Fault::Shrink { source, target } => push_numbers(out, b"shrink", *source, *target),
+        Fault::InclusionLength { want, got } => push_numbers(out, b"inclusion-length", *want, *got),
+        Fault::InclusionRoot { want, got } => push_digests(out, b"inclusion-root", *want, *got),
         Fault::ConsistencyLength { want, got } => {
-            push_numbers(out, b"consistency-length", want, got)
+            push_numbers(out, b"consistency-length", *want, *got)
         }
-        Fault::ConsistencyOld { want, got } => push_digests(out, b"consistency-old", want, got),
-        Fault::ConsistencyNew { want, got } => push_digests(out, b"consistency-new", want, got),
-        Fault::LastLength { want, got } => push_numbers(out, b"last-length", want, got),
-        Fault::LastRoot { want, got } => push_digests(out, b"last-root", want, got),
-        Fault::BlAlh { want, got } => push_digests(out, b"bl-alh", want, got),
-        Fault::LinearLength { want, got } => push_numbers(out, b"linear-length", want, got),
-        Fault::LinearStart { want, got } => push_digests(out, b"linear-start", want, got),
-        Fault::LinearEnd { want, got } => push_digests(out, b"linear-end", want, got),
-        Fault::AdvanceLength { want, got } => push_numbers(out, b"advance-length", want, got),
-        Fault::AdvanceCount { want, got } => push_numbers(out, b"advance-count", want, got),
+        Fault::ConsistencyOld { want, got } => push_digests(out, b"consistency-old", *want, *got),
+        Fault::ConsistencyNew { want, got } => push_digests(out, b"consistency-new", *want, *got),
+        Fault::LastLength { want, got } => push_numbers(out, b"last-length", *want, *got),
+        Fault::LastRoot { want, got } => push_digests(out, b"last-root", *want, *got),
+        Fault::BlAlh { want, got } => push_digests(out, b"bl-alh", *want, *got),
+        Fault::LinearLength { want, got } => push_numbers(out, b"linear-length", *want, *got),
+        Fault::LinearStart { want, got } => push_digests(out, b"linear-start", *want, *got),
+        Fault::LinearEnd { want, got } => push_digests(out, b"linear-end", *want, *got),
+        Fault::AdvanceLength { want, got } => push_numbers(out, b"advance-length", *want, *got),
+        Fault::AdvanceCount { want, got } => push_numbers(out, b"advance-count", *want, *got),
         Fault::AdvancePathLength { number, want, got } => {
-            push_numbers_of(out, b"advance-path-length ", number, want, got)
+            push_numbers_of(out, b"advance-path-length ", *number, *want, *got)
         }
         Fault::AdvancePathRoot { number, want, got } => {
-            push_digests_of(out, b"advance-path-root ", number, want, got)
+            push_digests_of(out, b"advance-path-root ", *number, *want, *got)
         }
-        Fault::AdvanceEnd { want, got } => push_digests(out, b"advance-end", want, got),
+        Fault::AdvanceEnd { want, got } => push_digests(out, b"advance-end", *want, *got),
     }
 }
 
@@ -145,28 +145,38 @@ fn push_fault(out: &mut Vec<u8>, fault: &LineFault) -> Result<(), AllocError>
     ensures { OnOk result (out.new.items ≡ out.old.items ++ fault_text fault.now) }
 {
     use LineFault as Fault;
-    match *fault {
+    match fault {
         Fault::Syntax => out.extend_from_slice(b"syntax"),
-        Fault::State { fault } => push_header_fault(out, b"state", &fault),
-        Fault::StateId { want, got } => push_numbers(out, b"state-id", want, got),
-        Fault::StateAlh { want, got } => push_digests(out, b"state-alh", want, got),
+        Fault::State { fault } => push_header_fault(out, b"state", fault),
+        Fault::StateId { want, got } => push_numbers(out, b"state-id", *want, *got),
+        Fault::StateAlh { want, got } => push_digests(out, b"state-alh", *want, *got),
         Fault::NoState => out.extend_from_slice(b"no-state"),
-        Fault::SourceId { want, got } => push_numbers(out, b"source-id", want, got),
-        Fault::SourceAlh { want, got } => push_digests(out, b"source-alh", want, got),
-        Fault::TargetId { want, got } => push_numbers(out, b"target-id", want, got),
-        Fault::TargetAlh { want, got } => push_digests(out, b"target-alh", want, got),
-        Fault::Dual { fault } => push_dual_fault(out, &fault),
+        Fault::SourceId { want, got } => push_numbers(out, b"source-id", *want, *got),
+        Fault::SourceAlh { want, got } => push_digests(out, b"source-alh", *want, *got),
+        Fault::TargetId { want, got } => push_numbers(out, b"target-id", *want, *got),
+        Fault::TargetAlh { want, got } => push_digests(out, b"target-alh", *want, *got),
+        Fault::Dual { fault } => push_dual_fault(out, fault),
         Fault::AnchorMissing => out.extend_from_slice(b"anchor-missing"),
         Fault::AnchorExtra => out.extend_from_slice(b"anchor-extra"),
-        Fault::AnchorSourceId { want, got } => push_numbers(out, b"anchor-source-id", want, got),
-        Fault::AnchorTargetId { want, got } => push_numbers(out, b"anchor-target-id", want, got),
-        Fault::AnchorSourceAlh { want, got } => push_digests(out, b"anchor-source-alh", want, got),
-        Fault::AnchorTargetAlh { want, got } => push_digests(out, b"anchor-target-alh", want, got),
+        Fault::AnchorSourceId { want, got } => push_numbers(out, b"anchor-source-id", *want, *got),
+        Fault::AnchorTargetId { want, got } => push_numbers(out, b"anchor-target-id", *want, *got),
+        Fault::AnchorSourceAlh { want, got } => push_digests(
+            out,
+            b"anchor-source-alh",
+            *want,
+            *got,
+        ),
+        Fault::AnchorTargetAlh { want, got } => push_digests(
+            out,
+            b"anchor-target-alh",
+            *want,
+            *got,
+        ),
         Fault::Anchor { fault } => {
             out.extend_from_slice(b"anchor-")?;
-            push_dual_fault(out, &fault)
+            push_dual_fault(out, fault)
         }
-        Fault::Path { fault } => push_path_fault(out, &fault),
+        Fault::Path { fault } => push_path_fault(out, fault),
     }
 }
 

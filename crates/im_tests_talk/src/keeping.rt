@@ -58,15 +58,16 @@ fn a_message_of_the_greatest_numbers_is_written_as_it_was_read(
 }
 
 // Follows a line.
-fn follow(alloc: Global, client: &mut Client, line: &str) -> Result<(), AllocError> {
-    let outcome = client.judge(alloc, &Sum, line.as_bytes())?;
+fn follow(alloc: Global, client: &mut Client<'_, Sum>, line: &str) -> Result<(), AllocError> {
+    let outcome = client.judge(alloc, line.as_bytes())?;
     client.follow(outcome);
     Ok(())
 }
 
 #[test]
 fn a_state_is_kept(rt: HostRuntime) -> Result<(), Fail> {
-    let mut client = Client::new();
+    let hash = Sum;
+    let mut client = Client::new(&hash);
     let kept_none = client.state().is_none();
     let followed = follow(rt.alloc(), &mut client, STATE);
     let kept = client.state().map(|header| header.id);

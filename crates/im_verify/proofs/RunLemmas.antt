@@ -88,26 +88,30 @@ at-kept hash (Some ks) stream state before after now took t = record {
 }
 
 -- the same where the taking of its lines left the keeper's lines as they were
-pub verifies : (hash : Hash) (kept mid : Option (List (List ℕ))) (stream : List ℕ) (state : Option Header) (refused : Bool) (ended : Ended) (before after : Option (List ℕ)) (now : Option (List (List ℕ)))
-    → mid ≡ kept → IfSome kept (λ ks. TakesKept hash ks state) → TakesAll hash state stream refused (done before mid) (done after now)
+pub verifies : (hash own : Hash) (kept mid : Option (List (List ℕ))) (stream : List ℕ) (state : Option Header) (refused : Bool) (ended : Ended) (before after : Option (List ℕ)) (now : Option (List (List ℕ)))
+    → own ≡ hash → mid ≡ kept → IfSome kept (λ ks. TakesKept hash ks state) → TakesAll own state stream refused (done before mid) (done after now)
     → (ended ≡ Ok → refused ≡ false) → (ended ≡ Refused → refused ≡ true) → IfSome kept (λ ks. Verifies hash stream ks ended before after now)
-verifies hash kept mid stream state refused ended before after now still took t =
-    verifies-kept hash kept stream state refused ended before after now took (subst (λ (k : Option (List (List ℕ))). TakesAll hash state stream refused (done before k) (done after now)) still t)
+verifies hash own kept mid stream state refused ended before after now same still took t =
+    verifies-kept hash kept stream state refused ended before after now took (subst (λ (h : Hash). TakesAll h state stream refused (done before kept) (done after now)) same
+    (subst (λ (k : Option (List (List ℕ))). TakesAll own state stream refused (done before k) (done after now)) still t))
 
-pub breaks-into : (hash : Hash) (kept mid : Option (List (List ℕ))) (stream : List ℕ) (state : Option Header) (before after : Option (List ℕ)) (now : Option (List (List ℕ)))
-    → mid ≡ kept → IfSome kept (λ ks. TakesKept hash ks state) → TakesInto hash state stream (done before mid) (done after now) → IfSome kept (λ ks. BreaksInto hash stream ks before after now)
-breaks-into hash kept mid stream state before after now still took t =
-    into-kept hash kept stream state before after now took (subst (λ (k : Option (List (List ℕ))). TakesInto hash state stream (done before k) (done after now)) still t)
+pub breaks-into : (hash own : Hash) (kept mid : Option (List (List ℕ))) (stream : List ℕ) (state : Option Header) (before after : Option (List ℕ)) (now : Option (List (List ℕ)))
+    → own ≡ hash → mid ≡ kept → IfSome kept (λ ks. TakesKept hash ks state) → TakesInto own state stream (done before mid) (done after now) → IfSome kept (λ ks. BreaksInto hash stream ks before after now)
+breaks-into hash own kept mid stream state before after now same still took t =
+    into-kept hash kept stream state before after now took (subst (λ (h : Hash). TakesInto h state stream (done before kept) (done after now)) same
+    (subst (λ (k : Option (List (List ℕ))). TakesInto own state stream (done before k) (done after now)) still t))
 
-pub breaks-off : (hash : Hash) (kept mid : Option (List (List ℕ))) (stream : List ℕ) (state : Option Header) (before after : Option (List ℕ)) (now : Option (List (List ℕ)))
-    → mid ≡ kept → IfSome kept (λ ks. TakesKept hash ks state) → TakesSome hash state stream (done before mid) (done after now) → IfSome kept (λ ks. BreaksOff hash stream ks before after now)
-breaks-off hash kept mid stream state before after now still took t =
-    off-kept hash kept stream state before after now took (subst (λ (k : Option (List (List ℕ))). TakesSome hash state stream (done before k) (done after now)) still t)
+pub breaks-off : (hash own : Hash) (kept mid : Option (List (List ℕ))) (stream : List ℕ) (state : Option Header) (before after : Option (List ℕ)) (now : Option (List (List ℕ)))
+    → own ≡ hash → mid ≡ kept → IfSome kept (λ ks. TakesKept hash ks state) → TakesSome own state stream (done before mid) (done after now) → IfSome kept (λ ks. BreaksOff hash stream ks before after now)
+breaks-off hash own kept mid stream state before after now same still took t =
+    off-kept hash kept stream state before after now took (subst (λ (h : Hash). TakesSome h state stream (done before kept) (done after now)) same
+    (subst (λ (k : Option (List (List ℕ))). TakesSome own state stream (done before k) (done after now)) still t))
 
-pub breaks-at : (hash : Hash) (kept mid : Option (List (List ℕ))) (stream : List ℕ) (state : Option Header) (before after : Option (List ℕ)) (now : Option (List (List ℕ)))
-    → mid ≡ kept → IfSome kept (λ ks. TakesKept hash ks state) → TakesAt hash state stream (done before mid) (done after now) → IfSome kept (λ ks. BreaksAt hash stream ks before after now)
-breaks-at hash kept mid stream state before after now still took t =
-    at-kept hash kept stream state before after now took (subst (λ (k : Option (List (List ℕ))). TakesAt hash state stream (done before k) (done after now)) still t)
+pub breaks-at : (hash own : Hash) (kept mid : Option (List (List ℕ))) (stream : List ℕ) (state : Option Header) (before after : Option (List ℕ)) (now : Option (List (List ℕ)))
+    → own ≡ hash → mid ≡ kept → IfSome kept (λ ks. TakesKept hash ks state) → TakesAt own state stream (done before mid) (done after now) → IfSome kept (λ ks. BreaksAt hash stream ks before after now)
+breaks-at hash own kept mid stream state before after now same still took t =
+    at-kept hash kept stream state before after now took (subst (λ (h : Hash). TakesAt h state stream (done before kept) (done after now)) same
+    (subst (λ (k : Option (List (List ℕ))). TakesAt own state stream (done before k) (done after now)) still t))
 
 -- the two ends of a run that is done
 pub ok-not-refused : Ok ≡ Refused → ⊥

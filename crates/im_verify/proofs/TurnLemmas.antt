@@ -92,11 +92,11 @@ some-push os o true b old new e = some-more os o (old refl)
 some-push os o false b old new e = Any-push IsRefused os o (new e)
 
 -- one line more
-pub progress-next : (hash : Hash) (state : Option Header) (stream rest line behind : List ℕ) (number : ℕ) (refused r : Bool) (now next : Option Header) (from mid to : Done)
-    → 0 < length rest → IsFirstText rest line behind → Progress hash state stream rest number refused now from mid → Turn hash (number + 1) line r now next mid to
+pub progress-next : (hash own : Hash) (state : Option Header) (stream rest line behind : List ℕ) (number : ℕ) (refused r : Bool) (now next : Option Header) (from mid to : Done)
+    → own ≡ hash → 0 < length rest → IsFirstText rest line behind → Progress hash state stream rest number refused now from mid → Turn own (number + 1) line r now next mid to
     → Progress hash state stream behind (number + 1) (refused || r) next from to
-progress-next hash state stream rest line behind number refused r now next from mid to some first p t =
-    let is : IsOutcome hash (state_after state p.outcomes) line t.outcome = subst (λ (s : Option Header). IsOutcome hash s line t.outcome) p.follows t.is in
+progress-next hash own state stream rest line behind number refused r now next from mid to own_is some first p t =
+    let is : IsOutcome hash (state_after state p.outcomes) line t.outcome = subst (λ (s : Option Header). IsOutcome hash s line t.outcome) p.follows (subst (λ (h : Hash). IsOutcome h now line t.outcome) own_is t.is) in
     let size : length (p.outcomes ++ t.outcome ∷ []) ≡ length p.outcomes + 1 = length-append p.outcomes (t.outcome ∷ []) in
     let same : number ≡ length p.outcomes = p.count in
     let both : Adds (outcome_lines 1 p.outcomes ++ outcome_line (number + 1) t.outcome) (kept_texts p.outcomes ++ kept_text t.outcome) from to =
@@ -159,12 +159,12 @@ front-and-next front line more =
     ap (take (length (front ++ line ∷ []))) (sym (append_assoc front (line ∷ []) more)) ∙ take-append_seam (front ++ line ∷ []) more
 
 -- nothing was done of the next line, which is accepted
-pub takes-at : (hash : Hash) (state : Option Header) (stream rest line behind : List ℕ) (number : ℕ) (refused : Bool) (now : Option Header) (from mid to : Done)
-    → 0 < length rest → IsFirstText rest line behind → to.written ≡ mid.written → to.kept ≡ mid.kept → Progress hash state stream rest number refused now from mid
-    → (next : Message) × IsOutcome hash now line (Accepted next) → TakesAt hash state stream from to
-takes-at hash state stream rest line behind number refused now from mid to some first written kept p (next, accepted) =
+pub takes-at : (hash own : Hash) (state : Option Header) (stream rest line behind : List ℕ) (number : ℕ) (refused : Bool) (now : Option Header) (from mid to : Done)
+    → own ≡ hash → 0 < length rest → IsFirstText rest line behind → to.written ≡ mid.written → to.kept ≡ mid.kept → Progress hash state stream rest number refused now from mid
+    → (next : Message) × IsOutcome own now line (Accepted next) → TakesAt hash state stream from to
+takes-at hash own state stream rest line behind number refused now from mid to own_is some first written kept p (next, accepted) =
     let more = texts-exist behind in
-    let is : IsOutcome hash (state_after state p.outcomes) line (Accepted next) = subst (λ (s : Option Header). IsOutcome hash s line (Accepted next)) p.follows accepted in
+    let is : IsOutcome hash (state_after state p.outcomes) line (Accepted next) = subst (λ (s : Option Header). IsOutcome hash s line (Accepted next)) p.follows (subst (λ (h : Hash). IsOutcome h now line (Accepted next)) own_is accepted) in
     let fold : IsFold hash state (p.lines ++ line ∷ []) (p.outcomes ++ Accepted next ∷ []) = fold-push hash state p.lines p.outcomes line (Accepted next) p.fold is in
     let all : length (p.lines ++ line ∷ more.0) ≡ length p.lines + length (line ∷ more.0) = length-append p.lines (line ∷ more.0) in
     let size : length (p.lines ++ line ∷ []) ≡ length p.lines + 1 = length-append p.lines (line ∷ []) in
@@ -185,12 +185,12 @@ takes-at hash state stream rest line behind number refused now from mid to some 
     }
 
 -- the next line was told in part
-pub takes-into : (hash : Hash) (state : Option Header) (stream rest line behind : List ℕ) (number : ℕ) (refused : Bool) (now : Option Header) (from mid to : Done)
-    → 0 < length rest → IsFirstText rest line behind → Progress hash state stream rest number refused now from mid → HalfTurn hash (number + 1) line now mid to
+pub takes-into : (hash own : Hash) (state : Option Header) (stream rest line behind : List ℕ) (number : ℕ) (refused : Bool) (now : Option Header) (from mid to : Done)
+    → own ≡ hash → 0 < length rest → IsFirstText rest line behind → Progress hash state stream rest number refused now from mid → HalfTurn own (number + 1) line now mid to
     → TakesInto hash state stream from to
-takes-into hash state stream rest line behind number refused now from mid to some first p t =
+takes-into hash own state stream rest line behind number refused now from mid to own_is some first p t =
     let more = texts-exist behind in
-    let is : IsOutcome hash (state_after state p.outcomes) line t.outcome = subst (λ (s : Option Header). IsOutcome hash s line t.outcome) p.follows t.is in
+    let is : IsOutcome hash (state_after state p.outcomes) line t.outcome = subst (λ (s : Option Header). IsOutcome hash s line t.outcome) p.follows (subst (λ (h : Hash). IsOutcome h now line t.outcome) own_is t.is) in
     let fold : IsFold hash state (p.lines ++ line ∷ []) (p.outcomes ++ t.outcome ∷ []) = fold-push hash state p.lines p.outcomes line t.outcome p.fold is in
     let n : number + 1 ≡ length p.outcomes + 1 = ap (λ k. k + 1) p.count in
     let both : Adds (outcome_lines 1 p.outcomes ++ take t.tells.0 (outcome_line (number + 1) t.outcome)) (kept_texts p.outcomes ++ kept_text t.outcome) from to =

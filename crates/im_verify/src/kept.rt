@@ -53,14 +53,19 @@ pub(crate) fn is_refused(outcome: &Outcome) -> bool
 }
 
 // The client behind kept lines, or the first of them that is refused.
-fn follow_lines<H: Hash32>(alloc: Global, hash: &H, lines: &[Octets]) -> Result<Client, KeptError>
-    ensures ok { IfOk result (TakesKept (H.digest hash.now) lines.now) }
+fn follow_lines<'h, H: Hash32>(
+    alloc: Global,
+    hash: &'h H,
+    lines: &[Octets],
+) -> Result<Client<'h, H>, KeptError>
+    ensures ok { IfOk result (λ client. TakesKept (H.digest hash.now) lines.now client.state) }
+    ensures hash { IfOk result (λ client. client.hash ≡ hash.now) }
     ensures line { (k : ℕ) → result ≡ Err (KeptError.Line k) → (n : ℕ) × (k ≡ n + 1) × StopsKept (H.digest hash.now) lines.now n }
     ensures keeper { result ≡ Err KeptError.KeeperFault → ⊥ }
 {
-    let mut client = Client::new();
+    let mut client = Client::new(hash);
     for (i, line) in lines.iter().enumerate() {
-        let outcome = client.judge(alloc, hash, line.as_slice())?;
+        let outcome = client.judge(alloc, line.as_slice())?;
         if is_refused(&outcome) {
             drop(outcome);
             return Err(KeptError::Line(i as u64 + 1));
@@ -71,12 +76,13 @@ fn follow_lines<H: Hash32>(alloc: Global, hash: &H, lines: &[Octets]) -> Result<
 }
 
 /// The client behind the lines that a keeper holds, from no state on. The keeper's lines stay.
-pub(crate) fn take_kept<H: Hash32, P: Keeper>(
+pub(crate) fn take_kept<'h, H: Hash32, P: Keeper>(
     alloc: Global,
-    hash: &H,
+    hash: &'h H,
     keeper: &mut P,
-) -> Result<Client, KeptError>
-    ensures ok { IfOk result (λ client. IfSome (P.kept keeper.old) (λ kept. TakesKept (H.digest hash.now) kept client)) }
+) -> Result<Client<'h, H>, KeptError>
+    ensures ok { IfOk result (λ client. IfSome (P.kept keeper.old) (λ kept. TakesKept (H.digest hash.now) kept client.state)) }
+    ensures hash { IfOk result (λ client. client.hash ≡ hash.now) }
     ensures line { (k : ℕ) → result ≡ Err (KeptError.Line k) → IfSome (P.kept keeper.old) (λ kept.
         (n : ℕ) × (k ≡ n + 1) × StopsKept (H.digest hash.now) kept n) }
     ensures kept { P.kept keeper.new ≡ P.kept keeper.old }

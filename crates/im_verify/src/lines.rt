@@ -69,20 +69,20 @@ fn keep_and_tell<K: Sink, P: Keeper>(
 // Judges a line, keeps and tells what became of it, and follows. It says whether the line was refused.
 fn take_line<H: Hash32, K: Sink, P: Keeper>(
     alloc: Global,
-    hash: &H,
-    client: &mut Client,
+    client: &mut Client<'_, H>,
     sink: &mut K,
     keeper: &mut P,
     number: u64,
     line: &[u8],
 ) -> Result<bool, Stop>
-    ensures ok { IfOk result (λ refused. Turn (H.digest hash.now) number line.now refused client.old client.new
+    ensures ok { IfOk result (λ refused. Turn (H.digest client.old.hash) number line.now refused client.old.state client.new.state
         (done (K.written sink.old) (P.kept keeper.old)) (done (K.written sink.new) (P.kept keeper.new))) }
-    ensures part { result ≡ Err Stop.WriteFault → HalfTurn (H.digest hash.now) number line.now client.old
+    ensures same { client.new.hash ≡ client.old.hash }
+    ensures part { result ≡ Err Stop.WriteFault → HalfTurn (H.digest client.old.hash) number line.now client.old.state
         (done (K.written sink.old) (P.kept keeper.old)) (done (K.written sink.new) (P.kept keeper.new)) }
     ensures nothing { (result ≡ Err Stop.KeeperFault) ⊎ (result ≡ Err Stop.Memory) →
         (K.written sink.new ≡ K.written sink.old) × (P.kept keeper.new ≡ P.kept keeper.old) }
-    ensures accepted { result ≡ Err Stop.KeeperFault → (next : Message) × IsOutcome (H.digest hash.now) client.old line.now (Accepted next) }
+    ensures accepted { result ≡ Err Stop.KeeperFault → (next : Message) × IsOutcome (H.digest client.old.hash) client.old.state line.now (Accepted next) }
     ensures write { result ≡ Err Stop.WriteFault → Rose (K.faults sink.old) (K.faults sink.new) }
     ensures keep { result ≡ Err Stop.KeeperFault → Rose (P.faults keeper.old) (P.faults keeper.new) }
     ensures sink_count { (result ≡ Err Stop.WriteFault → ⊥) → K.faults sink.new ≡ K.faults sink.old }
@@ -90,7 +90,7 @@ fn take_line<H: Hash32, K: Sink, P: Keeper>(
     ensures sink_once { K.faults sink.new ≤ K.faults sink.old + 1 }
     ensures keeper_once { P.faults keeper.new ≤ P.faults keeper.old + 1 }
 {
-    let outcome = client.judge(alloc, hash, line)?;
+    let outcome = client.judge(alloc, line)?;
     if let Err(stop) = keep_and_tell(alloc, sink, keeper, number, &outcome) {
         drop(outcome);
         return Err(stop);
@@ -104,19 +104,18 @@ fn take_line<H: Hash32, K: Sink, P: Keeper>(
 /// was refused. Lines are numbered from 1, and empty ones count.
 pub(crate) fn take_lines<H: Hash32, K: Sink, P: Keeper>(
     alloc: Global,
-    hash: &H,
-    client: &mut Client,
+    client: &mut Client<'_, H>,
     sink: &mut K,
     keeper: &mut P,
     stream: &[u8],
 ) -> Result<bool, Stop>
-    ensures ok { IfOk result (λ refused. TakesAll (H.digest hash.now) client.old stream.now refused
+    ensures ok { IfOk result (λ refused. TakesAll (H.digest client.old.hash) client.old.state stream.now refused
         (done (K.written sink.old) (P.kept keeper.old)) (done (K.written sink.new) (P.kept keeper.new))) }
-    ensures into { result ≡ Err Stop.WriteFault → TakesInto (H.digest hash.now) client.old stream.now
+    ensures into { result ≡ Err Stop.WriteFault → TakesInto (H.digest client.old.hash) client.old.state stream.now
         (done (K.written sink.old) (P.kept keeper.old)) (done (K.written sink.new) (P.kept keeper.new)) }
-    ensures some { result ≡ Err Stop.Memory → TakesSome (H.digest hash.now) client.old stream.now
+    ensures some { result ≡ Err Stop.Memory → TakesSome (H.digest client.old.hash) client.old.state stream.now
         (done (K.written sink.old) (P.kept keeper.old)) (done (K.written sink.new) (P.kept keeper.new)) }
-    ensures accepted { result ≡ Err Stop.KeeperFault → TakesAt (H.digest hash.now) client.old stream.now
+    ensures accepted { result ≡ Err Stop.KeeperFault → TakesAt (H.digest client.old.hash) client.old.state stream.now
         (done (K.written sink.old) (P.kept keeper.old)) (done (K.written sink.new) (P.kept keeper.new)) }
     ensures write { result ≡ Err Stop.WriteFault → Rose (K.faults sink.old) (K.faults sink.new) }
     ensures keep { result ≡ Err Stop.KeeperFault → Rose (P.faults keeper.old) (P.faults keeper.new) }
@@ -131,7 +130,7 @@ pub(crate) fn take_lines<H: Hash32, K: Sink, P: Keeper>(
     while !rest.is_empty() {
         let (line, behind) = first_line(rest);
         number += 1;
-        refused |= take_line(alloc, hash, client, sink, keeper, number, line)?;
+        refused |= take_line(alloc, client, sink, keeper, number, line)?;
         rest = behind;
     }
     Ok(refused)

@@ -55,7 +55,7 @@ fn verify_octets<H: Hash32, K: Sink, P: Keeper>(
         Err(KeptError::Memory) => return Ended::Memory,
         Err(KeptError::Line(line)) => return Ended::Kept { line },
     };
-    match take_lines(alloc, hash, &mut client, sink, keeper, stream) {
+    match take_lines(alloc, &mut client, sink, keeper, stream) {
         Ok(false) => Ended::Ok,
         Ok(true) => Ended::Refused,
         Err(Stop::WriteFault) => Ended::WriteFault,

@@ -1,6 +1,9 @@
-use Rattle.std.proofs.Common.{take}
+use Rattle.std.proofs.Common.{◌≡◌, take}
 use Rattle.im_verify.specs.Turns.{TakesKept}
 use Rattle.im_verify.proofs.kept.follow_lines.Given as goal
 
 abbrev pub invariant-loop-i : goal.invariant-loop-i
-invariant-loop-i g l = TakesKept (g.H.Hash32.digest l.hash) (take l.i l.lines) l.client
+invariant-loop-i g l = record {
+  takes : TakesKept (g.H.Hash32.digest l.hash) (take l.i l.lines) l.client.state;
+  hash : l.client.hash ≡ l.hash;
+}
