@@ -1,0 +1,43 @@
+-- A client with an accepted message more is one, and what was copied of the message makes it.
+use Rattle.std.proofs.Common.{◌≡◌, List, [], ◌∷◌, ◌++◌, refl, ap, subst, sym, ◌∙◌, Option}
+use Rattle.std.specs.Option.{option_to_list}
+use Rattle.std.proofs.lemmas.List.Elements.{All-nil, All-push}
+use Rattle.im_digest.specs.Digests.{Hash}
+use Rattle.im_model.specs.declared.headers.Header.{Header}
+use Rattle.im_wire.specs.Fits.{IsMessage}
+use Rattle.im_wire.specs.declared.messages.Message.{Message}
+use Rattle.im_facts.specs.Accepted.{IsAccepted, AreAccepted, IsClient}
+use Rattle.im_facts.specs.Copies.{followed, AreCopies}
+use Rattle.im_facts.specs.Facts.{Known, nothing, with_message, known_after, with_headers, with_entries}
+use Rattle.im_facts.specs.declared.copies.Copies.{Copies}
+use Rattle.im_facts.specs.declared.facts.EntryFact.{EntryFact}
+
+-- who knows nothing is a client under any hash function
+pub nothing-client : (hash : Hash) → IsClient hash nothing
+nothing-client hash = record { fit = All-nil IsMessage; accepted = tt; led = refl }
+
+-- what is put in is what is known behind the message
+pub kept-all : (known : Known) (m : Message) (copies : Copies) (state : Option Header) (headers : List Header) (entries : List EntryFact) (messages : List Message) → AreCopies known.state m copies
+    → state ≡ followed known.state copies.state → headers ≡ with_headers known.headers copies.headers.items → entries ≡ with_entries known.entries (option_to_list copies.entry) → messages ≡ known.messages ++ m ∷ []
+    → ◌≡◌ {A = Known} (record { state = state; headers = headers; entries = entries; messages = messages }) (with_message known m)
+kept-all known m copies state headers entries messages are p q r s =
+    let one = p ∙ are.next in
+    let two = q ∙ ap (λ (more : List Header). with_headers known.headers more) are.headers in
+    let three = r ∙ ap (λ (more : List EntryFact). with_entries known.entries more) are.entry in
+    λ i. record { state = one i; headers = two i; entries = three i; messages = s i }
+
+after-more : (known : Known) (messages : List Message) (m : Message) → known_after known (messages ++ m ∷ []) ≡ with_message (known_after known messages) m
+after-more known [] m = refl
+after-more known (n ∷ messages) m = after-more (with_message known n) messages m
+
+accepted-more : (hash : Hash) (known : Known) (messages : List Message) (m : Message) → AreAccepted hash known messages → IsAccepted hash (known_after known messages) m → AreAccepted hash known (messages ++ m ∷ [])
+accepted-more hash known [] m all now = (now, tt)
+accepted-more hash known (n ∷ messages) m all now = (all.0, accepted-more hash (with_message known n) messages m all.1 now)
+
+-- a client with an accepted message more
+pub client-more : (hash : Hash) (known : Known) (m : Message) → IsClient hash known → IsMessage m → IsAccepted hash known m → IsClient hash (with_message known m)
+client-more hash known m client fits accepted = record {
+  fit = All-push IsMessage known.messages m client.fit fits;
+  accepted = accepted-more hash nothing known.messages m client.accepted (subst (λ (k : Known). IsAccepted hash k m) client.led accepted);
+  led = ap (λ (k : Known). with_message k m) client.led ∙ sym (after-more nothing known.messages m);
+}

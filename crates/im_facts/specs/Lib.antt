@@ -1,0 +1,4 @@
+pub mod Facts
+pub mod Verdicts
+pub mod Accepted
+pub mod Copies

@@ -1,0 +1,56 @@
+//! What holds of the definitions. Each function does nothing, and its contract is the law.
+
+ghost use Rattle.std.specs.Prelude.{◌≡◌, ◌⊎◌, ℕ, Contains, Some};
+ghost use Rattle.im_digest.specs.Digests.{Hash};
+ghost use Rattle.im_model.specs.declared.entries.Entry.{Entry};
+ghost use Rattle.im_model.specs.declared.headers.Header.{Header};
+ghost use Rattle.im_wire.specs.declared.messages.Message.{Message};
+ghost use Rattle.im_facts.specs.Accepted.{IsClient};
+ghost use Rattle.im_facts.specs.Facts.{Known, Agrees, Differs, IsRising, with_message, header_at, entry_at, headers_shown, entries_shown};
+ghost use Rattle.im_facts.specs.declared.facts.EntryFact.{EntryFact};
+
+/// The facts that a client keeps rise by their places, so each place has one at most.
+pub fn kept_facts_rise()
+    ensures { (hash : Hash) (known : Known) → IsClient hash known → IsRising known }
+{}
+
+/// The state is the kept header of its number, whatever the hash function: so a line that shows two unequal headers of
+/// one number shows one that is unlike the kept one, and which of several facts of one place is kept never matters.
+pub fn the_state_is_kept()
+    ensures { (hash : Hash) (known : Known) (state : Header) → IsClient hash known → known.state ≡ Some state → header_at known.headers state.id ≡ Some state }
+{}
+
+/// What is kept is what the accepted messages showed: each header and entry that one of them shows is kept at its place,
+/// and each kept one was shown by one of them.
+pub fn facts_are_what_was_shown()
+    ensures header { (hash : Hash) (known : Known) (message : Message) (header : Header) → IsClient hash known → Contains known.messages message → Contains (headers_shown message) header
+        → header_at known.headers header.id ≡ Some header }
+    ensures entry { (hash : Hash) (known : Known) (message : Message) (fact : EntryFact) → IsClient hash known → Contains known.messages message → Contains (entries_shown message) fact
+        → entry_at known.entries fact.tx fact.index ≡ Some fact.entry }
+    ensures no_other_header { (hash : Hash) (known : Known) (header : Header) → IsClient hash known → Contains known.headers header
+        → (message : Message) × Contains known.messages message × Contains (headers_shown message) header }
+    ensures no_other_entry { (hash : Hash) (known : Known) (fact : EntryFact) → IsClient hash known → Contains known.entries fact
+        → (message : Message) × Contains known.messages message × Contains (entries_shown message) fact }
+{}
+
+/// No two accepted messages show unequal facts for one place.
+pub fn facts_never_differ()
+    ensures headers { (hash : Hash) (known : Known) (m n : Message) (a b : Header) → IsClient hash known → Contains known.messages m → Contains known.messages n
+        → Contains (headers_shown m) a → Contains (headers_shown n) b → a.id ≡ b.id → a ≡ b }
+    ensures entries { (hash : Hash) (known : Known) (m n : Message) (a b : EntryFact) → IsClient hash known → Contains known.messages m → Contains known.messages n
+        → Contains (entries_shown m) a → Contains (entries_shown n) b → a.tx ≡ b.tx → a.index ≡ b.index → a.entry ≡ b.entry }
+{}
+
+/// What was found of a place is still found with any message more.
+pub fn what_was_found_is_still_found()
+    ensures header { (hash : Hash) (known : Known) (message : Message) (t : ℕ) (header : Header) → IsClient hash known
+        → header_at known.headers t ≡ Some header → header_at (with_message known message).headers t ≡ Some header }
+    ensures entry { (hash : Hash) (known : Known) (message : Message) (t i : ℕ) (entry : Entry) → IsClient hash known
+        → entry_at known.entries t i ≡ Some entry → entry_at (with_message known message).entries t i ≡ Some entry }
+{}
+
+/// A message agrees with what is kept, or differs from it, and not both.
+pub fn a_message_agrees_or_differs()
+    ensures one_of_both { (known : Known) (message : Message) → Agrees known message ⊎ Differs known message }
+    ensures not_both { (known : Known) (message : Message) → Agrees known message → Differs known message → ⊥ }
+{}

@@ -1,0 +1,9 @@
+//! A client that keeps facts: every header and entry that it was shown, and never two unequal ones for one place.
+#![tactic(auto)]
+
+mod agree;
+pub mod clients;
+mod copies;
+pub mod facts;
+pub mod laws;
+pub mod taken;
