@@ -6,3 +6,4 @@ pub mod AgreeLemmas
 pub mod WalkLemmas
 pub mod SearchLemmas
 pub mod KeepLemmas
+pub mod VerdictLemmas

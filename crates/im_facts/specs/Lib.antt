@@ -2,3 +2,4 @@ pub mod Facts
 pub mod Verdicts
 pub mod Accepted
 pub mod Copies
+pub mod Folds

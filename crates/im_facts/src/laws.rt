@@ -1,12 +1,14 @@
 //! What holds of the definitions. Each function does nothing, and its contract is the law.
 
-ghost use Rattle.std.specs.Prelude.{◌≡◌, ◌⊎◌, ℕ, Contains, Some};
+ghost use Rattle.std.specs.Prelude.{◌≡◌, ◌⊎◌, ◌++◌, ℕ, List, Contains, Some};
 ghost use Rattle.im_digest.specs.Digests.{Hash};
 ghost use Rattle.im_model.specs.declared.entries.Entry.{Entry};
 ghost use Rattle.im_model.specs.declared.headers.Header.{Header};
 ghost use Rattle.im_wire.specs.declared.messages.Message.{Message};
 ghost use Rattle.im_facts.specs.Accepted.{IsClient};
 ghost use Rattle.im_facts.specs.Facts.{Known, Agrees, Differs, IsRising, with_message, header_at, entry_at, headers_shown, entries_shown};
+ghost use Rattle.im_facts.specs.Folds.{IsVerdict, AreVerdicts, known_by_all};
+ghost use Rattle.im_facts.specs.Verdicts.{Verdict, IsSameVerdict, AreSameVerdicts, messages_of};
 ghost use Rattle.im_facts.specs.declared.facts.EntryFact.{EntryFact};
 
 /// The facts that a client keeps rise by their places, so each place has one at most.
@@ -53,4 +55,20 @@ pub fn what_was_found_is_still_found()
 pub fn a_message_agrees_or_differs()
     ensures one_of_both { (known : Known) (message : Message) → Agrees known message ⊎ Differs known message }
     ensures not_both { (known : Known) (message : Message) → Agrees known message → Differs known message → ⊥ }
+{}
+
+/// Of a line one thing becomes at most, but for the strings of a fork.
+pub fn one_verdict_but_for_its_pair()
+    ensures { (hash : Hash) (known : Known) (line : List ℕ) (a b : Verdict) → IsVerdict hash known line a → IsVerdict hash known line b → IsSameVerdict a b }
+{}
+
+/// Of lines, one after the other, too; and what is known behind them is one.
+pub fn one_list_of_verdicts_but_for_pairs()
+    ensures verdicts { (hash : Hash) (known : Known) (lines : List (List ℕ)) (a b : List Verdict) → AreVerdicts hash known lines a → AreVerdicts hash known lines b → AreSameVerdicts a b }
+    ensures keeps { (known : Known) (a b : List Verdict) → AreSameVerdicts a b → known_by_all known a ≡ known_by_all known b }
+{}
+
+/// The messages that are known behind lines are those before, and then the accepted ones.
+pub fn accepted_messages_are_known()
+    ensures { (known : Known) (verdicts : List Verdict) → (known_by_all known verdicts).messages ≡ known.messages ++ messages_of verdicts }
 {}

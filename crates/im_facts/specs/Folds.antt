@@ -1,0 +1,65 @@
+-- What a client makes of messages and of lines: the answer to each, and the fold over them, from what it knows on.
+use Rattle.std.specs.Prelude.{◌≡◌, ◌⊎◌, ℕ, List, [], ◌∷◌, ◌++◌, Some, None, Err}
+use Rattle.im_digest.specs.Digests.{Hash}
+use Rattle.im_mtree.specs.Checks.{first_fail}
+use Rattle.im_pairs.specs.Pairs.{IsPair}
+use Rattle.im_hashed.specs.Messages.{strings_of}
+use Rattle.im_wire.specs.Lines.{IsLine}
+use Rattle.im_wire.specs.declared.messages.Message.{Message}
+use Rattle.im_client.specs.Folds.{IsBad}
+use Rattle.im_client.specs.LineChecks.{line_checks}
+use Rattle.im_client.specs.declared.faults.LineFault.TheVariants.{Syntax}
+use Rattle.im_facts.specs.Accepted.{Passes, IsAccepted}
+use Rattle.im_facts.specs.Facts.{Known, with_message, Differs}
+use Rattle.im_facts.specs.Verdicts.{Verdict, Passed, Accepted, Refused, Forked, shown_of}
+use Rattle.im_facts.specs.declared.taken.Taken.{Taken}
+use Rattle.im_facts.specs.declared.taken.Taken.TheVariants as took
+
+-- a message is forked: it passes, some fact that it shows is unlike a kept one, and two unequal strings of one digest are
+-- among those hashed in checking the accepted messages and this one. Which two is free.
+pub record IsForkedBy (hash : Hash) (known : Known) (message : Message) (x y : List ℕ) : Type 0 where
+  pub passes : Passes hash known message
+  pub differs : Differs known message
+  pub pair : IsPair hash x y (strings_of hash (known.messages ++ message ∷ []))
+
+-- the answer to a message: it is accepted, with what it shows; refused by the first check that fails; or forked
+abbrev pub IsTakenAs : Hash → Known → Message → Taken → Type 0
+IsTakenAs hash known message (took.Accepted shown) = IsAccepted hash known message × (shown ≡ shown_of message)
+IsTakenAs hash known message (took.Refused fault) = first_fail (line_checks hash known.state message) ≡ Err fault
+IsTakenAs hash known message (took.Forked x y) = IsForkedBy hash known message x y
+
+-- what is known behind an answer: only an accepted message changes it
+abbrev pub known_behind : Known → Message → Taken → Known
+known_behind known message (took.Accepted shown) = with_message known message
+known_behind known message (took.Refused fault) = known
+known_behind known message (took.Forked x y) = known
+
+-- what becomes of a line, by what is known before it
+abbrev pub IsVerdict : Hash → Known → List ℕ → Verdict → Type 0
+IsVerdict hash known line Passed = IsLine line None
+IsVerdict hash known line (Accepted message) = IsLine line (Some message) × IsAccepted hash known message
+IsVerdict hash known line (Refused fault) =
+    (IsBad line × (fault ≡ Syntax))
+    ⊎ ((message : Message) × IsLine line (Some message) × (first_fail (line_checks hash known.state message) ≡ Err fault))
+IsVerdict hash known line (Forked x y) = (message : Message) × IsLine line (Some message) × IsForkedBy hash known message x y
+
+-- what is known behind a line
+abbrev pub known_by : Known → Verdict → Known
+known_by known Passed = known
+known_by known (Accepted message) = with_message known message
+known_by known (Refused fault) = known
+known_by known (Forked x y) = known
+
+-- and behind lines
+abbrev pub known_by_all : Known → List Verdict → Known
+known_by_all known [] = known
+known_by_all known (verdict ∷ verdicts) = known_by_all (known_by known verdict) verdicts
+
+-- what becomes of lines, one after the other. A forked line leaves what is known, so the lines behind it have verdicts too;
+-- that a run tells none of them is said where runs are.
+abbrev pub AreVerdicts : Hash → Known → List (List ℕ) → List Verdict → Type 0
+AreVerdicts hash known [] [] = Unit {0}
+AreVerdicts hash known [] (verdict ∷ verdicts) = ⊥
+AreVerdicts hash known (line ∷ lines) [] = ⊥
+AreVerdicts hash known (line ∷ lines) (verdict ∷ verdicts) =
+    IsVerdict hash known line verdict × AreVerdicts hash (known_by known verdict) lines verdicts
