@@ -4,14 +4,12 @@ use Rattle.im_digest.specs.Digests.{Hash}
 use Rattle.im_mtree.specs.Checks.{first_fail}
 use Rattle.im_wire.specs.Lines.{IsLine}
 use Rattle.im_wire.specs.declared.messages.Message.{Message}
-use Rattle.im_client.specs.Folds.{IsBad}
 use Rattle.im_client.specs.LineChecks.{line_checks}
 use Rattle.im_client.specs.declared.faults.LineFault.{LineFault}
 use Rattle.im_client.proofs.OutcomeLemmas.{says-one, says-none}
-use Rattle.im_facts.specs.Accepted.{IsAccepted}
-use Rattle.im_facts.specs.Facts.{Known, with_message, Agrees, Differs}
-use Rattle.im_facts.specs.Folds.{IsForkedBy, IsTakenAs, IsVerdict, AreVerdicts, known_behind, known_by, known_by_all}
-use Rattle.im_facts.specs.Verdicts.{Verdict, Passed, Accepted, Refused, Forked, IsForked, IsSameVerdict, AreSameVerdicts, messages_of, taken_of}
+use Rattle.im_facts.specs.Facts.{Known, with_message, Differs}
+use Rattle.im_facts.specs.Folds.{IsTakenAs, IsVerdict, AreVerdicts, known_behind, known_by, known_by_all}
+use Rattle.im_facts.specs.Verdicts.{Verdict, Passed, Accepted, Refused, Forked, IsSameVerdict, AreSameVerdicts, messages_of, taken_of}
 use Rattle.im_facts.specs.declared.taken.Shown.{Shown}
 use Rattle.im_facts.specs.declared.taken.Taken.{Taken}
 use Rattle.im_facts.specs.declared.taken.Taken.TheVariants as took
