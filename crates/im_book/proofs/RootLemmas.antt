@@ -3,7 +3,7 @@ use Rattle.std.proofs.Common.{◌≡◌, ◌<◌, ◌≤◌, ◌+◌, ◌-◌, �
 use Rattle.std.proofs.Math.Seq.{take-length}
 use Rattle.std.proofs.lemmas.List.{drop-take, length-take-le, take-append-drop, take-append-le, take-take}
 use Rattle.im_digest.specs.Digests.{Hash}
-use Rattle.im_frontier.specs.Kept.{IsFrontier, Kept}
+use Rattle.im_mtree.specs.Kept.{IsFrontier, Kept}
 use Rattle.im_model.specs.History.{bl_root_of, no_digest, Follow, IsHistory, IsTransaction}
 use Rattle.im_model.specs.Trees.{root}
 use Rattle.im_model.specs.declared.transactions.Transaction.{Transaction}

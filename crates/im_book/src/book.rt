@@ -3,11 +3,11 @@ use crate::judging::judge_each;
 use crate::roots::{extend_to, root_of};
 use im_digest::{D32, Hash32};
 use im_draft::preconditions::Pres;
-use im_frontier::frontiers::Frontier;
 use im_header::alh;
 use im_model::headers::Header;
 use im_model::limits::MOST_TRANSACTIONS;
 use im_model::transactions::Transaction;
+use im_mtree::frontiers::Frontier;
 use im_tx::prepared::Prepared;
 use im_versions::refusals::PlaceError;
 use std::alloc::{AllocError, Global};
@@ -42,7 +42,7 @@ impl Model for Book {
 impl Book {
     ghost use Rattle.std.specs.Prelude.{◌≡◌, ◌+◌, ◌<◌, ◌≤◌, ◌⊎◌, [], ◌∷◌, ◌++◌, length, take, IfErr, IfOk, None, OnErr, OnOk, Some};
     ghost use Rattle.im_digest.specs.Digests.{Hash};
-    ghost use Rattle.im_frontier.specs.Kept.{IsFrontier};
+    ghost use Rattle.im_mtree.specs.Kept.{IsFrontier};
     ghost use Rattle.im_model.specs.Headers.{alh};
     ghost use Rattle.im_model.specs.History.{bl_root_of, header_of, next_header, transaction_of, IsHistory, IsTransaction};
     ghost use Rattle.im_versions.specs.Admits.{place_refusal};

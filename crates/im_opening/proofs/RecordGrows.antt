@@ -5,7 +5,7 @@ use Rattle.std.proofs.lemmas.List.{length-map, map-append, take-append-le}
 use Rattle.im_digest.specs.Digests.{Hash}
 use Rattle.im_format.specs.Records.{AreRecords, AreReferences}
 use Rattle.im_format.specs.declared.records.Record.{Record}
-use Rattle.im_frontier.specs.Kept.{Kept, IsFrontier}
+use Rattle.im_mtree.specs.Kept.{Kept, IsFrontier}
 use Rattle.im_model.specs.Headers.{alh}
 use Rattle.im_model.specs.History.{Follow, IsHistory, IsTransaction, alh_of, alhs_of, bl_root_of, first_alh, next_header, no_digest}
 use Rattle.im_model.specs.Trees.{root}

@@ -3,7 +3,7 @@ use Rattle.im_disk.specs.Disk.{seen}
 use Rattle.im_format.specs.Records.{AreReferences, entries_octets, records_octets}
 use Rattle.im_format.specs.declared.records.Record.{Record}
 use Rattle.im_format.specs.declared.references.ValueRef.{ValueRef}
-use Rattle.im_frontier.specs.Kept.{IsFrontier}
+use Rattle.im_mtree.specs.Kept.{IsFrontier}
 use Rattle.im_model.specs.Headers.{alh, alh_string}
 use Rattle.im_model.specs.History.{IsTransaction, bl_root_of}
 use Rattle.im_mtree.specs.Checks.{first_fail}

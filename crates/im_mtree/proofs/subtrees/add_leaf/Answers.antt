@@ -1,10 +1,10 @@
 use Rattle.std.proofs.Common.{◌≡◌, ◌%◌, ◌+◌, ◌-◌, ◌/◌, length, arith, ◌∙◌, subst}
 use Rattle.im_model.proofs.Reversed.{reverse-last}
 use Rattle.im_mtree.proofs.SubtreeLemmas.{carry-merged}
-use Rattle.im_frontier.proofs.OnesLemmas.{IsHeight, height-begins, height-goes_on, height-ends}
-use Rattle.im_frontier.proofs.GrowthLemmas.{growth-begins, growth-ends}
-use Rattle.im_frontier.specs.Kept.{ones}
-use Rattle.im_frontier.proofs.subtrees.add_leaf.Goals as goal
+use Rattle.im_mtree.proofs.OnesLemmas.{IsHeight, height-begins, height-goes_on, height-ends}
+use Rattle.im_mtree.proofs.GrowthLemmas.{growth-begins, growth-ends}
+use Rattle.im_mtree.specs.Kept.{ones}
+use Rattle.im_mtree.proofs.subtrees.add_leaf.Goals as goal
 
 pub loop-count-init : goal.loop-count-init
 loop-count-init g c = record {

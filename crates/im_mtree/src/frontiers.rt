@@ -1,7 +1,7 @@
 ghost use Rattle.std.specs.Prelude.{◌≡◌, ◌<◌, ◌+◌, ◌^◌, ℕ, List, [], ◌∷◌, ◌++◌, length};
 ghost use Rattle.im_digest.specs.Digests.{Hash};
 ghost use Rattle.im_model.specs.Trees.{root};
-ghost use Rattle.im_frontier.specs.Kept.{IsFrontier};
+ghost use Rattle.im_mtree.specs.Kept.{IsFrontier};
 
 use crate::subtrees::{add_leaf, fold};
 use arrayvec::ArrayVec;
@@ -29,7 +29,7 @@ pub struct Frontier {
 
 impl Model for Frontier {
     ghost use Rattle.std.specs.Prelude.{◌≡◌, ◌<◌, ◌^◌, length};
-    ghost use Rattle.im_frontier.specs.Kept.{Kept, kept, ones};
+    ghost use Rattle.im_mtree.specs.Kept.{Kept, kept, ones};
 
     ghost Value = { Kept };
 

@@ -1,6 +1,6 @@
 use Rattle.std.proofs.Common.{◌≡◌, ℕ, ◌+◌, List, ◌++◌, take}
-use Rattle.im_frontier.specs.Kept.{IsFrontier}
-use Rattle.im_frontier.proofs.frontiers.Frontier.extend.Given as goal
+use Rattle.im_mtree.specs.Kept.{IsFrontier}
+use Rattle.im_mtree.proofs.frontiers.Frontier.extend.Given as goal
 
 abbrev pub invariant-loop-digest : goal.invariant-loop-digest
 invariant-loop-digest g l = record {

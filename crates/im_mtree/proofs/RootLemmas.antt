@@ -1,50 +1,16 @@
 -- The whole subtrees of all leaves give the root.
-use Rattle.std.proofs.Common.{◌≡◌, ◌<◌, ◌≤◌, length, ℕ, suc, zero, ◌+◌, ◌-◌, ◌*◌, ◌/◌, ◌%◌, ◌^◌, List, [], ◌∷◌, ◌++◌, take, drop, reverse, refl, arith, ap, subst, ◌∙◌, sym, length-drop, get_or, inl, inr}
+use Rattle.std.proofs.Common.{◌≡◌, ◌<◌, length, ℕ, suc, zero, ◌+◌, ◌-◌, ◌*◌, ◌/◌, ◌%◌, ◌^◌, List, [], ◌∷◌, ◌++◌, take, drop, reverse, refl, arith, ap, subst, ◌∙◌, sym, length-drop, get_or, inl, inr}
 use Rattle.std.proofs.lemmas.List.{take_all, take_more}
 use Rattle.std.proofs.lemmas.Bool.{cases_lt}
 use Rattle.std.proofs.lemmas.Nat.{pow_pos}
-use Rattle.std.proofs.Math.Nat.{pow-succ', zero-mul}
+use Rattle.std.proofs.Math.Nat.{pow-succ'}
 use Rattle.im_digest.specs.Digests.{Hash}
-use Rattle.im_model.specs.Trees.{node, root}
+use Rattle.im_model.specs.Trees.{root}
 use Rattle.im_model.proofs.Reversed.{reverse-last}
 use Rattle.im_mtree.specs.Subtrees.{subtrees_within, subtrees, folded}
-use Rattle.im_mtree.proofs.JoinLemmas.{power-twice, root-rest}
-use Rattle.im_mtree.proofs.SubtreeLemmas.{subtrees-odd, subtrees-even, folded-cons, folded-nil}
-use Rattle.im_frontier.specs.Kept.{kept, IsFrontier}
-use Rattle.im_frontier.proofs.GrowthLemmas.{even-place, odd-place}
-
-subtrees-zero : (hash : Hash) (leaves : List (List ℕ)) (s count : ℕ) → subtrees_within 0 hash leaves s count ≡ []
-unfolding subtrees_within
-subtrees-zero hash leaves s count = refl
-
--- subtrees and the part behind them, which is at most one more of their size
-folded-within : (room : ℕ) (hash : Hash) (leaves : List (List ℕ)) (s e count : ℕ) → s ≡ 2 ^ e → count < 2 ^ room
-    → count * s < length leaves → length leaves ≤ count * s + s
-    → folded hash (subtrees_within room hash leaves s count) (root hash (drop (count * s) leaves)) ≡ root hash leaves
-folded-within zero hash leaves s e count power fits more most =
-    let none : count ≡ 0 = omega arith in
-    let start : count * s ≡ 0 = ap (λ j. j * s) none ∙ zero-mul s in
-    ap (λ l. folded hash l (root hash (drop (count * s) leaves))) (subtrees-zero hash leaves s count)
-    ∙ folded-nil hash (root hash (drop (count * s) leaves)) ∙ ap (λ j. root hash (drop j leaves)) start
-folded-within (suc room) hash leaves s e count power fits more most =
-    let double : 2 ^ suc room ≡ 2 * 2 ^ room = pow-succ' 2 room in
-    let at : ℕ = count / 2 * (2 * s) in
-    elim (cases_lt 0 (count % 2)) [
-      | inl some ↦ (
-          let odd : count % 2 ≡ 1 = omega arith in
-          let place : count * s ≡ at + s = odd-place count s odd in
-          ap (λ l. folded hash l (root hash (drop (count * s) leaves))) (subtrees-odd room hash leaves s count odd)
-          ∙ folded-cons hash (root hash (take s (drop at leaves))) (subtrees_within room hash leaves (2 * s) (count / 2)) (root hash (drop (count * s) leaves))
-          ∙ ap (λ r. folded hash (subtrees_within room hash leaves (2 * s) (count / 2)) r)
-          (ap (λ j. node hash (root hash (take s (drop at leaves))) (root hash (drop j leaves))) place ∙ root-rest hash leaves s e at power (omega arith) (omega arith))
-          ∙ folded-within room hash leaves (2 * s) (suc e) (count / 2) (power-twice s e power) (omega arith) (omega arith) (omega arith))
-      | inr none ↦ (
-          let even : count % 2 ≡ 0 = omega arith in
-          let place : count * s ≡ at = even-place count s even in
-          ap (λ l. folded hash l (root hash (drop (count * s) leaves))) (subtrees-even room hash leaves s count even)
-          ∙ ap (λ j. folded hash (subtrees_within room hash leaves (2 * s) (count / 2)) (root hash (drop j leaves))) place
-          ∙ folded-within room hash leaves (2 * s) (suc e) (count / 2) (power-twice s e power) (omega arith) (omega arith) (omega arith))
-    ]
+use Rattle.im_mtree.proofs.JoinLemmas.{power-twice}
+use Rattle.im_mtree.proofs.SubtreeLemmas.{even-place, odd-place, subtrees-odd, subtrees-even, folded-within}
+use Rattle.im_mtree.specs.Kept.{kept, IsFrontier}
 
 -- the root over some subtrees, the last first
 joined : Hash → List (List ℕ) → List ℕ

@@ -1,7 +1,7 @@
 ghost use Rattle.std.specs.Prelude.{◌≡◌, ◌<◌, ◌+◌, ℕ, List, [], ◌∷◌, ◌++◌, length, drop, reverse, slice_index_or};
 ghost use Rattle.im_model.specs.Trees.{node};
 ghost use Rattle.im_mtree.specs.Subtrees.{folded};
-ghost use Rattle.im_frontier.specs.Kept.{kept, ones, IsFrontier};
+ghost use Rattle.im_mtree.specs.Kept.{kept, ones, IsFrontier};
 
 use arrayvec::ArrayVec;
 use im_digest::{D32, Hash32};

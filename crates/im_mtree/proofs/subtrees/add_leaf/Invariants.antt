@@ -1,8 +1,8 @@
 use Rattle.std.proofs.Common.{ℕ, ◌+◌, List, length}
-use Rattle.im_frontier.specs.Kept.{kept, ones, IsFrontier}
-use Rattle.im_frontier.proofs.OnesLemmas.{IsHeight}
-use Rattle.im_frontier.proofs.GrowthLemmas.{IsGrowing}
-use Rattle.im_frontier.proofs.subtrees.add_leaf.Given as goal
+use Rattle.im_mtree.specs.Kept.{kept, ones, IsFrontier}
+use Rattle.im_mtree.proofs.OnesLemmas.{IsHeight}
+use Rattle.im_mtree.proofs.GrowthLemmas.{IsGrowing}
+use Rattle.im_mtree.proofs.subtrees.add_leaf.Given as goal
 
 abbrev pub invariant-loop-count : goal.invariant-loop-count
 invariant-loop-count g l = record {

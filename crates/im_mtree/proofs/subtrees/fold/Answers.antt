@@ -1,5 +1,5 @@
 use Rattle.im_mtree.proofs.SubtreeLemmas.{folded-pop, folded-all}
-use Rattle.im_frontier.proofs.subtrees.fold.Goals as goal
+use Rattle.im_mtree.proofs.subtrees.fold.Goals as goal
 
 pub loop-left-preserved : goal.loop-left-preserved
 loop-left-preserved g c =

@@ -2,7 +2,7 @@
 use Rattle.std.proofs.Common.{◌≡◌, ◌<◌, ◌≤◌, ℕ, suc, zero, ◌+◌, ◌-◌, ◌*◌, ◌/◌, ◌%◌, ◌^◌, refl, arith, ap, inl, inr}
 use Rattle.std.proofs.lemmas.Bool.{cases_lt}
 use Rattle.std.proofs.Math.Nat.{pow-succ'}
-use Rattle.im_frontier.specs.Kept.{ones_within, ones}
+use Rattle.im_mtree.specs.Kept.{ones_within, ones}
 
 -- the ones of a number are its last digit and those of its half
 ones-step : (room count : ℕ) → ones_within (suc room) count ≡ count % 2 + ones_within room (count / 2)

@@ -2,25 +2,11 @@
 use Rattle.std.proofs.Common.{◌≡◌, ◌<◌, ◌≤◌, length, ℕ, suc, zero, ◌+◌, ◌-◌, ◌*◌, ◌/◌, ◌%◌, ◌^◌, List, [], ◌∷◌, ◌++◌, take, drop, reverse, refl, arith, ap, subst, ◌∙◌, sym, length-drop, inl, inr}
 use Rattle.std.proofs.lemmas.List.{take-append-le, drop-append-le, length_push, get_or_push}
 use Rattle.std.proofs.lemmas.Bool.{cases_lt}
-use Rattle.std.proofs.Math.Nat.{mul_assoc, suc-mul}
 use Rattle.im_digest.specs.Digests.{Hash}
 use Rattle.im_model.specs.Trees.{leaf, root}
 use Rattle.im_mtree.specs.Subtrees.{subtrees_within, subtrees}
-use Rattle.im_mtree.proofs.SubtreeLemmas.{subtrees-odd, subtrees-even, IsCarry, carry-begins, carry-ends}
-use Rattle.im_frontier.specs.Kept.{kept, IsFrontier}
-
--- where an even count of runs ends
-pub even-place : (count s : ℕ) → count % 2 ≡ 0 → count * s ≡ count / 2 * (2 * s)
-even-place count s h =
-    let twice : count ≡ count / 2 * 2 = omega arith in
-    ap (λ j. j * s) twice ∙ mul_assoc (count / 2) 2 s
-
--- where an odd count of runs ends
-pub odd-place : (count s : ℕ) → count % 2 ≡ 1 → count * s ≡ count / 2 * (2 * s) + s
-odd-place count s h =
-    let twice : count ≡ suc (count / 2 * 2) = omega arith in
-    let place : (count / 2 * 2) * s ≡ count / 2 * (2 * s) = mul_assoc (count / 2) 2 s in
-    ap (λ j. j * s) twice ∙ suc-mul (count / 2 * 2) s ∙ ap (λ j. j + s) place
+use Rattle.im_mtree.proofs.SubtreeLemmas.{even-place, odd-place, subtrees-odd, subtrees-even, IsCarry, carry-begins, carry-ends}
+use Rattle.im_mtree.specs.Kept.{kept, IsFrontier}
 
 -- leaves behind them leave the subtrees of the first ones as they are
 subtrees-within-append : (room : ℕ) (hash : Hash) (leaves more : List (List ℕ)) (s count : ℕ) → count * s ≤ length leaves

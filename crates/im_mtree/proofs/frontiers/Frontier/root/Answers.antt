@@ -1,8 +1,8 @@
 use Rattle.std.proofs.Common.{◌<◌, length, arith, ap, subst, sym, ◌∙◌}
-use Rattle.im_frontier.specs.Kept.{IsFrontier}
-use Rattle.im_frontier.proofs.OnesLemmas.{height-some}
-use Rattle.im_frontier.proofs.RootLemmas.{frontier-folded}
-use Rattle.im_frontier.proofs.frontiers.Frontier.root.Goals as goal
+use Rattle.im_mtree.specs.Kept.{IsFrontier}
+use Rattle.im_mtree.proofs.OnesLemmas.{height-some}
+use Rattle.im_mtree.proofs.RootLemmas.{frontier-folded}
+use Rattle.im_mtree.proofs.frontiers.Frontier.root.Goals as goal
 
 pub overflow_sub-last : goal.overflow_sub-last
 overflow_sub-last g c =
