@@ -1,5 +1,5 @@
 -- The headers of a history are recorded among its Alh, which are linked.
-use Rattle.std.proofs.Common.{◌≡◌, ◌<◌, ◌≤◌, length, ℕ, suc, zero, ◌+◌, ◌-◌, ◌==◌, List, [], ◌∷◌, ◌++◌, take, refl, arith, ap, subst, ◌∙◌, sym, get_or, length-append, nat_eq, nat_le, nat_lt, ◌&&◌, true, Ok, if◌then◌else◌}
+use Rattle.std.proofs.Common.{◌≡◌, ◌<◌, ◌≤◌, length, ℕ, suc, zero, ◌+◌, ◌-◌, ◌==◌, List, [], ◌∷◌, take, refl, arith, ap, subst, ◌∙◌, sym, get_or, length-append, nat_eq, nat_le, nat_lt, ◌&&◌, true, Ok, if◌then◌else◌}
 use Rattle.std.proofs.Math.Seq.{get_or-append_seam}
 use Rattle.std.proofs.lemmas.Bool.{le-leb, lt-ltb}
 use Rattle.std.proofs.lemmas.List.{length-take-le, take-append-le, take-take, take_all, get_or-take, get_or_default}

@@ -117,7 +117,7 @@ fn seven(alloc: Global) -> Result<Tree, AllocError> {
 
 fn roots_of_seven(tree: &Tree) -> bool {
     tree.size() == 7
-        && tree.leaves()[6] == digest(7)
+        && *tree.leaf(7) == digest(7)
         && tree.root_at(&Sum, 3) == digest(0x08)
         && tree.root_at(&Sum, 4) == digest(0x0d)
         && tree.root_at(&Sum, 7) == digest(0x22)
