@@ -3,7 +3,6 @@
 //! transactions are taken.
 #![tactic(auto)]
 
-mod entries;
 pub mod index;
 mod reads;
 pub mod snapshot;
