@@ -1,9 +1,10 @@
-use crate::headers::header_over;
 use crate::judging::judge_each;
 use crate::roots::{extend_to, root_of};
 use im_digest::{D32, Hash32};
 use im_draft::preconditions::Pres;
+use im_entry::digests::entry_root;
 use im_header::alh;
+use im_header::next::next_header;
 use im_model::headers::Header;
 use im_model::limits::MOST_TRANSACTIONS;
 use im_model::transactions::Transaction;
@@ -170,7 +171,8 @@ impl Book {
         requires root { root ≡ bl_root_of (H.digest hash.now) self.now.alhs tx.now.bl }
         ensures { IfOk result (λ header. header ≡ next_header (H.digest hash.now) self.now.alhs tx.now) }
     {
-        header_over(alloc, hash, self.alhs.as_slice(), root, tx)
+        let eh = entry_root(alloc, hash, tx.entries.as_slice())?;
+        Ok(next_header(alloc, hash, self.alhs.as_slice(), root, tx, eh))
     }
 
     /// Takes a transaction behind the others, with its header and its Alh. It hashes nothing. Its only error is

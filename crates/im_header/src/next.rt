@@ -1,32 +1,32 @@
-ghost use Rattle.std.specs.Prelude.{◌≡◌, ◌<◌, IfOk, length};
-ghost use Rattle.im_model.specs.History.{bl_root_of, next_header, IsTransaction};
+ghost use Rattle.std.specs.Prelude.{◌≡◌, ◌<◌, length};
+ghost use Rattle.im_model.specs.History.{bl_root_of, entries_root, next_header, IsTransaction};
 
 use im_digest::{D32, Hash32};
 use im_model::headers::Header;
 use im_model::limits::Metadata;
 use im_model::transactions::Transaction;
 use im_octet::octets::Octets;
-use im_plain::history::entry_root;
-use std::alloc::{AllocError, Global};
+use std::alloc::Global;
 
-/// The header of a transaction over a tree of this root, where `alhs` are the Alh of all those before it. It
-/// hashes the entries. Its only error is want of memory.
+/// The header of a transaction behind those whose Alh are `alhs`, over a tree of the root `bl_root`, where `eh`
+/// is the root over the digests of its entries. It takes no memory, and costs a hash only where no Alh is before
+/// it.
 #[tactic(auto, unfolding(im_model::specs::History::next_header))]
-pub(crate) fn header_over<H: Hash32>(
+pub fn next_header<H: Hash32>(
     alloc: Global,
     hash: &H,
     alhs: &[D32],
     bl_root: D32,
     tx: &Transaction,
-) -> Result<Header, AllocError>
+    eh: D32,
+) -> Header
     requires tx { IsTransaction (length alhs.now) tx.now }
     requires few { length alhs.now < 1048576 }
     requires root { bl_root ≡ bl_root_of (H.digest hash.now) alhs.now tx.now.bl }
-    ensures { IfOk result (λ header. header ≡ next_header (H.digest hash.now) alhs.now tx.now) }
+    requires entries { eh ≡ entries_root (H.digest hash.now) tx.now.entries }
+    ensures { result ≡ next_header (H.digest hash.now) alhs.now tx.now }
 {
-    let entries = tx.entries.as_slice();
-    let eh = entry_root(alloc, hash, entries)?;
-    Ok(Header {
+    Header {
         id: alhs.len() as u64 + 1,
         ts: tx.ts,
         bl_tx_id: tx.bl,
@@ -37,7 +37,7 @@ pub(crate) fn header_over<H: Hash32>(
         },
         version: 1,
         md: Metadata::new(Octets::new(alloc)),
-        nentries: entries.len() as u32,
+        nentries: tx.entries.as_slice().len() as u32,
         eh,
-    })
+    }
 }

@@ -1,4 +1,4 @@
--- Each header stands in the chain of those before it.
+-- The Alh of a history as it grows, and each header in the chain of those before it.
 use Rattle.std.proofs.Common.{◌≡◌, ◌<◌, ◌≤◌, length, ℕ, zero, suc, ◌+◌, ◌-◌, List, [], ◌∷◌, ◌++◌, take, drop, take-take, refl, arith, ap, ◌∙◌, sym, get_or, length-append, if◌then◌else◌}
 use Rattle.std.proofs.Math.Seq.{get_or-append_seam}
 use Rattle.std.proofs.lemmas.List.{get_or_append_left, get_or_default, length-take-le, take-append-drop, take_more, get_or-take}
@@ -10,13 +10,21 @@ use Rattle.im_model.specs.declared.headers.Header.{Header}
 use Rattle.im_model.specs.declared.transactions.Transaction.{Transaction}
 use Rattle.im_model.proofs.HistoryLemmas.{length-alhs_of}
 
+-- the Alh, and that of one more transaction
+abbrev pub grown : Hash → List (List ℕ) → Transaction → List (List ℕ)
+grown hash alhs tx = alhs ++ alh hash (next_header hash alhs tx) ∷ []
+
 -- the Alh of more transactions stand behind those of the first
 alhs_from-append : (hash : Hash) (alhs : List (List ℕ)) (txs more : List Transaction) → alhs_from hash alhs (txs ++ more) ≡ alhs_from hash (alhs_from hash alhs txs) more
 alhs_from-append hash alhs [] more = refl
-alhs_from-append hash alhs (tx ∷ txs) more = alhs_from-append hash (alhs ++ alh hash (next_header hash alhs tx) ∷ []) txs more
+alhs_from-append hash alhs (tx ∷ txs) more = alhs_from-append hash (grown hash alhs tx) txs more
+
+-- one transaction more adds its Alh
+pub alhs-next : (hash : Hash) (history : List Transaction) (tx : Transaction) → alhs_of hash (history ++ tx ∷ []) ≡ grown hash (alhs_of hash history) tx
+alhs-next hash history tx = alhs_from-append hash [] history (tx ∷ [])
 
 -- the Alh that were there stay
-alhs_from-first : (hash : Hash) (alhs : List (List ℕ)) (txs : List Transaction) (i : ℕ) (d : List ℕ) → i < length alhs → get_or (alhs_from hash alhs txs) i d ≡ get_or alhs i d
+pub alhs_from-first : (hash : Hash) (alhs : List (List ℕ)) (txs : List Transaction) (i : ℕ) (d : List ℕ) → i < length alhs → get_or (alhs_from hash alhs txs) i d ≡ get_or alhs i d
 alhs_from-first hash alhs [] i d h = refl
 alhs_from-first hash alhs (tx ∷ txs) i d h =
     let one : List (List ℕ) = alh hash (next_header hash alhs tx) ∷ [] in
@@ -30,7 +38,7 @@ alhs_of-next hash h k within =
     let tx : Transaction = get_or h k no_transaction in
     let same : next_header hash (alhs_of hash (take k h)) tx ≡ header_of hash h (k + 1) = sym (ap (λ i. next_header hash (alhs_of hash (take i h)) (get_or h i no_transaction)) place) in
     ap (alhs_of hash) (take_more h k no_transaction within)
-    ∙ alhs_from-append hash [] (take k h) (tx ∷ [])
+    ∙ alhs-next hash (take k h) tx
     ∙ ap (λ (x : Header). alhs_of hash (take k h) ++ alh hash x ∷ []) same
 
 -- the Alh of the whole history begin with those of its first transactions
@@ -66,9 +74,15 @@ previous-next : (hash : Hash) (alhs : List (List ℕ)) (tx : Transaction) → (n
 unfolding next_header
 previous-next hash alhs tx = refl
 
-number-next : (hash : Hash) (alhs : List (List ℕ)) (tx : Transaction) → (next_header hash alhs tx).id ≡ length alhs + 1
+-- a header is numbered behind those before it
+pub next-id : (hash : Hash) (alhs : List (List ℕ)) (tx : Transaction) → (next_header hash alhs tx).id ≡ length alhs + 1
 unfolding next_header
-number-next hash alhs tx = refl
+next-id hash alhs tx = refl
+
+-- and tells the tree of its transaction
+pub next-bl : (hash : Hash) (alhs : List (List ℕ)) (tx : Transaction) → (next_header hash alhs tx).bl_tx_id ≡ tx.bl
+unfolding next_header
+next-bl hash alhs tx = refl
 
 -- header k + 1 has the number k + 1
 pub header-number : (hash : Hash) (h : List Transaction) (k : ℕ) → k < length h → (header_of hash h (k + 1)).id ≡ k + 1
@@ -76,7 +90,7 @@ header-number hash h k within =
     let place : k + 1 - 1 ≡ k = omega arith in
     let count : length (alhs_of hash (take (k + 1 - 1) h)) ≡ k =
     length-alhs_of hash (take (k + 1 - 1) h) ∙ ap (λ i. length (take i h)) place ∙ length-take-le k h (omega arith) in
-    number-next hash (alhs_of hash (take (k + 1 - 1) h)) (get_or h (k + 1 - 1) no_transaction) ∙ ap (λ i. i + 1) count
+    next-id hash (alhs_of hash (take (k + 1 - 1) h)) (get_or h (k + 1 - 1) no_transaction) ∙ ap (λ i. i + 1) count
 
 -- header k + 1 has the Alh of number k before it
 pub header-previous : (hash : Hash) (h : List Transaction) (k : ℕ) → k < length h → (header_of hash h (k + 1)).prev_alh ≡ alh_of hash h k

@@ -1,5 +1,5 @@
-use Rattle.im_plain.proofs.HeaderLemmas.{alh_of-next, header-number, header-previous, header-prefix}
-use Rattle.im_plain.proofs.laws.headers_stand_in_a_chain.Goals as goal
+use Rattle.im_model.proofs.HeaderLemmas.{alh_of-next, header-number, header-previous, header-prefix}
+use Rattle.im_header.proofs.laws.headers_stand_in_a_chain.Goals as goal
 
 pub returns-clause-number : goal.returns-clause-number
 returns-clause-number c = header-number
