@@ -1,6 +1,6 @@
 -- The whole subtrees of all leaves give the root.
 use Rattle.std.proofs.Common.{◌≡◌, ◌<◌, length, ℕ, suc, zero, ◌+◌, ◌-◌, ◌*◌, ◌/◌, ◌%◌, ◌^◌, List, [], ◌∷◌, ◌++◌, take, drop, reverse, refl, arith, ap, subst, ◌∙◌, sym, length-drop, get_or, inl, inr}
-use Rattle.std.proofs.lemmas.List.{take_all, take_more}
+use Rattle.std.proofs.lemmas.List.{take_all}
 use Rattle.std.proofs.lemmas.Bool.{cases_lt}
 use Rattle.std.proofs.lemmas.Nat.{pow_pos}
 use Rattle.std.proofs.Math.Nat.{pow-succ'}
@@ -11,6 +11,7 @@ use Rattle.im_mtree.specs.Subtrees.{subtrees_within, subtrees, folded}
 use Rattle.im_mtree.proofs.JoinLemmas.{power-twice}
 use Rattle.im_mtree.proofs.SubtreeLemmas.{even-place, odd-place, subtrees-odd, subtrees-even, folded-within}
 use Rattle.im_mtree.specs.Kept.{kept, IsFrontier}
+use Rattle.im_octet.proofs.Common.{last-term}
 
 -- the root over some subtrees, the last first
 joined : Hash → List (List ℕ) → List ℕ
@@ -57,14 +58,9 @@ frontier-root hash leaves stack lefts size last some fits f split =
     ∙ ap (λ l. joined hash l) (sym (reverse-last stack lefts last split) ∙ f.whole)
     ∙ joined-root hash leaves (omega arith) (omega arith)
 
--- a stack is its last root behind the others
-stack-split : (stack : List (List ℕ)) → 0 < length stack → stack ≡ take (length stack - 1) stack ++ get_or stack (length stack - 1) [] ∷ []
-stack-split stack some =
-    sym (take_all (length stack - 1 + 1) stack (omega arith)) ∙ take_more stack (length stack - 1) [] (omega arith)
-
 -- the root, as it is folded from a slice of the stack
 pub frontier-folded : (hash : Hash) (leaves stack slice : List (List ℕ)) (size : ℕ) → 0 < length stack → 0 < size → size < 2 ^ 64 → IsFrontier hash leaves (kept stack size)
     → slice ≡ stack → folded hash (reverse (take (length slice - 1) slice)) (get_or slice (length slice - 1) []) ≡ root hash leaves
 frontier-folded hash leaves stack slice size high some fits f same =
     subst (λ l. folded hash (reverse (take (length l - 1) l)) (get_or l (length l - 1) []) ≡ root hash leaves) (sym same)
-    (frontier-root hash leaves stack (take (length stack - 1) stack) size (get_or stack (length stack - 1) []) some fits f (stack-split stack high))
+    (frontier-root hash leaves stack (take (length stack - 1) stack) size (get_or stack (length stack - 1) []) some fits f (last-term stack (length stack - 1) [] (omega arith)))

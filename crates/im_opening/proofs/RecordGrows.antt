@@ -12,7 +12,8 @@ use Rattle.im_model.specs.Trees.{root}
 use Rattle.im_model.specs.declared.transactions.Transaction.{Transaction}
 use Rattle.im_model.specs.declared.headers.Header.{Header}
 use Rattle.im_proof.specs.Built.{headers_of}
-use Rattle.im_proof.proofs.HeaderLemmas.{alhs-next, headers-next as headers-behind}
+use Rattle.im_model.proofs.HeaderLemmas.{alhs-next}
+use Rattle.im_proof.proofs.HeaderLemmas.{headers-next as headers-behind}
 use Rattle.im_opening.specs.Reach.{AreReferred, IsConsistent, last_bl, txs_of}
 
 follow-next : (n bl : ℕ) (txs : List Transaction) (tx : Transaction) → Follow n bl txs → IsTransaction (n + length txs) tx → last_bl bl txs ≤ tx.bl → Follow n bl (txs ++ tx ∷ [])
