@@ -171,8 +171,9 @@ impl Book {
         requires root { root ≡ bl_root_of (H.digest hash.now) self.now.alhs tx.now.bl }
         ensures { IfOk result (λ header. header ≡ next_header (H.digest hash.now) self.now.alhs tx.now) }
     {
+        let alhs = self.alhs.as_slice();
         let eh = entry_root(alloc, hash, tx.entries.as_slice())?;
-        Ok(next_header(alloc, hash, self.alhs.as_slice(), root, tx, eh))
+        Ok(next_header(alloc, hash, alhs, root, tx, eh))
     }
 
     /// Takes a transaction behind the others, with its header and its Alh. It hashes nothing. Its only error is
