@@ -8,7 +8,7 @@ use Rattle.im_model.specs.History.{header_of, IsHistory}
 use Rattle.im_model.specs.declared.headers.Header.{Header as TheHeader}
 use Rattle.im_model.specs.declared.transactions.Transaction.{Transaction}
 use Rattle.im_model.proofs.HistoryLemmas.{IsHistory-take}
-use Rattle.im_plain.proofs.HeaderLemmas.{header-prefix}
+use Rattle.im_model.proofs.HeaderLemmas.{header-prefix}
 use Rattle.im_mtree.specs.Checks.{first_fail}
 use Rattle.im_text.specs.Fields.{IsSession}
 use Rattle.im_wire.specs.Lines.{is_open, IsReply}

@@ -1,7 +1,7 @@
 -- The sides of the terms of a consistency list, how a level halves them, and the walk along them.
 use Rattle.std.proofs.Common.{◌≡◌, ◌≢◌, ◌<◌, ◌≤◌, ℕ, suc, zero, ◌+◌, ◌-◌, ◌*◌, ◌/◌, ◌%◌, List, [], ◌∷◌, ◌++◌, length, take, reverse, refl, arith, ap, ◌∙◌, sym, nat_le, Bool, true, false, if◌then◌else◌, length-append, inl, inr, get_or}
 use Rattle.std.proofs.lemmas.Bool.{cases_lt, cases_eq, le-leb, lt-leb, eq-eqb, ne_eqb}
-use Rattle.std.proofs.lemmas.List.{length-take-le, take_more, take_all}
+use Rattle.std.proofs.lemmas.List.{length-take-le}
 use Rattle.im_digest.specs.Digests.{Hash}
 use Rattle.im_model.specs.Trees.{node, split_of}
 use Rattle.im_model.specs.Growth.{growth_length_within, growth_length, consistency_length, older, newer}
@@ -13,6 +13,7 @@ use Rattle.im_mtree.proofs.SideLemmas.{split-half, split-two, sides-left, sides-
 use Rattle.im_mtree.proofs.WayLemmas.{rise-end}
 use Rattle.im_atree.specs.Grows.{grow_sides_within, grow_sides, meet_both}
 use Rattle.im_atree.specs.declared.growths.Roots.{Roots}
+use Rattle.im_octet.proofs.Common.{last-term}
 
 -- a smaller number is another
 pub differ : (m n : ℕ) → m < n → m ≢ n
@@ -160,12 +161,6 @@ pub length-grows : (m n : ℕ) → length (grow_sides m n) ≡ growth_length m n
 unfolding grow_sides growth_length
 length-grows m n = length-within n m n
 
--- a list is all its terms but the last, and the last
-last-term : (list : List (List ℕ)) (q : ℕ) → length list ≡ suc q → list ≡ take q list ++ get_or list q [] ∷ []
-last-term list q e =
-    let next : q + 1 ≡ suc q = omega arith in
-    sym (take_all (q + 1) list (omega arith)) ∙ take_more list q [] (omega arith)
-
 -- both roots that a first term and those behind it give
 abbrev pub roots_by : Hash → ℕ → ℕ → List ℕ → List (List ℕ) → Roots
 roots_by hash m n first list = record { older = older hash m n first (reverse list); newer = newer hash m n first (reverse list) }
@@ -193,9 +188,9 @@ both-rise (suc room) hash m n first list o l p e = elim (cases_eq m n) [
             ∙ rise-snoc (meet_both hash) (grow_sides_within room (m - k) (n - k)) true (record { older = first; newer = first }) list q (length-within room (m - k) (n - k)) long
             ∙ ap (λ r. meet_both hash true r term) (both-rise room hash (m - k) (n - k) first (take q list) (omega arith) (omega arith) (omega arith) front)
             ∙ ap (λ x. record { older = x; newer = node hash term (newer hash (m - k) (n - k) first (reverse (take q list))) })
-            (sym (older-last-right hash m n first list (take q list) term k (last-term list q long) refl over))
+            (sym (older-last-right hash m n first list (take q list) term k (last-term list q [] long) refl over))
             ∙ ap (λ x. record { older = older hash m n first (reverse list); newer = x })
-            (sym (newer-last-right hash m n first list (take q list) term k (last-term list q long) refl over)))
+            (sym (newer-last-right hash m n first list (take q list) term k (last-term list q [] long) refl over)))
         | inr under ↦ (
             let q : ℕ = growth_length_within room m k in
             let long : length list ≡ suc q = e ∙ growth-left room m n ne under in
@@ -205,9 +200,9 @@ both-rise (suc room) hash m n first list o l p e = elim (cases_eq m n) [
             ∙ rise-snoc (meet_both hash) (grow_sides_within room m k) false (record { older = first; newer = first }) list q (length-within room m k) long
             ∙ ap (λ r. meet_both hash false r term) (both-rise room hash m k first (take q list) o under (omega arith) front)
             ∙ ap (λ x. record { older = x; newer = node hash (newer hash m k first (reverse (take q list))) term })
-            (sym (older-last-left hash m n first list (take q list) term k (last-term list q long) refl under))
+            (sym (older-last-left hash m n first list (take q list) term k (last-term list q [] long) refl under))
             ∙ ap (λ x. record { older = older hash m n first (reverse list); newer = x })
-            (sym (newer-last-left hash m n first list (take q list) term k (last-term list q long) refl under)))
+            (sym (newer-last-left hash m n first list (take q list) term k (last-term list q [] long) refl under)))
       ])
 ]
 

@@ -66,11 +66,13 @@ impl Tree {
         self.leaves.len() as u64
     }
 
-    /// The leaves from the first on.
-    pub fn leaves(&self) -> &[D32]
-        ensures { result.now ≡ self.now }
+    /// The leaf of transaction i, from 1.
+    pub fn leaf(&self, i: u64) -> &D32
+        requires some { 1 ≤ i }
+        requires within { i ≤ length self.now }
+        ensures { result.now ≡ slice_index_or self.now (i - 1) [] }
     {
-        self.leaves.as_slice()
+        &self.leaves[i as usize - 1]
     }
 
     /// The root of the tree of the first n leaves: MTH of RFC 6962, section 2.1. It takes no memory, and

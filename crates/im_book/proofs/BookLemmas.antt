@@ -7,7 +7,8 @@ use Rattle.im_model.specs.declared.headers.Header.{Header}
 use Rattle.im_model.specs.declared.transactions.Transaction.{Transaction}
 use Rattle.im_model.proofs.HistoryLemmas.{length-alhs_of}
 use Rattle.im_proof.specs.Built.{headers_of}
-use Rattle.im_proof.proofs.HeaderLemmas.{alhs-next, headers-length, headers-next, headers-nth}
+use Rattle.im_model.proofs.HeaderLemmas.{alhs-next}
+use Rattle.im_proof.proofs.HeaderLemmas.{headers-length, headers-next, headers-nth}
 use Rattle.im_book.specs.Booked.{last_bl, last_bl_or, Booked, IsBook}
 
 -- a transaction behind others, over a tree no smaller than that of the last

@@ -1,6 +1,5 @@
 -- Preconditions that are judged one after the other.
-use Rattle.std.specs.Prelude.{Err, IfErr, IsErrAnd, Ok, Result}
-use Rattle.std.proofs.Common.{subst, ◌≡◌, ◌<◌, length, ℕ, ◌+◌, List, [], ◌∷◌, ◌++◌, take, drop, refl, ap, ◌∙◌, sym, inl, inr, get_or, Some, None, true, false, cond, nat_le}
+use Rattle.std.proofs.Common.{◌≡◌, ◌<◌, length, ℕ, ◌+◌, List, [], ◌∷◌, ◌++◌, take, drop, refl, ap, ◌∙◌, sym, inl, inr, get_or, Some, None, true, false, cond, nat_le}
 use Rattle.std.proofs.lemmas.Bool.{cases_Bool, leb-false}
 use Rattle.std.proofs.lemmas.List.{drop_more, take-append-drop}
 use Rattle.im_model.specs.declared.transactions.Transaction.{Transaction}
@@ -42,8 +41,3 @@ admitted-room history pres none = elim (cases_Bool (nat_le 1048576 (length histo
       cc)
   | inr room ↦ leb-false 1048576 (length history) room
 ]
-
--- an error that is passed on
-pub if-err : {T E : Type 0} (P : E → Type 0) (r : Result T E) (x : E) → IsErrAnd r (λ e. e ≡ x) → P x → IfErr r P
-if-err P (Ok y) x h p = absurd h
-if-err P (Err e) x h p = subst P (sym h) p

@@ -1,25 +1,14 @@
 -- The leaves of a tree that is raised, and its root.
-use Rattle.std.proofs.Common.{◌≡◌, ◌<◌, ◌≤◌, ◌+◌, ◌-◌, ◌==◌, ℕ, List, [], ◌∷◌, ◌++◌, zero, suc, length, take, drop, refl, arith, ap, subst, ◌∙◌, sym, get_or, if◌then◌else◌}
+use Rattle.std.proofs.Common.{◌≡◌, ◌<◌, ◌≤◌, ◌+◌, ◌-◌, ◌==◌, ℕ, List, [], ◌∷◌, ◌++◌, zero, suc, length, take, refl, arith, ap, subst, ◌∙◌, sym, get_or, if◌then◌else◌}
 use Rattle.std.proofs.Math.Seq.{take-length}
-use Rattle.std.proofs.lemmas.List.{drop-take, length-take-le, take-append-drop, take-append-le, take-take}
+use Rattle.std.proofs.lemmas.List.{length-take-le, take-append-le}
 use Rattle.im_digest.specs.Digests.{Hash}
-use Rattle.im_frontier.specs.Kept.{IsFrontier, Kept}
+use Rattle.im_mtree.specs.Kept.{IsFrontier, Kept}
 use Rattle.im_model.specs.History.{bl_root_of, no_digest, Follow, IsHistory, IsTransaction}
 use Rattle.im_model.specs.Trees.{root}
 use Rattle.im_model.specs.declared.transactions.Transaction.{Transaction}
 use Rattle.im_model.proofs.HistoryLemmas.{Follow-item}
 use Rattle.im_book.specs.Booked.{last_bl, last_bl_or}
-
--- the first of a list, and behind them those up to a higher number
-pub take-up : (ls : List (List ℕ)) (start end : ℕ) → start ≤ end → take start ls ++ take (end - start) (drop start ls) ≡ take end ls
-take-up ls start end up =
-    let whole : start + (end - start) ≡ end = omega arith in
-    let front : take start (take end ls) ≡ take start ls = take-take start end ls up in
-    let back : drop start (take end ls) ≡ take (end - start) (drop start ls) =
-    ap (λ (n : ℕ). drop start (take n ls)) (sym whole) ∙ drop-take start (end - start) ls in
-    ap (λ (l : List (List ℕ)). l ++ take (end - start) (drop start ls)) (sym front)
-    ∙ ap (λ (l : List (List ℕ)). take start (take end ls) ++ l) (sym back)
-    ∙ take-append-drop start (take end ls)
 
 -- the root over the first n leaves, told of them alone
 pub root-of-first : (hash : Hash) (leaves : List (List ℕ)) (n : ℕ) → n ≤ length leaves → bl_root_of hash (take n leaves) (length (take n leaves)) ≡ bl_root_of hash leaves n

@@ -1,13 +1,14 @@
-use crate::headers::header_over;
 use crate::judging::judge_each;
 use crate::roots::{extend_to, root_of};
 use im_digest::{D32, Hash32};
 use im_draft::preconditions::Pres;
-use im_frontier::frontiers::Frontier;
+use im_entry::digests::entry_root;
 use im_header::alh;
+use im_header::next::next_header;
 use im_model::headers::Header;
 use im_model::limits::MOST_TRANSACTIONS;
 use im_model::transactions::Transaction;
+use im_mtree::frontiers::Frontier;
 use im_tx::prepared::Prepared;
 use im_versions::refusals::PlaceError;
 use std::alloc::{AllocError, Global};
@@ -42,7 +43,7 @@ impl Model for Book {
 impl Book {
     ghost use Rattle.std.specs.Prelude.{◌≡◌, ◌+◌, ◌<◌, ◌≤◌, ◌⊎◌, [], ◌∷◌, ◌++◌, length, take, IfErr, IfOk, None, OnErr, OnOk, Some};
     ghost use Rattle.im_digest.specs.Digests.{Hash};
-    ghost use Rattle.im_frontier.specs.Kept.{IsFrontier};
+    ghost use Rattle.im_mtree.specs.Kept.{IsFrontier};
     ghost use Rattle.im_model.specs.Headers.{alh};
     ghost use Rattle.im_model.specs.History.{bl_root_of, header_of, next_header, transaction_of, IsHistory, IsTransaction};
     ghost use Rattle.im_versions.specs.Admits.{place_refusal};
@@ -170,7 +171,9 @@ impl Book {
         requires root { root ≡ bl_root_of (H.digest hash.now) self.now.alhs tx.now.bl }
         ensures { IfOk result (λ header. header ≡ next_header (H.digest hash.now) self.now.alhs tx.now) }
     {
-        header_over(alloc, hash, self.alhs.as_slice(), root, tx)
+        let alhs = self.alhs.as_slice();
+        let eh = entry_root(alloc, hash, tx.entries.as_slice())?;
+        Ok(next_header(alloc, hash, alhs, root, tx, eh))
     }
 
     /// Takes a transaction behind the others, with its header and its Alh. It hashes nothing. Its only error is

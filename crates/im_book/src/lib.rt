@@ -3,7 +3,6 @@
 #![tactic(auto)]
 
 pub mod book;
-mod headers;
 mod judging;
 mod last;
 pub mod laws;

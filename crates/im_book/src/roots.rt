@@ -1,11 +1,11 @@
 //! What is kept of a tree that grows: its whole subtrees, and the root that they give.
 
 ghost use Rattle.std.specs.Prelude.{◌≡◌, ◌≤◌, ℕ, List, length, take};
-ghost use Rattle.im_frontier.specs.Kept.{IsFrontier};
+ghost use Rattle.im_mtree.specs.Kept.{IsFrontier};
 ghost use Rattle.im_model.specs.History.{bl_root_of};
 
 use im_digest::{D32, Hash32};
-use im_frontier::frontiers::Frontier;
+use im_mtree::frontiers::Frontier;
 
 /// Brings what is kept of the first of these Alh to the first `end`. It hashes the leaves that are added.
 pub fn extend_to<H: Hash32>(hash: &H, frontier: &mut Frontier, alhs: &[D32], end: usize)

@@ -1,5 +1,5 @@
 -- Where no check fails, each of them holds.
-use Rattle.std.proofs.Common.{◌≡◌, ◌<◌, ◌≤◌, ◌&&◌, List, [], ◌∷◌, ◌++◌, Bool, true, false, Result, Ok, Err, refl, ap, ◌∙◌, nat_lt, nat_le, if◌then◌else◌}
+use Rattle.std.proofs.Common.{◌≡◌, ◌<◌, ◌≤◌, ◌&&◌, List, [], ◌∷◌, ◌++◌, true, Ok, nat_lt, nat_le, if◌then◌else◌}
 use Rattle.std.specs.Prelude.{nat_eq}
 use Rattle.std.proofs.lemmas.Bool.{ltb-true, leb-true}
 use Rattle.im_model.specs.declared.headers.Header.{Header}
@@ -10,23 +10,11 @@ use Rattle.im_proof.specs.declared.faults.HeaderFault.{HeaderFault}
 use Rattle.im_proof.specs.declared.faults.HeaderFault.TheVariants.{Version, Entries, Tree}
 use Rattle.im_proof.specs.declared.faults.DualFault.{DualFault}
 use Rattle.im_proof.specs.declared.faults.DualFault.TheVariants.{Source, Target, Order, Shrink}
-
-held : {F : Type 0} → (holds : Bool) (fault : F) (rest : Result (Unit {0}) F) → (if holds then rest else Err fault) ≡ Ok tt → (holds ≡ true) × (rest ≡ Ok tt)
-held true fault rest e = (refl, e)
-held false fault rest e = cc
+use Rattle.im_mtree.proofs.CheckLemmas.{hold-step, each-holds}
 
 -- the first holds, and so do the others
 pub first-holds : {F : Type 0} → (check : Check F) (checks : List (Check F)) → first_fail (check ∷ checks) ≡ Ok tt → ((check.0) ≡ true) × (first_fail checks ≡ Ok tt)
-first-holds check checks e = held (check.0) (check.1) (first_fail checks) e
-
--- some checks hold, and then others
-pub both-hold : {F : Type 0} → (a b : List (Check F)) → first_fail (a ++ b) ≡ Ok tt → (first_fail a ≡ Ok tt) × (first_fail b ≡ Ok tt)
-both-hold [] b e = (refl, e)
-both-hold {F} (check ∷ a) b e =
-    let one = held (check.0) (check.1) (first_fail (a ++ b)) e in
-    let rest = both-hold a b one.1 in
-    let whole : (if (check.0) then first_fail a else Err (check.1)) ≡ first_fail a = ap (λ (h : Bool). let r : Result (Unit {0}) F = (if h then first_fail a else Err (check.1)) in r) one.0 in
-    (whole ∙ rest.0, rest.1)
+first-holds check checks e = hold-step (check.0) (check.1) (first_fail checks) e
 
 -- a header's tree is below its number
 pub tree-below : {G : Type 0} → (name : HeaderFault → G) (h : Header) → first_fail (as_faults name (header_checks h)) ≡ Ok tt → h.bl_tx_id < h.id
@@ -47,8 +35,8 @@ pub record BothShown (source target : Header) : Type 0 where
 pub both-shown : (source target : Header) → first_fail (both_headers_checks source target) ≡ Ok tt → BothShown source target
 unfolding both_headers_checks
 both-shown source target e =
-    let one = both-hold {F = DualFault} (as_faults Source (header_checks source)) (as_faults Target (header_checks target) ++ order_checks source target) e in
-    let two = both-hold {F = DualFault} (as_faults Target (header_checks target)) (order_checks source target) one.1 in
+    let one = each-holds {F = DualFault} (as_faults Source (header_checks source)) (as_faults Target (header_checks target) ++ order_checks source target) e in
+    let two = each-holds {F = DualFault} (as_faults Target (header_checks target)) (order_checks source target) one.1 in
     let order : Check DualFault = (nat_le source.id target.id, Order source.id target.id) in
     let shrink : Check DualFault = (nat_le source.bl_tx_id target.bl_tx_id, Shrink source.bl_tx_id target.bl_tx_id) in
     let three = first-holds {F = DualFault} order (shrink ∷ []) two.1 in

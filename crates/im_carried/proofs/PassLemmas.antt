@@ -13,8 +13,9 @@ use Rattle.im_proof.specs.declared.faults.DualFault.{DualFault}
 use Rattle.im_pairs.specs.Pairs.{AreAmong}
 use Rattle.im_carried.specs.Shown.{ShowsDual}
 use Rattle.im_carried.specs.Hashed.{DualFits, inclusion_strings, grown_strings, last_strings, linear_strings, advance_strings, dual_strings}
-use Rattle.im_carried.proofs.HeldLemmas.{both-hold, both-shown}
+use Rattle.im_carried.proofs.HeldLemmas.{both-shown}
 use Rattle.im_carried.proofs.ShowLemmas.{inclusion-shown, last-shown, grown-shown, kept-shown, tip-shown, linear-shown, advance-shown}
+use Rattle.im_mtree.proofs.CheckLemmas.{each-holds}
 
 -- the strings of each part are among those of the whole
 record Parts (hash : Hash) (p : DualProof) (strings : List (List ℕ)) : Type 0 where
@@ -71,9 +72,9 @@ trees-hold hash p source_alh e =
     let consistency : List (Check DualFault) = consistency_checks hash p.source.bl_tx_id p.target.bl_tx_id p.source.bl_root p.target.bl_root p.consistency in
     let last : List (Check DualFault) = last_checks hash p.target.bl_tx_id p.target.bl_root p.target_bl_tx_alh p.last_inclusion in
     let bl : List (Check DualFault) = bl_checks p.source.id p.target.bl_tx_id source_alh p.target_bl_tx_alh in
-    let one = both-hold {F = DualFault} inclusion (consistency ++ (last ++ bl)) e in
-    let two = both-hold {F = DualFault} consistency (last ++ bl) one.1 in
-    let three = both-hold {F = DualFault} last bl two.1 in
+    let one = each-holds {F = DualFault} inclusion (consistency ++ (last ++ bl)) e in
+    let two = each-holds {F = DualFault} consistency (last ++ bl) one.1 in
+    let three = each-holds {F = DualFault} last bl two.1 in
     record { inclusion = one.0; consistency = two.0; last = three.0; bl = three.1 }
 
 -- of the chain and the advance, where the source is below the end of the target's tree
@@ -86,7 +87,7 @@ far-hold hash p source_alh target_alh h e =
     let far2 : List (Check DualFault) = advance_checks hash p.source.bl_tx_id p.source.id p.target.bl_tx_id p.target.bl_root source_alh p.linear_advance.terms p.linear_advance.inclusions in
     let near : List (Check DualFault) = linear_checks hash p.source.id p.target.id source_alh target_alh p.linear in
     let near2 : List (Check DualFault) = advance_checks hash p.source.bl_tx_id p.target.bl_tx_id p.target.bl_tx_id p.target.bl_root p.target_bl_tx_alh p.linear_advance.terms p.linear_advance.inclusions in
-    both-hold {F = DualFault} far far2 (subst (λ (t : Bool). first_fail (if t then far ++ far2 else near ++ near2) ≡ Ok tt) (lt-ltb p.source.id p.target.bl_tx_id h) e)
+    each-holds {F = DualFault} far far2 (subst (λ (t : Bool). first_fail (if t then far ++ far2 else near ++ near2) ≡ Ok tt) (lt-ltb p.source.id p.target.bl_tx_id h) e)
 
 -- and where it isn't
 pub near-hold : (hash : Hash) (p : DualProof) (source_alh target_alh : List ℕ) → p.target.bl_tx_id ≤ p.source.id → first_fail (chain_checks hash p source_alh target_alh) ≡ Ok tt
@@ -98,7 +99,7 @@ near-hold hash p source_alh target_alh h e =
     let far2 : List (Check DualFault) = advance_checks hash p.source.bl_tx_id p.source.id p.target.bl_tx_id p.target.bl_root source_alh p.linear_advance.terms p.linear_advance.inclusions in
     let near : List (Check DualFault) = linear_checks hash p.source.id p.target.id source_alh target_alh p.linear in
     let near2 : List (Check DualFault) = advance_checks hash p.source.bl_tx_id p.target.bl_tx_id p.target.bl_tx_id p.target.bl_root p.target_bl_tx_alh p.linear_advance.terms p.linear_advance.inclusions in
-    both-hold {F = DualFault} near near2 (subst (λ (t : Bool). first_fail (if t then far ++ far2 else near ++ near2) ≡ Ok tt) (le-ltb p.source.id p.target.bl_tx_id h) e)
+    each-holds {F = DualFault} near near2 (subst (λ (t : Bool). first_fail (if t then far ++ far2 else near ++ near2) ≡ Ok tt) (le-ltb p.source.id p.target.bl_tx_id h) e)
 
 -- all of it
 pub dual-shown : (hash : Hash) (p : DualProof) (strings : List (List ℕ)) → DualFits p → first_fail (dual_checks hash p) ≡ Ok tt → AreAmong (dual_strings hash p) strings
@@ -106,8 +107,8 @@ pub dual-shown : (hash : Hash) (p : DualProof) (strings : List (List ℕ)) → D
 dual-shown hash p strings f e a =
     let source_alh : List ℕ = alh hash p.source in
     let target_alh : List ℕ = alh hash p.target in
-    let headers = both-hold {F = DualFault} (both_headers_checks p.source p.target) (tree_checks hash p source_alh ++ chain_checks hash p source_alh target_alh) e in
-    let rest = both-hold {F = DualFault} (tree_checks hash p source_alh) (chain_checks hash p source_alh target_alh) headers.1 in
+    let headers = each-holds {F = DualFault} (both_headers_checks p.source p.target) (tree_checks hash p source_alh ++ chain_checks hash p source_alh target_alh) e in
+    let rest = each-holds {F = DualFault} (tree_checks hash p source_alh) (chain_checks hash p source_alh target_alh) headers.1 in
     let both = both-shown p.source p.target headers.0 in
     let trees = trees-hold hash p source_alh rest.0 in
     let s = parts-of hash p strings a in

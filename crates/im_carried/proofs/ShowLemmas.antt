@@ -26,7 +26,8 @@ use Rattle.im_pairs.proofs.PairLemmas.{AreAmong-head, AreAmong-tail, AreAmong-co
 use Rattle.im_carried.specs.Opened.{Links, Lies}
 use Rattle.im_carried.specs.Shown.{Walks, Advances, Grows}
 use Rattle.im_carried.specs.Hashed.{path_strings, inclusion_strings, grown_strings, last_strings, linear_strings, walk_strings, advance_strings}
-use Rattle.im_carried.proofs.HeldLemmas.{first-holds, both-hold}
+use Rattle.im_carried.proofs.HeldLemmas.{first-holds}
+use Rattle.im_mtree.proofs.CheckLemmas.{each-holds}
 
 -- digests in the other order
 digests-turned : (xs : List (List ℕ)) → AreDigests xs → AreDigests (reverse xs)
@@ -187,7 +188,7 @@ walks-shown hash size k root alh (inner ∷ inners) (path ∷ paths) end strings
     let tail : AreAmong (link ∷ more) strings = λ x c. among x (Contains-append_right ups (link ∷ more) x c) in
     let exact : Check DualFault = (nat_eq (length path) (path_length size (k - 1)), AdvancePathLength k (path_length size (k - 1)) (length path)) in
     let leads : Check DualFault = (bytes_eq (up hash size (k - 1) alh (reverse path)) root, AdvancePathRoot k root (up hash size (k - 1) alh (reverse path))) in
-    let parts = both-hold {F = DualFault} (path_checks_of hash size root k alh path) (path_checks_from hash size root (k + 1) (hash link) inners paths) e in
+    let parts = each-holds {F = DualFault} (path_checks_of hash size root k alh path) (path_checks_from hash size root (k + 1) (hash link) inners paths) e in
     let one = first-holds {F = DualFault} exact (leads ∷ []) parts.0 in
     let two = first-holds {F = DualFault} leads [] one.1 in
     let rest = walks-shown hash size (k + 1) root (hash link) inners paths end strings (omega arith) (omega arith) (omega arith) (All-tail AreDigests path paths digests) parts.1 ends (AreAmong-tail link more strings tail) in (
@@ -218,7 +219,7 @@ advance-shown hash a e size root end terms paths strings within digests lists he
       let some : length terms ≢ 0 = λ z. absurd (omega arith) in
       let none : nat_eq (length terms) 0 ≡ false = ne_eqb (length terms) 0 some in
       let rest : first_fail (walk ++ ends ∷ []) ≡ Ok tt = subst (λ (t : Bool). first_fail (if t then [] else walk ++ ends ∷ []) ≡ Ok tt) none two.1 in
-      let parts = both-hold {F = DualFault} walk (ends ∷ []) rest in
+      let parts = each-holds {F = DualFault} walk (ends ∷ []) rest in
       let last = first-holds {F = DualFault} ends [] parts.1 in
       let fewer : length (drop 1 terms) ≡ length terms - 1 = length-drop 1 terms in
       let all : AreAmong (walk_strings hash size (a + 1) (first_of terms) (drop 1 terms) paths) strings =

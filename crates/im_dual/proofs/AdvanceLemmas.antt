@@ -1,10 +1,8 @@
 -- The paths of an advance, one by one.
-use Rattle.std.proofs.Common.{◌≡◌, ◌<◌, ℕ, suc, ◌+◌, ◌-◌, List, ◌∷◌, ◌++◌, append_assoc, reverse, arith, length, drop, get_or, drop-cons, ap, ◌∙◌, sym, [], Err}
-use Rattle.std.proofs.lemmas.List.{reverse-reverse}
+use Rattle.std.proofs.Common.{◌≡◌, ◌<◌, ℕ, suc, ◌+◌, ◌-◌, List, ◌∷◌, ◌++◌, append_assoc, arith, length, drop, get_or, drop-cons, ap, ◌∙◌, sym, [], Err}
 use Rattle.im_digest.specs.Digests.{Hash}
 use Rattle.im_model.specs.Chains.{link_string}
 use Rattle.im_mtree.specs.Checks.{first_fail}
-use Rattle.im_mtree.specs.Inclusion.{inclusion}
 use Rattle.im_proof.specs.Built.{path_of, paths_from}
 use Rattle.im_proof.specs.declared.faults.DualFault.{DualFault}
 use Rattle.im_proof.specs.ChainChecks.{path_checks_of, path_checks_from}
@@ -23,11 +21,12 @@ path_fails hash size root k alh inners paths i path fault p q at fails =
 
 -- the paths from one on, one taken
 pub paths-next : (hash : Hash) (leaves : List (List ℕ)) (i to : ℕ) (done items all : List (List (List ℕ))) (path : List (List ℕ)) → i < to
-    → items ≡ done ++ path ∷ [] → reverse path ≡ inclusion hash leaves i → done ++ paths_from hash leaves i (to - i) ≡ all
+    → items ≡ done ++ path ∷ [] → path ≡ path_of hash leaves (i + 1 - 1) → done ++ paths_from hash leaves i (to - i) ≡ all
     → items ++ paths_from hash leaves (i + 1) (to - (i + 1)) ≡ all
 paths-next hash leaves i to done items all path l pushed is e =
     let more : suc (to - (i + 1)) ≡ to - i = omega arith in
-    let built : path ≡ path_of hash leaves i = sym (reverse-reverse path) ∙ ap (λ x. reverse x) is in
+    let place : i + 1 - 1 ≡ i = omega arith in
+    let built : path ≡ path_of hash leaves i = is ∙ ap (λ j. path_of hash leaves j) place in
     ap (λ x. x ++ paths_from hash leaves (i + 1) (to - (i + 1))) (pushed ∙ ap (λ x. done ++ x ∷ []) built)
     ∙ append_assoc done (path_of hash leaves i ∷ []) (paths_from hash leaves (i + 1) (to - (i + 1)))
     ∙ ap (λ n. done ++ paths_from hash leaves i n) more

@@ -1,8 +1,8 @@
 -- What is built of kept headers and a kept tree is built of the history's Alh and inner digests.
-use Rattle.std.proofs.Common.{◌≡◌, ◌<◌, ◌≤◌, length, ℕ, ◌+◌, ◌-◌, List, [], ◌∷◌, ◌++◌, map, take, drop, refl, arith, ap, ◌∙◌, sym, get_or, nat_lt, Bool, true, false, max, min, inl, inr, Ok, if◌then◌else◌}
+use Rattle.std.proofs.Common.{◌≡◌, ◌<◌, ◌≤◌, length, ℕ, suc, zero, ◌+◌, ◌-◌, List, [], ◌∷◌, ◌++◌, map, take, drop, refl, arith, ap, ◌∙◌, sym, get_or, nat_lt, Bool, true, false, max, min, inl, inr, Ok, if◌then◌else◌}
 use Rattle.std.specs.Prelude.{nat_eq}
 use Rattle.std.proofs.lemmas.Bool.{cases_lt, lt-ltb, le-ltb}
-use Rattle.std.proofs.lemmas.List.{get_or-map, get_or-take, get_or-drop, take_more, take-take, length-take-le, length-map, length-drop}
+use Rattle.std.proofs.lemmas.List.{get_or-map, get_or-take, get_or-drop, take_more, take-take, length-map, length-drop}
 use Rattle.im_digest.specs.Digests.{Hash}
 use Rattle.im_model.specs.Headers.{inner, alh}
 use Rattle.im_model.specs.History.{no_digest, no_transaction, transaction_of, alhs_of, header_of, IsTransaction, IsHistory}
@@ -35,16 +35,16 @@ terms-next f headers s i header first before after l h is old new =
     ∙ ap (λ l. first ∷ l) (sym (take_more (drop s all) (i - s) [] (omega arith)))
     ∙ ap (λ n. first ∷ take n (drop s all)) next
 
--- the last leaf of a tree is the last Alh in it
-told-front : (alhs leaves : List (List ℕ)) → leaves ≡ take (length leaves) alhs
-    → (if nat_eq (length leaves) 0 then no_digest else get_or leaves (length leaves - 1) []) ≡ (if nat_eq (length leaves) 0 then no_digest else get_or alhs (length leaves - 1) [])
-told-front alhs [] e = refl
-told-front alhs (leaf ∷ leaves) e =
-    let n : ℕ = length (leaf ∷ leaves) in
-    let some : nat_eq n 0 ≡ false = not-none n (omega arith) in
-    ap (λ b. if b then no_digest else get_or (leaf ∷ leaves) (n - 1) []) some
-    ∙ ap (λ l. get_or l (n - 1) []) e ∙ get_or-take n alhs (n - 1) [] (omega arith)
-    ∙ sym (ap (λ b. if b then no_digest else get_or alhs (n - 1) []) some)
+-- the last of the first leaves of a tree is the last of as many Alh
+told-front : (alhs tree : List (List ℕ)) (size : ℕ) → take size tree ≡ take size alhs
+    → (if nat_eq size 0 then no_digest else get_or tree (size - 1) []) ≡ (if nat_eq size 0 then no_digest else get_or alhs (size - 1) [])
+told-front alhs tree zero e = refl
+told-front alhs tree (suc n) e =
+    let size : ℕ = suc n in
+    let some : nat_eq size 0 ≡ false = not-none size (omega arith) in
+    ap (λ b. if b then no_digest else get_or tree (size - 1) []) some
+    ∙ sym (get_or-take size tree (size - 1) [] (omega arith)) ∙ ap (λ l. get_or l (size - 1) []) e ∙ get_or-take size alhs (size - 1) [] (omega arith)
+    ∙ sym (ap (λ b. if b then no_digest else get_or alhs (size - 1) []) some)
 
 -- there is a kept header for each transaction
 kept-length : (hash : Hash) (history : List Transaction) (headers : List Header) → headers ≡ headers_of hash history → length headers ≡ length history
@@ -89,13 +89,11 @@ kept-lags hash history headers t h kept some within =
     omega (arith, new, linked, some)
 
 -- the first leaves of a kept tree are Alh of kept headers
-pub kept-leaves : (hash : Hash) (history : List Transaction) (headers : List Header) (tree leaves : List (List ℕ)) (size : ℕ) → headers ≡ headers_of hash history
-    → tree ≡ take (length tree) (alhs_of hash history) → size ≤ length tree → leaves ≡ take size tree → leaves ≡ take (length leaves) (map (alh hash) headers)
-kept-leaves hash history headers tree leaves size kept grown within front =
-    let long : length leaves ≡ size = ap length front ∙ length-take-le size tree within in
-    front ∙ ap (λ l. take size l) grown ∙ take-take size (length tree) (alhs_of hash history) within
+pub kept-leaves : (hash : Hash) (history : List Transaction) (headers : List Header) (tree : List (List ℕ)) (size : ℕ) → headers ≡ headers_of hash history
+    → tree ≡ take (length tree) (alhs_of hash history) → size ≤ length tree → take size tree ≡ take size (map (alh hash) headers)
+kept-leaves hash history headers tree size kept grown within =
+    ap (λ l. take size l) grown ∙ take-take size (length tree) (alhs_of hash history) within
     ∙ ap (λ l. take size l) (alhs-are hash history ∙ ap (λ l. map (alh hash) l) (sym kept))
-    ∙ ap (λ n. take n (map (alh hash) headers)) (sym long)
 
 -- what is built of kept headers is what is built of the history
 pub kept-dual : (hash : Hash) (history : List Transaction) (headers : List Header) (s t : ℕ) → headers ≡ headers_of hash history → 1 ≤ s → s ≤ t → t ≤ length headers
@@ -155,29 +153,28 @@ unfolding dual_of
 dual-parts hash source target alhs inners = refl
 
 -- the parts that are built of kept headers and leaves are those of the dual proof
-pub assembled : (hash : Hash) (headers : List Header) (leaves : List (List ℕ)) (s t start end : ℕ) (proof : DualProof)
-    → start ≡ max s (length leaves) → end ≡ min s (length leaves)
-    → (header_at headers s).id ≡ s → (header_at headers t).id ≡ t → length leaves ≡ (header_at headers t).bl_tx_id → leaves ≡ take (length leaves) (map (alh hash) headers)
+pub assembled : (hash : Hash) (headers : List Header) (tree : List (List ℕ)) (s t size start end : ℕ) (proof : DualProof)
+    → start ≡ max s size → end ≡ min s size
+    → (header_at headers s).id ≡ s → (header_at headers t).id ≡ t → size ≡ (header_at headers t).bl_tx_id → take size tree ≡ take size (map (alh hash) headers)
     → proof.source ≡ header_at headers s → proof.target ≡ header_at headers t
-    → proof.inclusion ≡ (if nat_lt s (length leaves) then path_of hash leaves (s - 1) else [])
-    → proof.consistency ≡ (if nat_eq proof.source.bl_tx_id 0 then [] else consistency hash leaves proof.source.bl_tx_id)
-    → proof.target_bl_tx_alh ≡ (if nat_eq (length leaves) 0 then no_digest else get_or leaves (length leaves - 1) [])
-    → proof.last_inclusion ≡ (if nat_eq (length leaves) 0 then [] else path_of hash leaves (length leaves - 1))
+    → proof.inclusion ≡ (if nat_lt s size then path_of hash (take size tree) (s - 1) else [])
+    → proof.consistency ≡ (if nat_eq proof.source.bl_tx_id 0 then [] else consistency hash (take size tree) proof.source.bl_tx_id)
+    → proof.target_bl_tx_alh ≡ (if nat_eq size 0 then no_digest else get_or tree (size - 1) [])
+    → proof.last_inclusion ≡ (if nat_eq size 0 then [] else path_of hash (take size tree) (size - 1))
     → proof.linear ≡ linear_terms (map (alh hash) headers) (map (inner hash) headers) start t
-    → proof.linear_advance ≡ advance_of hash (map (alh hash) headers) (map (inner hash) headers) proof.source.bl_tx_id end (length leaves)
+    → proof.linear_advance ≡ advance_of hash (map (alh hash) headers) (map (inner hash) headers) proof.source.bl_tx_id end size
     → proof ≡ dual_of hash (header_at headers s) (header_at headers t) (map (alh hash) headers) (map (inner hash) headers)
-assembled hash headers leaves s t start end proof later earlier of_s of_t size front a b d e f h l m =
+assembled hash headers tree s t n start end proof later earlier of_s of_t size front a b d e f h l m =
     let source : Header = header_at headers s in
     let target : Header = header_at headers t in
     let alhs : List (List ℕ) = map (alh hash) headers in
     let inners : List (List ℕ) = map (inner hash) headers in
-    let n : ℕ = length leaves in
     let old : proof.source.bl_tx_id ≡ source.bl_tx_id = ap (λ x. x.bl_tx_id) a in
     let inclusion-is : proof.inclusion ≡ (if nat_lt s n then path_of hash (take n alhs) (s - 1) else []) =
     d ∙ ap (λ x. if nat_lt s n then path_of hash x (s - 1) else []) front in
     let consistency-is : proof.consistency ≡ (if nat_eq source.bl_tx_id 0 then [] else consistency hash (take n alhs) source.bl_tx_id) =
-    e ∙ ap (λ k. if nat_eq k 0 then [] else consistency hash leaves k) old ∙ ap (λ x. if nat_eq source.bl_tx_id 0 then [] else consistency hash x source.bl_tx_id) front in
-    let told-is : proof.target_bl_tx_alh ≡ (if nat_eq n 0 then no_digest else get_or alhs (n - 1) []) = f ∙ told-front alhs leaves front in
+    e ∙ ap (λ k. if nat_eq k 0 then [] else consistency hash (take n tree) k) old ∙ ap (λ x. if nat_eq source.bl_tx_id 0 then [] else consistency hash x source.bl_tx_id) front in
+    let told-is : proof.target_bl_tx_alh ≡ (if nat_eq n 0 then no_digest else get_or alhs (n - 1) []) = f ∙ told-front alhs tree n front in
     let last-is : proof.last_inclusion ≡ (if nat_eq n 0 then [] else path_of hash (take n alhs) (n - 1)) =
     h ∙ ap (λ x. if nat_eq n 0 then [] else path_of hash x (n - 1)) front in
     let linear-is : proof.linear ≡ (if nat_lt s n then linear_terms alhs inners n t else linear_terms alhs inners s t) =

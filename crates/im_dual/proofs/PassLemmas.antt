@@ -1,5 +1,5 @@
 -- What is built of a history passes its check.
-use Rattle.std.proofs.Common.{◌≡◌, ◌<◌, ◌≤◌, ℕ, suc, zero, ◌+◌, ◌-◌, Bool, true, false, List, [], ◌∷◌, ◌++◌, length, take, drop, reverse, refl, arith, ap, subst, ◌∙◌, sym, nat_lt, nat_le, if◌then◌else◌, inl, inr, get_or, drop-cons, length-drop, Ok, Err, Result}
+use Rattle.std.proofs.Common.{◌≡◌, ◌<◌, ◌≤◌, ℕ, suc, zero, ◌+◌, ◌-◌, true, false, List, [], ◌∷◌, ◌++◌, length, take, drop, reverse, refl, arith, ap, subst, ◌∙◌, sym, nat_lt, nat_le, if◌then◌else◌, inl, inr, get_or, drop-cons, length-drop, Ok}
 use Rattle.std.specs.Prelude.{nat_eq, bytes_eq}
 use Rattle.std.proofs.lemmas.Bool.{cases_lt, eq-eqb, lt-ltb, le-ltb, le-leb, lt-leb}
 use Rattle.std.proofs.lemmas.List.{length-take-le}

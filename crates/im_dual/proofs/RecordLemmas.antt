@@ -1,5 +1,5 @@
 -- The headers of a history are recorded among its Alh, which are linked.
-use Rattle.std.proofs.Common.{◌≡◌, ◌<◌, ◌≤◌, length, ℕ, suc, zero, ◌+◌, ◌-◌, ◌==◌, List, [], ◌∷◌, ◌++◌, take, refl, arith, ap, subst, ◌∙◌, sym, get_or, length-append, nat_eq, nat_le, nat_lt, ◌&&◌, true, Ok, if◌then◌else◌}
+use Rattle.std.proofs.Common.{◌≡◌, ◌<◌, ◌≤◌, length, ℕ, suc, zero, ◌+◌, ◌-◌, ◌==◌, List, [], ◌∷◌, take, refl, arith, ap, subst, ◌∙◌, sym, get_or, length-append, nat_eq, nat_le, nat_lt, ◌&&◌, true, Ok, if◌then◌else◌}
 use Rattle.std.proofs.Math.Seq.{get_or-append_seam}
 use Rattle.std.proofs.lemmas.Bool.{le-leb, lt-ltb}
 use Rattle.std.proofs.lemmas.List.{length-take-le, take-append-le, take-take, take_all, get_or-take, get_or_default}
@@ -10,6 +10,7 @@ use Rattle.im_model.specs.Headers.{inner, alh}
 use Rattle.im_model.specs.History.{no_digest, bl_root_of, first_alh, next_header, alhs_from, alhs_of, no_transaction, transaction_of, header_of, Follow, IsTransaction, IsHistory}
 use Rattle.im_model.specs.declared.headers.Header.{Header}
 use Rattle.im_model.specs.declared.transactions.Transaction.{Transaction}
+use Rattle.im_model.proofs.HeaderLemmas.{grown, next-id, next-bl}
 use Rattle.im_model.proofs.HistoryLemmas.{Follow-at, length-alhs_of}
 use Rattle.im_mtree.specs.Checks.{first_fail}
 use Rattle.im_proof.specs.HeaderChecks.{header_checks}
@@ -18,10 +19,6 @@ use Rattle.im_proof.specs.Built.{inners_from, inners_of, dual_of, AreLinked, IsR
 use Rattle.im_proof.specs.declared.faults.HeaderFault.TheVariants.{Version, Entries, Tree}
 use Rattle.im_mtree.proofs.CheckLemmas.{three-hold}
 use Rattle.im_dual.proofs.PassLemmas.{dual_passes}
-
--- the Alh, and that of one more transaction
-abbrev grown : Hash → List (List ℕ) → Transaction → List (List ℕ)
-grown hash alhs tx = alhs ++ alh hash (next_header hash alhs tx) ∷ []
 
 length-grown : (hash : Hash) (alhs : List (List ℕ)) (tx : Transaction) → length (grown hash alhs tx) ≡ length alhs + 1
 length-grown hash alhs tx = length-append alhs (alh hash (next_header hash alhs tx) ∷ [])
@@ -133,14 +130,6 @@ next-checked hash alhs tx is =
     three-hold (nat_eq 1 1) (nat_le 1 n && nat_le n 1024) (nat_lt tx.bl (length alhs + 1))
     (Version 1) (Entries (if nat_eq n 0 then 1 else 1024) n) (Tree (length alhs + 1) tx.bl)
     refl few (lt-ltb tx.bl (length alhs + 1) (omega arith))
-
-next-id : (hash : Hash) (alhs : List (List ℕ)) (tx : Transaction) → (next_header hash alhs tx).id ≡ length alhs + 1
-unfolding next_header
-next-id hash alhs tx = refl
-
-next-bl : (hash : Hash) (alhs : List (List ℕ)) (tx : Transaction) → (next_header hash alhs tx).bl_tx_id ≡ tx.bl
-unfolding next_header
-next-bl hash alhs tx = refl
 
 next-root : (hash : Hash) (alhs all : List (List ℕ)) (tx : Transaction) → take tx.bl alhs ≡ take tx.bl all → (next_header hash alhs tx).bl_root ≡ bl_root_of hash all (next_header hash alhs tx).bl_tx_id
 unfolding next_header

@@ -7,13 +7,11 @@ ghost use Rattle.im_proof.specs.Built.{linear_terms, path_of, paths_from, consis
 ghost use Rattle.im_proof.specs.Duals.{dual_checks};
 ghost use Rattle.im_dual.specs.Kept.{header_at};
 
-use im_atree::built::consistency;
 use im_atree::trees::Tree;
 use im_digest::{D32, Hash32};
 use im_header::{alh, inner};
 use im_model::headers::Header;
 use im_mtree::digests::Digests;
-use im_mtree::paths::path;
 use im_proof::digest_lists::DigestLists;
 use im_proof::proofs::{AdvanceProof, DualProof};
 use std::alloc::{AllocError, Global};
@@ -39,55 +37,55 @@ pub fn build<H: Hash32>(
 {
     let s = s as usize;
     let t = t as usize;
-    assemble(alloc, hash, headers, leaves_of(headers, tree, t), s, t)
+    assemble(alloc, hash, headers, tree, s, t, size_at(headers, t))
 }
 
-// The leaves that the tree had when transaction t was placed.
-fn leaves_of<'a>(headers: &[Header], tree: &'a Tree, t: usize) -> &'a [D32]
+// The size of the tree when transaction t was placed.
+fn size_at(headers: &[Header], t: usize) -> u64
     requires some { 1 ≤ t }
     requires within { t ≤ length headers.now }
-    requires tree { (header_at headers.now t).bl_tx_id ≤ length tree.now }
-    ensures { result.now ≡ take (header_at headers.now t).bl_tx_id tree.now }
+    ensures { result ≡ (header_at headers.now t).bl_tx_id }
 {
-    let size = headers[t - 1].bl_tx_id as usize;
-    &tree.leaves()[..size]
+    headers[t - 1].bl_tx_id
 }
 
-// The dual proof between headers s and t, where the leaves are those of the target's tree.
+// The dual proof between headers s and t, where the target's tree has the first `size` leaves.
 fn assemble<H: Hash32>(
     alloc: Global,
     hash: &H,
     headers: &[Header],
-    leaves: &[D32],
+    tree: &Tree,
     s: usize,
     t: usize,
+    size: u64,
 ) -> Result<DualProof, AllocError>
     requires some { 1 ≤ s }
     requires order { s ≤ t }
     requires within { t ≤ length headers.now }
     requires source { (header_at headers.now s).id ≡ s }
     requires target { (header_at headers.now t).id ≡ t }
-    requires shrink { (header_at headers.now s).bl_tx_id ≤ length leaves.now }
-    requires lag { length leaves.now < t }
-    requires size { length leaves.now ≡ (header_at headers.now t).bl_tx_id }
-    requires leaves { leaves.now ≡ take (length leaves.now) (map (alh (H.digest hash.now)) headers.now) }
+    requires shrink { (header_at headers.now s).bl_tx_id ≤ size }
+    requires lag { size < t }
+    requires size { size ≡ (header_at headers.now t).bl_tx_id }
+    requires tree { size ≤ length tree.now }
+    requires leaves { take size tree.now ≡ take size (map (alh (H.digest hash.now)) headers.now) }
     ensures { IfOk result (λ proof. proof ≡ dual_of (H.digest hash.now) (header_at headers.now s) (header_at headers.now t) (map (alh (H.digest hash.now)) headers.now) (map (inner (H.digest hash.now)) headers.now)) }
 {
     let source = copy_of(alloc, headers, s)?;
     let target = copy_of(alloc, headers, t)?;
-    let old = source.bl_tx_id as usize;
-    let size = leaves.len();
-    let inclusion = inclusion_of(alloc, hash, leaves, s)?;
-    let consistency = consistency_of(alloc, hash, leaves, old)?;
-    let last_inclusion = last_inclusion_of(alloc, hash, leaves)?;
-    let linear = linear_of(alloc, hash, headers, s.max(size), t)?;
-    let linear_advance = advance(alloc, hash, headers, leaves, old, s.min(size))?;
+    let old = source.bl_tx_id;
+    let end = size as usize;
+    let inclusion = inclusion_of(alloc, hash, tree, s as u64, size)?;
+    let consistency = consistency_of(alloc, hash, tree, old, size)?;
+    let last_inclusion = last_inclusion_of(alloc, hash, tree, size)?;
+    let linear = linear_of(alloc, hash, headers, s.max(end), t)?;
+    let linear_advance = advance(alloc, hash, headers, tree, old as usize, s.min(end), size)?;
     Ok(DualProof {
         source,
         target,
         inclusion,
         consistency,
-        target_bl_tx_alh: last_of(leaves),
+        target_bl_tx_alh: last_of(tree, size),
         last_inclusion,
         linear,
         linear_advance,
@@ -103,62 +101,67 @@ fn copy_of(alloc: Global, headers: &[Header], k: usize) -> Result<Header, AllocE
     headers[k - 1].try_clone(alloc)
 }
 
-// The path of transaction s, where it is below the tree's end. `check_inclusion` checks it.
+// The path of transaction s, where it is below the end of the tree of this size. `check_inclusion` checks it.
 fn inclusion_of<H: Hash32>(
     alloc: Global,
     hash: &H,
-    leaves: &[D32],
-    s: usize,
+    tree: &Tree,
+    s: u64,
+    size: u64,
 ) -> Result<Digests, AllocError>
-    requires { 1 ≤ s }
-    ensures { IfOk result (λ path. path ≡ (if nat_lt s (length leaves.now) then path_of (H.digest hash.now) leaves.now (s - 1) else [])) }
+    requires some { 1 ≤ s }
+    requires within { size ≤ length tree.now }
+    ensures { IfOk result (λ path. path ≡ (if nat_lt s size then path_of (H.digest hash.now) (take size tree.now) (s - 1) else [])) }
 {
-    if s < leaves.len() {
-        path(alloc, hash, leaves, s - 1)
+    if s < size {
+        tree.inclusion(alloc, hash, s, size)
     } else {
         Ok(Digests::from_vec(Vec::new(alloc)))
     }
 }
 
-// The consistency list from the first `old` leaves, where there are any. `check_consistency` checks it.
+// The consistency list from the first `old` leaves to the first `size`, where there are any. `check_consistency`
+// checks it.
 fn consistency_of<H: Hash32>(
     alloc: Global,
     hash: &H,
-    leaves: &[D32],
-    old: usize,
+    tree: &Tree,
+    old: u64,
+    size: u64,
 ) -> Result<Digests, AllocError>
-    requires { old ≤ length leaves.now }
-    ensures { IfOk result (λ list. list ≡ (if nat_eq old 0 then [] else consistency (H.digest hash.now) leaves.now old)) }
+    requires grows { old ≤ size }
+    requires within { size ≤ length tree.now }
+    ensures { IfOk result (λ list. list ≡ (if nat_eq old 0 then [] else consistency (H.digest hash.now) (take size tree.now) old)) }
 {
     if old == 0 {
         Ok(Digests::from_vec(Vec::new(alloc)))
     } else {
-        consistency(alloc, hash, leaves, old)
+        tree.consistency(alloc, hash, old, size)
     }
 }
 
-// The last leaf, or zeros where there is none. `check_bl` checks it.
-fn last_of(leaves: &[D32]) -> D32
-    ensures { result ≡ (if nat_eq (length leaves.now) 0 then no_digest else slice_index_or leaves.now (length leaves.now - 1) []) }
+// The last of the first `size` leaves, or zeros where there is none. `check_bl` checks it.
+fn last_of(tree: &Tree, size: u64) -> D32
+    requires { size ≤ length tree.now }
+    ensures { result ≡ (if nat_eq size 0 then no_digest else slice_index_or tree.now (size - 1) []) }
 {
-    match leaves.last() {
-        Some(leaf) => *leaf,
-        None => [0; 32],
-    }
+    if size == 0 { [0; 32] } else { *tree.leaf(size) }
 }
 
-// The path of the last leaf, where there is one. `check_last` checks it.
+// The path of the last of the first `size` leaves, where there is one. `check_last` checks it.
 fn last_inclusion_of<H: Hash32>(
     alloc: Global,
     hash: &H,
-    leaves: &[D32],
+    tree: &Tree,
+    size: u64,
 ) -> Result<Digests, AllocError>
-    ensures { IfOk result (λ path. path ≡ (if nat_eq (length leaves.now) 0 then [] else path_of (H.digest hash.now) leaves.now (length leaves.now - 1))) }
+    requires { size ≤ length tree.now }
+    ensures { IfOk result (λ path. path ≡ (if nat_eq size 0 then [] else path_of (H.digest hash.now) (take size tree.now) (size - 1))) }
 {
-    if leaves.is_empty() {
+    if size == 0 {
         Ok(Digests::from_vec(Vec::new(alloc)))
     } else {
-        path(alloc, hash, leaves, leaves.len() - 1)
+        tree.inclusion(alloc, hash, size, size)
     }
 }
 
@@ -183,20 +186,22 @@ fn linear_of<H: Hash32>(
     Ok(Digests::from_vec(terms))
 }
 
-// The linear advance from transaction a to e in the tree of these leaves. `check_advance` checks it.
+// The linear advance from transaction a to e in the tree of the first `size` leaves. `check_advance` checks it.
 #[tactic(auto, unfolding(im_proof::specs::Built::advance_of))]
 fn advance<H: Hash32>(
     alloc: Global,
     hash: &H,
     headers: &[Header],
-    leaves: &[D32],
+    tree: &Tree,
     a: usize,
     e: usize,
+    size: u64,
 ) -> Result<AdvanceProof, AllocError>
-    requires within { e ≤ length leaves.now }
+    requires end { e ≤ size }
+    requires within { size ≤ length tree.now }
     requires headers { e ≤ length headers.now }
-    requires leaves { leaves.now ≡ take (length leaves.now) (map (alh (H.digest hash.now)) headers.now) }
-    ensures { IfOk result (λ advance. advance ≡ advance_of (H.digest hash.now) (map (alh (H.digest hash.now)) headers.now) (map (inner (H.digest hash.now)) headers.now) a e (length leaves.now)) }
+    requires leaves { take size tree.now ≡ take size (map (alh (H.digest hash.now)) headers.now) }
+    ensures { IfOk result (λ advance. advance ≡ advance_of (H.digest hash.now) (map (alh (H.digest hash.now)) headers.now) (map (inner (H.digest hash.now)) headers.now) a e size) }
 {
     if e <= a || e - a == 1 {
         return Ok(AdvanceProof {
@@ -205,25 +210,27 @@ fn advance<H: Hash32>(
         });
     }
     let terms = linear_of(alloc, hash, headers, a + 1, e)?;
-    let inclusions = paths(alloc, hash, leaves, a, e - 1)?;
+    let inclusions = paths(alloc, hash, tree, a as u64, e as u64 - 1, size)?;
     Ok(AdvanceProof { terms, inclusions })
 }
 
-// The paths of the leaves from one on, below another.
+// The paths in the tree of the first `size` leaves of the leaves from one on, below another, from 0.
 fn paths<H: Hash32>(
     alloc: Global,
     hash: &H,
-    leaves: &[D32],
-    from: usize,
-    to: usize,
+    tree: &Tree,
+    from: u64,
+    to: u64,
+    size: u64,
 ) -> Result<DigestLists, AllocError>
     requires order { from ≤ to }
-    requires within { to ≤ length leaves.now }
-    ensures { IfOk result (λ paths. paths ≡ paths_from (H.digest hash.now) leaves.now from (to - from)) }
+    requires end { to ≤ size }
+    requires within { size ≤ length tree.now }
+    ensures { IfOk result (λ paths. paths ≡ paths_from (H.digest hash.now) (take size tree.now) from (to - from)) }
 {
     let mut paths = Vec::new(alloc);
     for i in from..to {
-        paths.push(path(alloc, hash, leaves, i)?)?;
+        paths.push(tree.inclusion(alloc, hash, i + 1, size)?)?;
     }
     Ok(DigestLists::from_vec(paths))
 }

@@ -1,21 +1,15 @@
 -- What octets begin metadata with, and where they stop.
-use Rattle.std.proofs.Common.{◌≡◌, ◌≤◌, ◌+◌, ℕ, List, ◌++◌, length, take, drop, arith, sym, ◌∙◌, ap, append_assoc, inl, inr}
-use Rattle.std.proofs.lemmas.List.{length-take, take-append-drop, take-append-le}
+use Rattle.std.proofs.Common.{◌≡◌, ◌≤◌, ◌+◌, ℕ, List, ◌++◌, length, take, drop, take-take, arith, sym, ◌∙◌, ap, append_assoc, inl, inr}
+use Rattle.std.proofs.lemmas.List.{take-append-drop}
 use Rattle.std.proofs.lemmas.Bool.{cases_order}
 use Rattle.im_entry.specs.Attrs.{BeginsMetadata, IsFirstBad}
-
--- a shorter front of a front is that front's own
-pub take-take-le : (m n : ℕ) (octets : List ℕ) → m ≤ n → n ≤ length octets → take m (take n octets) ≡ take m octets
-take-take-le m n octets h k =
-    let short : m ≤ length (take n octets) = omega (arith, length-take n octets) in
-    sym (take-append-le m (take n octets) (drop n octets) short) ∙ ap (take m) (take-append-drop n octets)
 
 -- where some metadata begins with octets, it begins with fewer of them
 pub BeginsMetadata-take : (m n : ℕ) (octets : List ℕ) → m ≤ n → n ≤ length octets
     → BeginsMetadata (take n octets) → BeginsMetadata (take m octets)
 BeginsMetadata-take m n octets h k begins =
     let front = take n octets in
-    let parts : take m octets ++ drop m front ≡ front = ap (λ (l : List ℕ). l ++ drop m front) (sym (take-take-le m n octets h k)) ∙ take-append-drop m front in (
+    let parts : take m octets ++ drop m front ≡ front = ap (λ (l : List ℕ). l ++ drop m front) (sym (take-take m n octets h)) ∙ take-append-drop m front in (
       begins.0,
       begins.1,
       drop m front ++ begins.2,

@@ -1,15 +1,14 @@
 -- Two entries of one place, by their strings, their values, and the paths that lead from them.
 use Rattle.std.proofs.Common.{◌≡◌, ◌≢◌, ◌<◌, length, ℕ, ◌-◌, List, [], ◌++◌, reverse, refl, arith, ap, subst, ◌∙◌, sym, get_or}
-use Rattle.std.proofs.lemmas.List.{length-reverse, get_or-reverse}
-use Rattle.std.proofs.lemmas.List.Elements.{All-from_get_or, Contains-append_left, Contains-append_right}
+use Rattle.std.proofs.lemmas.List.{length-reverse}
+use Rattle.std.proofs.lemmas.List.Elements.{Contains-append_left, Contains-append_right}
 use Rattle.im_digest.specs.Digests.{Hash}
 use Rattle.im_model.specs.Entries.{entry_string, entry_digest, entry_strings}
 use Rattle.im_model.specs.Paths.{path_length, up, up_strings}
 use Rattle.im_model.specs.declared.entries.Entry.{Entry}
 use Rattle.im_model.proofs.Lengths.{path-fits}
-use Rattle.im_pairs.specs.Pairs.{AreDigests}
 use Rattle.im_pairs.specs.Ranges.{EntryFits}
-use Rattle.im_pairs.proofs.PairLemmas.{IsPair-more}
+use Rattle.im_pairs.proofs.PairLemmas.{IsPair-more, digests-reversed}
 use Rattle.im_pairs.proofs.EntryLemmas.{entry-parts, entry-read}
 use Rattle.im_forge.specs.Same.{IsSame, IsCompared}
 use Rattle.im_forge.specs.Parted.{ArePaths, IsParted}
@@ -52,12 +51,6 @@ pair-of_paths hash width i a b path path2 leaf leaf2 p is is2 differ one parted 
       λ same. differ (is ∙ ap (λ (j : Entry). entry_digest hash j) same ∙ sym is2),
       IsPair-more hash p.x p.y ups (both_strings hash a b ups) (λ x m. Contains-append_right (entry_strings hash a ++ entry_strings hash b) ups x m) (at.pair one),
     )
-
--- what is known of the digests of a slice
-digests-reversed : (xs : List (List ℕ)) → ((i : ℕ) → i < length xs → length (get_or xs i []) ≡ 32) → AreDigests (reverse xs)
-digests-reversed xs f =
-    let size : length (reverse xs) ≡ length xs = length-reverse xs in
-    All-from_get_or (λ d. length d ≡ 32) (reverse xs) [] (λ i h. ap length (get_or-reverse xs i [] (omega arith)) ∙ f (length xs - 1 - i) (omega arith))
 
 -- what the walk along two paths begins with
 pub paths-ready : (width i : ℕ) (leaf leaf2 : List ℕ) (path path2 : List (List ℕ))

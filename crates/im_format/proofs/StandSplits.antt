@@ -1,13 +1,14 @@
 -- What stands of a record, by its octets, is what an image holds of it, field by field.
-use Rattle.std.proofs.Common.{◌≡◌, ◌<◌, ◌≤◌, ◌+◌, ◌-◌, suc, ℕ, List, [], ◌∷◌, ◌++◌, length, length-append, map, get_or, refl, ap, subst, sym, ◌∙◌, arith, All, if◌then◌else◌, drop, take}
+use Rattle.std.proofs.Common.{◌≡◌, ◌≤◌, ◌+◌, ◌-◌, suc, ℕ, List, [], ◌∷◌, ◌++◌, length, length-append, map, get_or, ap, subst, sym, ◌∙◌, arith, All, if◌then◌else◌, drop, take}
 use Rattle.std.proofs.Math.Seq.{get_or-append_seam}
 use Rattle.std.proofs.lemmas.Bool.{ne_eqb}
-use Rattle.std.proofs.lemmas.List.{length-take, length-drop, get_or_append_left}
+use Rattle.std.proofs.lemmas.List.{length-take, length-drop}
 use Rattle.im_octet.specs.Fields.{field4, field8, signed_field8}
 use Rattle.im_digest.specs.Digests.{Hash}
 use Rattle.im_disk.specs.Disk.{Files}
 use Rattle.im_model.specs.Headers.{alh, alh_string}
 use Rattle.im_model.specs.History.{Follow, IsEntry, IsTransaction, alh_of, alhs_from, alhs_of, first_alh, next_header}
+use Rattle.im_model.proofs.HeaderLemmas.{alhs_from-first}
 use Rattle.im_model.specs.declared.entries.Entry.{Entry}
 use Rattle.im_model.specs.declared.transactions.Transaction.{Transaction}
 use Rattle.im_format.specs.Batches.{entries_spans, values_spans}
@@ -115,14 +116,6 @@ pub record Goes (hash : Hash) (image : Files) (history : List Transaction) (r : 
   pub lie : All (LiesIn image) (refs_of recs)
   pub few : length r.alhs + length recs ≤ 1048576
 
--- the Alh that were there stay
-alhs-first : (hash : Hash) (alhs : List (List ℕ)) (txs : List Transaction) (i : ℕ) (d : List ℕ) → i < length alhs → get_or (alhs_from hash alhs txs) i d ≡ get_or alhs i d
-alhs-first hash alhs [] i d h = refl
-alhs-first hash alhs (tx ∷ txs) i d h =
-    let one : List (List ℕ) = alh hash (next_header hash alhs tx) ∷ [] in
-    let longer : length (alhs ++ one) ≡ length alhs + 1 = length-append alhs one in
-    alhs-first hash (alhs ++ one) txs i d (omega arith) ∙ get_or_append_left alhs one d i h
-
 -- the Alh of the next transaction
 pub next-alh : (hash : Hash) (history : List Transaction) (alhs : List (List ℕ)) (tx : Transaction) (txs : List Transaction) → alhs_of hash history ≡ alhs_from hash alhs (tx ∷ txs) → alh_of hash history (length alhs + 1) ≡ alh hash (next_header hash alhs tx)
 next-alh hash history alhs tx txs e =
@@ -133,7 +126,7 @@ next-alh hash history alhs tx txs e =
     ap (λ b. if b then first_alh hash else get_or (alhs_of hash history) (n + 1 - 1) []) (ne_eqb (n + 1) 0 (λ e. omega arith))
     ∙ ap (λ i. get_or (alhs_of hash history) i []) place
     ∙ ap (λ (l : List (List ℕ)). get_or l n []) e
-    ∙ alhs-first hash (alhs ++ a ∷ []) txs n [] (omega arith)
+    ∙ alhs_from-first hash (alhs ++ a ∷ []) txs n [] (omega arith)
     ∙ get_or-append_seam alhs a [] []
 
 goes-next : (hash : Hash) (image : Files) (history : List Transaction) (r : Reached) (rec : Record) (recs : List Record) → Goes hash image history r (rec ∷ recs) → IsNext hash r rec

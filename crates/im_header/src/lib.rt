@@ -1,5 +1,9 @@
-//! The digests of a header (immudb's embedded store, header version 1). They take no memory.
+//! The header of the next transaction, and the digests of a header (immudb's embedded store, header version 1).
+//! They take no memory.
 #![tactic(auto)]
+
+pub mod laws;
+pub mod next;
 
 ghost use Rattle.std.specs.Prelude.{◌≡◌};
 ghost use Rattle.im_model.specs.Headers.{inner, alh};

@@ -6,11 +6,7 @@ use Rattle.std.proofs.lemmas.List.Elements.{filter-append}
 use Rattle.std.specs.List.{filter, find, last_or, All}
 use Rattle.std.specs.Prelude.{IfSome}
 use Rattle.std.proofs.lemmas.List.Elements.{All-head, All-tail}
-
--- the last item of a list with one more is that one
-pub last_or-push : {X : Type 0} (o : Option X) (xs : List X) (x : X) → last_or o (xs ++ x ∷ []) ≡ Some x
-last_or-push o [] x = refl
-last_or-push o (y ∷ ys) x = last_or-push (Some y) ys x
+use Rattle.im_octet.proofs.Common.{last-push}
 
 -- the last item that passes, of a list with one more
 pub last-more : {X : Type 0} (p : X → Bool) (xs : List X) (x : X) → last_or None (filter p (xs ++ x ∷ [])) ≡ cond (p x) (Some x) (last_or None (filter p xs))
@@ -18,7 +14,7 @@ last-more p xs x = elim (cases_Bool (p x)) [
   | inl passes ↦ (
       ap (last_or None) (filter-append p xs (x ∷ []))
       ∙ ap (λ b. last_or None (filter p xs ++ cond b (x ∷ []) [])) passes
-      ∙ last_or-push None (filter p xs) x
+      ∙ last-push None (filter p xs) x
       ∙ ap (λ b. cond b (Some x) (last_or None (filter p xs))) (sym passes))
   | inr fails ↦ (
       ap (last_or None) (filter-append p xs (x ∷ []))

@@ -1,7 +1,7 @@
-use crate::entries::versions_in;
 use crate::reads;
 use crate::snapshot::Snapshot;
 use im_model::transactions::Transaction;
+use im_versions::entries::versions_in;
 use im_versions::versions::{Version, Versions};
 use im_view::errors::ViewError;
 use im_view::view::KvView;
@@ -80,7 +80,7 @@ impl Index {
         ensures { (history : List Transaction) → IsIndexOf self.now history → IfOk result (λ snapshot. IsIndexOf snapshot (take n history)) }
     {
         let versions = reads::copy_of(alloc, reads::up_to(&self.versions, n))?;
-        Ok(Snapshot::over(versions, n))
+        Ok(Snapshot::of(Index { versions, taken: n }))
     }
 }
 

@@ -1,8 +1,4 @@
-use crate::reads;
-use im_versions::versions::{Version, Versions};
-use im_view::errors::ViewError;
-use im_view::view::KvView;
-use std::alloc::Global;
+use crate::index::Index;
 use std::marker::Model;
 
 /// What stands after some transactions of a history: a value of the caller's own, which later transactions
@@ -19,8 +15,7 @@ use std::marker::Model;
 /// `IsIndexOf`, of the first transactions of the index's history, as `Index::snapshot` gives it.
 #[derive(Drop)]
 pub struct Snapshot {
-    versions: Vec<Version>,
-    taken: u64,
+    index: Index,
 }
 
 impl Model for Snapshot {
@@ -28,41 +23,30 @@ impl Model for Snapshot {
 
     ghost Value = { Indexed };
 
-    ghost view = { λ s. record { versions = s.versions.items; taken = s.taken } };
+    ghost view = { λ s. s.index };
 }
 
 impl Snapshot {
     ghost use Rattle.std.specs.Prelude.{◌≡◌};
 
-    // A snapshot of these versions of so many transactions.
-    pub(crate) fn over(versions: Vec<Version>, taken: u64) -> Self
-        ensures { result ≡ record { versions = versions.items; taken = taken } }
+    // The snapshot that is this index, which takes no more transactions.
+    pub(crate) fn of(index: Index) -> Self
+        ensures { result ≡ index }
     {
-        Snapshot { versions, taken }
+        Snapshot { index }
     }
 
     /// The number of transactions that it stands for.
     pub fn taken(&self) -> u64
         ensures { result ≡ self.now.taken }
     {
-        self.taken
-    }
-}
-
-impl KvView for Snapshot {
-    ghost use Rattle.im_index.specs.Indexed.{IsIndexOf};
-
-    ghost stands = { IsIndexOf };
-
-    fn get(&self, alloc: Global, key: &[u8], n: u64) -> Result<Option<Version>, ViewError> {
-        Ok(reads::last(alloc, reads::up_to(&self.versions, n), key)?)
+        self.index.taken()
     }
 
-    fn scan(&self, alloc: Global, prefix: &[u8], n: u64) -> Result<Versions, ViewError> {
-        Ok(reads::scan(alloc, reads::up_to(&self.versions, n), prefix)?)
-    }
-
-    fn versions(&self, alloc: Global, key: &[u8], n: u64) -> Result<Versions, ViewError> {
-        Ok(reads::of_key(alloc, reads::up_to(&self.versions, n), key)?)
+    /// Lends it as a view.
+    pub fn view(&self) -> &Index
+        ensures { result.now ≡ self.now }
+    {
+        &self.index
     }
 }

@@ -1,9 +1,10 @@
 -- The front of a history, and records that follow each other.
 use Rattle.std.proofs.Common.{◌≡◌, ℕ, suc, zero, ◌+◌, ◌-◌, ◌≤◌, ◌<◌, List, [], ◌∷◌, ◌++◌, length, get_or, take, refl, sym, ◌∙◌, ap, subst, arith, length-append, append_assoc, if◌then◌else◌, ◌==◌}
-use Rattle.std.proofs.lemmas.List.{append-nil, get_or_append_left}
+use Rattle.std.proofs.lemmas.List.{append-nil}
 use Rattle.im_digest.specs.Digests.{Hash}
 use Rattle.im_model.specs.Headers.{alh}
 use Rattle.im_model.specs.History.{alh_of, alhs_from, first_alh, next_header}
+use Rattle.im_model.proofs.HeaderLemmas.{alhs_from-first}
 use Rattle.im_model.specs.declared.transactions.Transaction.{Transaction}
 use Rattle.im_format.specs.Batches.{joined}
 use Rattle.im_format.specs.Places.{refs_of}
@@ -11,17 +12,10 @@ use Rattle.im_format.specs.Records.{AreRecords, record_octets, records_octets}
 use Rattle.im_format.specs.declared.records.Record.{Record}
 use Rattle.im_format.specs.declared.references.ValueRef.{ValueRef}
 
--- the Alh that there are stay
-from_keeps : (hash : Hash) (alhs : List (List ℕ)) (txs : List Transaction) (i : ℕ) → i < length alhs → get_or (alhs_from hash alhs txs) i [] ≡ get_or alhs i []
-from_keeps hash alhs [] i lt = refl
-from_keeps hash alhs (tx ∷ txs) i lt =
-    let one : List (List ℕ) = alh hash (next_header hash alhs tx) ∷ [] in
-    from_keeps hash (alhs ++ one) txs i (omega (arith, lt, length-append alhs one)) ∙ get_or_append_left alhs one [] i lt
-
--- those of a front part are the same
+-- the Alh of a front part are the same
 alhs_front : (hash : Hash) (alhs : List (List ℕ)) (txs : List Transaction) (n i : ℕ) → i < length alhs + n
     → get_or (alhs_from hash alhs (take n txs)) i [] ≡ get_or (alhs_from hash alhs txs) i []
-alhs_front hash alhs txs zero i lt = sym (from_keeps hash alhs txs i (omega (arith, lt)))
+alhs_front hash alhs txs zero i lt = sym (alhs_from-first hash alhs txs i [] (omega (arith, lt)))
 alhs_front hash alhs [] (suc n) i lt = refl
 alhs_front hash alhs (tx ∷ txs) (suc n) i lt =
     let one : List (List ℕ) = alh hash (next_header hash alhs tx) ∷ [] in

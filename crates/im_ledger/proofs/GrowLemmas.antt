@@ -23,7 +23,7 @@ use Rattle.im_model.specs.History.{alh_of, alhs_of, next_header, IsHistory}
 use Rattle.im_model.specs.declared.entries.Entry.{Entry}
 use Rattle.im_model.specs.declared.transactions.Transaction.{Transaction}
 use Rattle.im_model.proofs.HistoryLemmas.{length-alhs_of}
-use Rattle.im_proof.proofs.HeaderLemmas.{alhs-next}
+use Rattle.im_model.proofs.HeaderLemmas.{alhs-next}
 use Rattle.im_ledger.specs.Histories.{IsKept, KeptHistory, StandsWithin}
 use Rattle.im_ledger.specs.Ledgers.{Held, IsLedger}
 use Rattle.im_ledger.proofs.ReadLemmas.{alh-at}

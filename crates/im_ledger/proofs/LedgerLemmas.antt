@@ -4,7 +4,7 @@ use Rattle.std.proofs.Math.Seq.{take-length}
 use Rattle.std.proofs.lemmas.List.{take-append-le, length-take-le}
 use Rattle.std.proofs.lemmas.List.Elements.{All-nil, All-push}
 use Rattle.im_digest.specs.Digests.{Hash}
-use Rattle.im_frontier.specs.Kept.{IsFrontier, Kept}
+use Rattle.im_mtree.specs.Kept.{IsFrontier, Kept}
 use Rattle.im_model.specs.Headers.{alh}
 use Rattle.im_model.specs.History.{alhs_of, bl_root_of, header_of, next_header, no_digest, no_transaction, Follow, IsTransaction}
 use Rattle.im_model.specs.Trees.{root}
@@ -12,7 +12,8 @@ use Rattle.im_model.specs.declared.headers.Header.{Header}
 use Rattle.im_model.specs.declared.transactions.Transaction.{Transaction}
 use Rattle.im_model.proofs.HistoryLemmas.{length-alhs_of}
 use Rattle.im_proof.specs.Built.{headers_of}
-use Rattle.im_proof.proofs.HeaderLemmas.{alhs-next, headers-length, headers-next, headers-nth}
+use Rattle.im_model.proofs.HeaderLemmas.{alhs-next, next-bl}
+use Rattle.im_proof.proofs.HeaderLemmas.{headers-length, headers-next, headers-nth}
 use Rattle.im_dual.specs.Kept.{header_at, no_header}
 use Rattle.im_book.specs.Booked.{Booked, IsBook}
 use Rattle.im_ledger.specs.Ledgers.{Held, IsLedger}
@@ -149,11 +150,6 @@ book-within hash held book tree frontier root same l =
 pub headers-counted : (hash : Hash) (held : Held) → IsLedger hash held → length held.headers ≡ length held.transactions
 headers-counted hash held l = ap length l.headers ∙ headers-length hash held.transactions
 
--- a header tells the tree of its transaction
-tree-told : (hash : Hash) (alhs : List (List ℕ)) (tx : Transaction) → (next_header hash alhs tx).bl_tx_id ≡ tx.bl
-unfolding next_header
-tree-told hash alhs tx = refl
-
 -- no header has a larger tree than the ledger
 pub trees-within : (hash : Hash) (held : Held) (t : ℕ) → IsLedger hash held → 1 ≤ t → t ≤ length held.transactions → (header_at held.headers t).bl_tx_id ≤ length held.tree
 trees-within hash held t l some within =
@@ -162,6 +158,6 @@ trees-within hash held t l some within =
     let kept : header_at held.headers t ≡ header_of hash h t =
     ap (λ (hs : List Header). get_or hs (t - 1) no_header) l.headers ∙ headers-nth hash h t no_header some within in
     let told : (header_at held.headers t).bl_tx_id ≡ tx.bl =
-    ap (λ (x : Header). x.bl_tx_id) kept ∙ tree-told hash (alhs_of hash (take (t - 1) h)) tx in
+    ap (λ (x : Header). x.bl_tx_id) kept ∙ next-bl hash (alhs_of hash (take (t - 1) h)) tx in
     let least : tx.bl ≤ length held.tree = l.least (t - 1) no_transaction (omega arith) in
     omega arith

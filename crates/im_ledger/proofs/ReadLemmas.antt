@@ -5,7 +5,7 @@ use Rattle.std.proofs.lemmas.List.{drop_all, drop_more, length-map}
 use Rattle.im_digest.specs.Digests.{Hash}
 use Rattle.im_format.specs.Records.{AreRecords}
 use Rattle.im_format.specs.declared.records.Record.{Record}
-use Rattle.im_frontier.specs.Kept.{IsFrontier, Kept}
+use Rattle.im_mtree.specs.Kept.{IsFrontier, Kept}
 use Rattle.im_model.specs.History.{alh_of, alhs_of, bl_root_of, first_alh, Follow, IsHistory}
 use Rattle.im_model.specs.declared.transactions.Transaction.{Transaction}
 use Rattle.im_model.proofs.HistoryLemmas.{Follow-at, length-alhs_of}

@@ -1,7 +1,7 @@
 -- What is kept of a ledger's tree.
 use Rattle.std.proofs.Common.{◌≡◌, ℕ, List, take, ap, subst, ◌∙◌, sym}
 use Rattle.im_digest.specs.Digests.{Hash}
-use Rattle.im_frontier.specs.Kept.{IsFrontier, Kept}
+use Rattle.im_mtree.specs.Kept.{IsFrontier, Kept}
 use Rattle.im_ledger.specs.Ledgers.{Held, IsLedger}
 
 -- what a ledger keeps of its tree is that of the first Alh

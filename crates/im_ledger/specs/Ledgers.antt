@@ -1,7 +1,7 @@
 -- What a session has of its history.
 use Rattle.std.specs.Prelude.{◌≡◌, ℕ, ◌≤◌, List, length, take, All}
 use Rattle.im_digest.specs.Digests.{Hash}
-use Rattle.im_frontier.specs.Kept.{IsFrontier, Kept}
+use Rattle.im_mtree.specs.Kept.{IsFrontier, Kept}
 use Rattle.im_model.specs.History.{alhs_of, bl_root_of, IsHistory}
 use Rattle.im_model.specs.declared.headers.Header.{Header}
 use Rattle.im_model.specs.declared.transactions.Transaction.{Transaction}

@@ -1,3 +1,4 @@
+pub mod HeaderLemmas
 pub mod HistoryLemmas
 pub mod Lengths
 pub mod Reversed

@@ -68,7 +68,8 @@ pub none-fails : {F : Type 0} → (checks : List (Check F)) → AllHold checks �
 none-fails [] h = refl
 none-fails (check ∷ checks) h = ap (λ b. if b then first_fail checks else Err check.1) h.0 ∙ none-fails checks h.1
 
-hold-step : {F : Type 0} → (b : Bool) (f : F) (r : Result (Unit {0}) F) → (if b then r else Err f) ≡ Ok tt → (b ≡ true) × (r ≡ Ok tt)
+-- the first check holds, and so do the others
+pub hold-step : {F : Type 0} → (b : Bool) (f : F) (r : Result (Unit {0}) F) → (if b then r else Err f) ≡ Ok tt → (b ≡ true) × (r ≡ Ok tt)
 hold-step true f r h = (refl, h)
 hold-step false f r h = absurd cc
 

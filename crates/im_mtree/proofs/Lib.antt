@@ -1,6 +1,9 @@
 pub mod CheckLemmas
+pub mod GrowthLemmas
 pub mod InclusionLemmas
 pub mod JoinLemmas
+pub mod OnesLemmas
+pub mod RootLemmas
 pub mod SideLemmas
 pub mod SubtreeLemmas
 pub mod UpLemmas

@@ -1,11 +1,9 @@
 -- Whole subtrees: how a leaf is added to them, and how they give the root.
-use Rattle.std.proofs.Common.{◌≡◌, ◌<◌, ◌≤◌, length, ℕ, suc, zero, ◌+◌, ◌-◌, ◌*◌, ◌/◌, ◌%◌, ◌^◌, ◌==◌, List, [], ◌∷◌, take, drop, reverse, ◌++◌, refl, arith, ap, subst, ◌∙◌, sym, true, false, if◌then◌else◌, length-drop, get_or, inl, inr}
-use Rattle.std.proofs.lemmas.List.{get_or-drop}
+use Rattle.std.proofs.Common.{◌≡◌, ◌<◌, ◌≤◌, length, ℕ, suc, zero, ◌+◌, ◌*◌, ◌/◌, ◌%◌, ◌^◌, ◌==◌, List, [], ◌∷◌, take, drop, reverse, ◌++◌, refl, arith, ap, subst, ◌∙◌, sym, true, false, if◌then◌else◌, get_or, inl, inr}
 use Rattle.std.proofs.lemmas.Bool.{eq-eqb, ne_eqb, cases_lt}
 use Rattle.std.proofs.Math.Nat.{pow-succ', mul_assoc, suc-mul, zero-mul}
 use Rattle.im_digest.specs.Digests.{Hash}
 use Rattle.im_model.specs.Trees.{leaf, node, root}
-use Rattle.im_model.proofs.TreeLemmas.{root-one}
 use Rattle.im_model.proofs.Reversed.{reverse-last, reverse-nothing}
 use Rattle.im_mtree.specs.Subtrees.{subtrees_within, subtrees, folded}
 use Rattle.im_mtree.proofs.JoinLemmas.{power-twice, root-leaf, root-join, root-rest}
@@ -36,13 +34,13 @@ length-subtrees (suc room) hash digests s count =
     else subtrees_within room hash digests (2 * s) (count / 2)) ≤ suc room) [ true ↦ omega arith | false ↦ omega arith ]
 
 -- where an even count of runs ends
-even-place : (count s : ℕ) → count % 2 ≡ 0 → count * s ≡ count / 2 * (2 * s)
+pub even-place : (count s : ℕ) → count % 2 ≡ 0 → count * s ≡ count / 2 * (2 * s)
 even-place count s h =
     let twice : count ≡ count / 2 * 2 = omega arith in
     ap (λ j. j * s) twice ∙ mul_assoc (count / 2) 2 s
 
 -- where an odd count of runs ends
-odd-place : (count s : ℕ) → count % 2 ≡ 1 → count * s ≡ count / 2 * (2 * s) + s
+pub odd-place : (count s : ℕ) → count % 2 ≡ 1 → count * s ≡ count / 2 * (2 * s) + s
 odd-place count s h =
     let twice : count ≡ suc (count / 2 * 2) = omega arith in
     let place : (count / 2 * 2) * s ≡ count / 2 * (2 * s) = mul_assoc (count / 2) 2 s in
@@ -176,7 +174,8 @@ subtrees-zero : (hash : Hash) (digests : List (List ℕ)) (s count : ℕ) → su
 unfolding subtrees_within
 subtrees-zero hash digests s count = refl
 
-folded-within : (room : ℕ) (hash : Hash) (digests : List (List ℕ)) (s e count : ℕ) → s ≡ 2 ^ e → count < 2 ^ room
+-- subtrees and the part behind them, which is at most one more of their size
+pub folded-within : (room : ℕ) (hash : Hash) (digests : List (List ℕ)) (s e count : ℕ) → s ≡ 2 ^ e → count < 2 ^ room
     → count * s < length digests → length digests ≤ count * s + s
     → folded hash (subtrees_within room hash digests s count) (root hash (drop (count * s) digests)) ≡ root hash digests
 folded-within zero hash digests s e count power fits more most =
@@ -203,19 +202,6 @@ folded-within (suc room) hash digests s e count power fits more most =
           ∙ ap (λ j. folded hash (subtrees_within room hash digests (2 * s) (count / 2)) (root hash (drop j digests))) place
           ∙ folded-within room hash digests (2 * s) (suc e) (count / 2) (power-twice s e power) (omega arith) (omega arith) (omega arith))
     ]
-
--- the whole subtrees of all leaves but the last, and the last, give the root
-pub folded-root : (hash : Hash) (digests : List (List ℕ)) (i : ℕ) (last : List ℕ) → i + 1 ≡ length digests → i < 2 ^ 64 → last ≡ leaf hash (get_or digests i [])
-    → folded hash (subtrees hash digests i) last ≡ root hash digests
-unfolding subtrees
-folded-root hash digests i last h fits made =
-    let rest : length (drop i digests) ≡ length digests - i = length-drop i digests in
-    let here : i + 0 ≡ i = omega arith in
-    let one : i ≡ i * 1 = omega arith in
-    ap (λ r. folded hash (subtrees_within 64 hash digests 1 i) r)
-    (made ∙ ap (λ j. leaf hash (get_or digests j [])) (sym here) ∙ ap (λ d. leaf hash d) (sym (get_or-drop i digests 0 []))
-    ∙ sym (root-one hash (drop i digests) (omega arith) (omega arith)) ∙ ap (λ j. root hash (drop j digests)) one)
-    ∙ folded-within 64 hash digests 1 0 i refl fits (omega arith) (omega arith)
 
 -- no digest has no whole subtree
 pub subtrees-none : (hash : Hash) (digests : List (List ℕ)) → [] ≡ subtrees hash digests 0

@@ -1,7 +1,7 @@
 -- The recursion from the root down is the walk from the leaf up.
 use Rattle.std.proofs.Common.{◌≡◌, ◌<◌, ◌≤◌, ℕ, suc, zero, ◌+◌, ◌-◌, List, [], ◌∷◌, ◌++◌, length, take, reverse, refl, arith, ap, ◌∙◌, sym, nat_lt, nat_le, true, false, if◌then◌else◌, length-append, inl, inr, get_or}
 use Rattle.std.proofs.lemmas.Bool.{cases_lt, lt-leb, lt-ltb, le-ltb}
-use Rattle.std.proofs.lemmas.List.{length-take-le, take_more, take_all}
+use Rattle.std.proofs.lemmas.List.{length-take-le}
 use Rattle.im_digest.specs.Digests.{Hash}
 use Rattle.im_model.specs.Trees.{leaf, node, split_of}
 use Rattle.im_model.specs.Paths.{path_length_within, path_length, up}
@@ -11,6 +11,7 @@ use Rattle.im_model.proofs.Reversed.{up-nothing, up-last-left, up-last-right}
 use Rattle.im_mtree.specs.Ways.{sides_within, sides, rise, meet}
 use Rattle.im_mtree.proofs.SideLemmas.{rise-snoc}
 use Rattle.im_mtree.proofs.WayLemmas.{rise-end}
+use Rattle.im_octet.proofs.Common.{last-term}
 
 -- there are as many sides as terms
 length-within : (room n i : ℕ) → length (sides_within room n i) ≡ path_length_within room n i
@@ -49,12 +50,6 @@ sides-at_left room n i p q =
     ap (λ t. if t then [] else (if nat_lt i (split_of n) then sides_within room (split_of n) i ++ false ∷ [] else sides_within room (n - split_of n) (i - split_of n) ++ true ∷ [])) (lt-leb n 1 p)
     ∙ ap (λ t. if t then sides_within room (split_of n) i ++ false ∷ [] else sides_within room (n - split_of n) (i - split_of n) ++ true ∷ []) (le-ltb i (split_of n) q)
 
--- a list is all its terms but the last, and the last
-last-term : (list : List (List ℕ)) (q : ℕ) → length list ≡ suc q → list ≡ take q list ++ get_or list q [] ∷ []
-last-term list q e =
-    let next : q + 1 ≡ suc q = omega arith in
-    sym (take_all (q + 1) list (omega arith)) ∙ take_more list q [] (omega arith)
-
 up-rise : (room : ℕ) (hash : Hash) (n i : ℕ) (digest : List ℕ) (path : List (List ℕ)) → n ≤ room → length path ≡ path_length_within room n i
     → up hash n i digest (reverse path) ≡ rise (meet hash) (sides_within room n i) (leaf hash digest) path
 up-rise zero hash n i digest path fits e =
@@ -69,7 +64,7 @@ up-rise (suc room) hash n i digest path fits e = elim (cases_lt 1 n) [
             let q : ℕ = path_length_within room k i in
             let long : length path ≡ suc q = e ∙ path-left room n i many l in
             let front : length (take q path) ≡ q = length-take-le q path (omega arith) in
-            up-last-left hash n i digest path (take q path) (get_or path q []) k (last-term path q long) refl l
+            up-last-left hash n i digest path (take q path) (get_or path q []) k (last-term path q [] long) refl l
             ∙ ap (λ x. node hash x (get_or path q [])) (up-rise room hash k i digest (take q path) (omega arith) front)
             ∙ sym (rise-snoc (meet hash) (sides_within room k i) false (leaf hash digest) path q (length-within room k i) long)
             ∙ ap (λ s. rise (meet hash) s (leaf hash digest) path) (sym (sides-at_right room n i many l)))
@@ -77,7 +72,7 @@ up-rise (suc room) hash n i digest path fits e = elim (cases_lt 1 n) [
             let q : ℕ = path_length_within room (n - k) (i - k) in
             let long : length path ≡ suc q = e ∙ path-right room n i many g in
             let front : length (take q path) ≡ q = length-take-le q path (omega arith) in
-            up-last-right hash n i digest path (take q path) (get_or path q []) k (last-term path q long) refl g
+            up-last-right hash n i digest path (take q path) (get_or path q []) k (last-term path q [] long) refl g
             ∙ ap (λ x. node hash (get_or path q []) x) (up-rise room hash (n - k) (i - k) digest (take q path) (omega arith) front)
             ∙ sym (rise-snoc (meet hash) (sides_within room (n - k) (i - k)) true (leaf hash digest) path q (length-within room (n - k) (i - k)) long)
             ∙ ap (λ s. rise (meet hash) s (leaf hash digest) path) (sym (sides-at_left room n i many g)))

@@ -1,6 +1,9 @@
 -- The walk from a leaf up, level by level.
-use Rattle.std.proofs.Common.{◌≡◌, ◌<◌, ◌≤◌, ℕ, suc, zero, ◌+◌, ◌/◌, ◌%◌, List, [], ◌∷◌, length, drop, refl, arith, ap, ◌∙◌, sym, nat_eq, Bool, true, false, inl, inr, get_or, drop-cons}
-use Rattle.im_mtree.specs.Ways.{sides, rise}
+use Rattle.std.proofs.Common.{◌≡◌, ◌<◌, ◌≤◌, ℕ, suc, zero, ◌+◌, ◌/◌, ◌%◌, ◌^◌, List, [], ◌∷◌, length, drop, refl, arith, ap, ◌∙◌, sym, nat_eq, Bool, true, false, inl, inr, get_or, drop-cons}
+use Rattle.std.proofs.lemmas.Bool.{cases_order}
+use Rattle.std.proofs.Math.Nat.{div-div-eq-div-mul, div-one, pow-suc}
+use Rattle.im_mtree.specs.Ways.{sides, rise, IsPassedTo}
+use Rattle.im_mtree.specs.declared.places.Place.{Place}
 use Rattle.im_mtree.proofs.SideLemmas.{sides-up, sides-one}
 
 -- a last node with an even index stands alone on its level
@@ -67,3 +70,34 @@ pub left-next : (r i r1 i1 r2 i2 : ℕ) (b : Bool) (long t : ℕ)
 left-next r i r1 i1 r2 i2 b long t same met lasts indices before =
     let e = ap length (sides-next r i r1 i1 r2 i2 b same met lasts indices) in
     omega (arith, before, e)
+
+-- a place is reached from itself
+pub passed_none : (place : Place) → IsPassedTo place place
+passed_none place = record {
+  levels = 0;
+  index = sym (div-one place.index);
+  last = sym (div-one place.last);
+  alone = λ level below. absurd (omega arith);
+}
+
+-- half of what is left after some levels is what is left one level further
+half-on : (n half whole levels : ℕ) → whole ≡ n / 2 ^ levels → half ≡ whole / 2 → half ≡ n / 2 ^ suc levels
+half-on n half whole levels here is =
+    is ∙ ap (λ j. j / 2) here ∙ div-div-eq-div-mul n (2 ^ levels) 2 ∙ ap (λ j. n / j) (sym (pow-suc 2 levels))
+
+-- a level on which the last node stands left is passed
+pub passed_on : (from to next : Place) → to.index ≡ to.last → to.last % 2 ≡ 0 → next.index ≡ to.index / 2 → next.last ≡ to.last / 2
+    → IsPassedTo from to → IsPassedTo from next
+passed_on from to next same even index last h = record {
+  levels = suc h.levels;
+  index = half-on from.index next.index to.index h.levels h.index index;
+  last = half-on from.last next.last to.last h.levels h.last last;
+  alone = λ level below. elim (cases_order level h.levels) [
+    | inl here ↦ (
+      (ap (λ j. from.index / 2 ^ j) here ∙ sym h.index ∙ same ∙ h.last ∙ ap (λ j. from.last / 2 ^ j) (sym here)),
+      ap (λ j. from.last / 2 ^ j % 2) here ∙ ap (λ j. j % 2) (sym h.last) ∙ even,
+    )
+    | inr (inl less) ↦ h.alone level less
+    | inr (inr more) ↦ absurd (omega arith)
+  ];
+}

@@ -1,5 +1,5 @@
 -- The way from a leaf to the root: on which side each term of a path stands, from the leaf up.
-use Rattle.std.specs.Prelude.{◌≡◌, ℕ, suc, zero, ◌<◌, ◌-◌, ◌%◌, Bool, true, false, List, [], ◌∷◌, ◌++◌, nat_le, nat_lt, if◌then◌else◌}
+use Rattle.std.specs.Prelude.{◌≡◌, ℕ, suc, zero, ◌<◌, ◌-◌, ◌/◌, ◌%◌, ◌^◌, Bool, true, false, List, [], ◌∷◌, ◌++◌, nat_le, nat_lt, if◌then◌else◌}
 use Rattle.im_digest.specs.Digests.{Hash}
 use Rattle.im_model.specs.Trees.{node, split_of}
 use Rattle.im_mtree.specs.declared.places.Place.{Place}
@@ -29,3 +29,11 @@ meet hash left digest term = if left then node hash term digest else node hash d
 -- a place below the root that has one beside it: it isn't the last of its level, or stands right
 abbrev pub Meets : Place → Type 0
 Meets place = (0 < place.last) × (place.index ≡ place.last → place.last % 2 ≡ 1)
+
+-- `to` is so many levels above `from`, or is `from`, and on each level below it the way passes the last node,
+-- which stands left: no node is beside it there
+pub record IsPassedTo (from to : Place) : Type 0 where
+  pub levels : ℕ
+  pub index : to.index ≡ from.index / 2 ^ levels
+  pub last : to.last ≡ from.last / 2 ^ levels
+  pub alone : (level : ℕ) → level < levels → (from.index / 2 ^ level ≡ from.last / 2 ^ level) × (from.last / 2 ^ level % 2 ≡ 0)

@@ -1,5 +1,5 @@
 ghost use Rattle.std.specs.Prelude.{◌≡◌, ◌<◌, ◌≤◌, ◌+◌, ◌/◌, ◌∷◌};
-ghost use Rattle.im_mtree.specs.Ways.{sides, Meets};
+ghost use Rattle.im_mtree.specs.Ways.{sides, Meets, IsPassedTo};
 
 /// A node on the way from a leaf to the root: its index on its level, and that of the level's last node.
 #[derive(Clone, Copy)]
@@ -12,13 +12,14 @@ pub struct Place {
 
 /// The lowest place from here up at which a term is met, or else the root: it passes over the levels on
 /// which the last node stands alone (RFC 9162, section 2.1.3.2).
-#[tactic(auto, using(crate::proofs::WayLemmas::pass_level))]
+#[tactic(auto, using(crate::proofs::WayLemmas::pass_level, crate::proofs::WayLemmas::passed_none, crate::proofs::WayLemmas::passed_on))]
 pub fn meeting(mut place: Place) -> Place
     requires { place.index ≤ place.last }
     ensures within { result.index ≤ result.last }
     ensures same { sides (result.last + 1) result.index ≡ sides (place.last + 1) place.index }
     ensures lower { result.last ≤ place.last }
     ensures met { 0 < result.last → Meets result }
+    ensures passed { IsPassedTo place result }
 {
     while 0 < place.last && place.index == place.last && place.last % 2 == 0 {
         place = Place {

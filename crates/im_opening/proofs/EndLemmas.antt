@@ -6,7 +6,7 @@ use Rattle.im_format.specs.Places.{log_end, refs_of}
 use Rattle.im_format.specs.Records.{AreReferences}
 use Rattle.im_format.specs.declared.records.Record.{Record}
 use Rattle.im_format.specs.declared.references.ValueRef.{ValueRef}
-use Rattle.im_frontier.specs.Kept.{Kept}
+use Rattle.im_mtree.specs.Kept.{Kept}
 use Rattle.im_model.specs.declared.entries.Entry.{Entry}
 use Rattle.im_opening.specs.Reach.{AreReferred, IsConsistent}
 use Rattle.im_format.proofs.EndLemmas.{log_end_append, references_below}

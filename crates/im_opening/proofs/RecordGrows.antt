@@ -5,14 +5,15 @@ use Rattle.std.proofs.lemmas.List.{length-map, map-append, take-append-le}
 use Rattle.im_digest.specs.Digests.{Hash}
 use Rattle.im_format.specs.Records.{AreRecords, AreReferences}
 use Rattle.im_format.specs.declared.records.Record.{Record}
-use Rattle.im_frontier.specs.Kept.{Kept, IsFrontier}
+use Rattle.im_mtree.specs.Kept.{Kept, IsFrontier}
 use Rattle.im_model.specs.Headers.{alh}
 use Rattle.im_model.specs.History.{Follow, IsHistory, IsTransaction, alh_of, alhs_of, bl_root_of, first_alh, next_header, no_digest}
 use Rattle.im_model.specs.Trees.{root}
 use Rattle.im_model.specs.declared.transactions.Transaction.{Transaction}
 use Rattle.im_model.specs.declared.headers.Header.{Header}
 use Rattle.im_proof.specs.Built.{headers_of}
-use Rattle.im_proof.proofs.HeaderLemmas.{alhs-next, headers-next as headers-behind}
+use Rattle.im_model.proofs.HeaderLemmas.{alhs-next}
+use Rattle.im_proof.proofs.HeaderLemmas.{headers-next as headers-behind}
 use Rattle.im_opening.specs.Reach.{AreReferred, IsConsistent, last_bl, txs_of}
 
 follow-next : (n bl : ℕ) (txs : List Transaction) (tx : Transaction) → Follow n bl txs → IsTransaction (n + length txs) tx → last_bl bl txs ≤ tx.bl → Follow n bl (txs ++ tx ∷ [])

@@ -3,7 +3,7 @@ use Rattle.std.proofs.Common.{◌≡◌, ◌<◌, ◌≤◌, ◌+◌, ◌-◌, �
 use Rattle.std.proofs.Math.Seq.{take-add}
 use Rattle.std.proofs.lemmas.List.{length-take-le}
 use Rattle.im_digest.specs.Digests.{Hash}
-use Rattle.im_frontier.specs.Kept.{Kept, IsFrontier}
+use Rattle.im_mtree.specs.Kept.{Kept, IsFrontier}
 use Rattle.im_model.specs.History.{bl_root_of, no_digest}
 use Rattle.im_model.specs.Trees.{root}
 

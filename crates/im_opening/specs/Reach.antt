@@ -5,7 +5,7 @@ use Rattle.im_disk.specs.Disk.{Files}
 use Rattle.im_format.specs.Damages.{Reached, behind, behind_one}
 use Rattle.im_format.specs.Records.{AreReferences, records_octets}
 use Rattle.im_format.specs.declared.records.Record.{Record}
-use Rattle.im_frontier.specs.Kept.{Kept, IsFrontier}
+use Rattle.im_mtree.specs.Kept.{Kept, IsFrontier}
 use Rattle.im_model.specs.History.{Follow, alhs_of, bl_root_of}
 use Rattle.im_model.specs.declared.transactions.Transaction.{Transaction}
 use Rattle.im_proof.specs.Built.{headers_of}

@@ -7,12 +7,12 @@ ghost use Rattle.im_model.specs.History.{IsEntry};
 ghost use Rattle.im_opening.specs.Answers.{HasOpenCause, Judges};
 ghost use Rattle.im_opening.specs.Parts.{Shows, IsEntryAt, AreEntriesAt, entry_checks};
 
-use crate::digests::entry_digest;
 use crate::errors::OpenError;
 use crate::source::Source;
 use crate::values::read_value;
 use im_digest::{D32, Hash32};
 use im_disk::disk::Disk;
+use im_entry::digests::digest_over;
 use im_format::references::ValueRef;
 use im_model::entries::Entry;
 use im_model::limits::{EntryValue, Key, Metadata};
@@ -78,7 +78,7 @@ fn read_entry<'a, D: Disk, H: Hash32>(
         value: EntryValue::new(Octets::from_vec(octets)),
     };
     Ok(EntryRead {
-        digest: entry_digest(hash, &entry, &slot.value.hval),
+        digest: digest_over(hash, &entry, &slot.value.hval),
         entry,
         value: slot.value,
         end: slot.end,

@@ -3,7 +3,6 @@
 #![tactic(auto)]
 
 mod batches;
-mod digests;
 mod ends;
 mod entries;
 pub mod errors;

@@ -23,8 +23,8 @@ use im_digest::{D32, Hash32};
 use im_disk::disk::{Disk, DiskError};
 use im_format::files::{BATCH_OCTETS, COMMIT_LOG, FIRST_VALUE_LOG, TRANSACTION_LOG};
 use im_format::records::Record;
-use im_frontier::frontiers::Frontier;
 use im_model::headers::Header;
+use im_mtree::frontiers::Frontier;
 use std::alloc::Global;
 
 /// The files as they were read: the records of the batches that count, in order, and where these end.

@@ -1,7 +1,7 @@
 ghost use Rattle.std.specs.Prelude.{◌≡◌, ◌≤◌, ◌<◌, ◌+◌, length, map, take, Some, OnOk, IfSome};
 ghost use Rattle.im_disk.specs.Disk.{Told, seen};
 ghost use Rattle.im_format.specs.Damages.{record_checks, records_checks};
-ghost use Rattle.im_frontier.specs.Kept.{IsFrontier};
+ghost use Rattle.im_mtree.specs.Kept.{IsFrontier};
 ghost use Rattle.im_model.specs.Entries.{entry_digest};
 ghost use Rattle.im_model.specs.History.{IsTransaction, bl_root_of, next_header};
 ghost use Rattle.im_opening.specs.Answers.{HasOpenCause, Judges};
@@ -15,13 +15,12 @@ use im_digest::{D32, Hash32};
 use im_disk::disk::Disk;
 use im_format::records::Record;
 use im_format::references::Refs;
-use im_frontier::frontiers::Frontier;
 use im_header::alh;
+use im_header::next::next_header;
 use im_model::headers::Header;
-use im_model::limits::Metadata;
 use im_model::transactions::Transaction;
+use im_mtree::frontiers::Frontier;
 use im_mtree::roots::root;
-use im_octet::octets::Octets;
 use im_record::alhs::read_alh;
 use std::alloc::Global;
 
@@ -57,8 +56,7 @@ fn grow<H: Hash32>(hash: &H, tree: &mut Frontier, root: D32, alhs: &[D32], bl: u
 }
 
 // The header of the next transaction, whose tree has this root, and whose entries have these digests.
-#[tactic(auto, unfolding(im_model::specs::History::next_header))]
-fn next_header<H: Hash32>(
+fn header_behind<H: Hash32>(
     alloc: Global,
     hash: &H,
     progress: &Progress,
@@ -72,20 +70,8 @@ fn next_header<H: Hash32>(
     requires digests { digests.now ≡ map (entry_digest (H.digest hash.now)) tx.now.entries }
     ensures { result ≡ next_header (H.digest hash.now) progress.now.alhs.items tx.now }
 {
-    Header {
-        id: progress.alhs.len() as u64 + 1,
-        ts: tx.ts,
-        bl_tx_id: tx.bl,
-        bl_root,
-        prev_alh: match progress.alhs.last() {
-            Some(alh) => *alh,
-            None => hash.hash(&[], &[], &[]),
-        },
-        version: 1,
-        md: Metadata::new(Octets::new(alloc)),
-        nentries: tx.entries.as_slice().len() as u32,
-        eh: root(hash, digests),
-    }
+    let eh = root(hash, digests);
+    next_header(alloc, hash, progress.alhs.as_slice(), bl_root, tx, eh)
 }
 
 /// Reads the next record, with the values of its transaction.
@@ -122,7 +108,7 @@ pub(crate) fn read_record<D: Disk, H: Hash32>(
     } = read;
     let alhs = progress.alhs.as_slice();
     let bl_root = grow(hash, &mut progress.tree, progress.bl_root, alhs, tx.bl);
-    let header = next_header(alloc, hash, progress, &tx, bl_root, digests.as_slice());
+    let header = header_behind(alloc, hash, progress, &tx, bl_root, digests.as_slice());
     let digest = alh(hash, &header);
     let place = read_alh(source.log, end, &digest)?;
     progress.alhs.push(digest)?;

@@ -1,31 +1,11 @@
 -- The numbers of fields, and the parts of joined strings.
-use Rattle.std.proofs.Common.{◌≡◌, ◌<◌, ◌^◌, length, ℕ, ℤ, ◌+◌, List, ◌++◌, refl, ap, ◌∙◌, sym, length-append, FitsSigned, w16, w32, w64}
+use Rattle.std.proofs.Common.{◌≡◌, ◌<◌, ◌^◌, length, ℕ, ℤ, ◌+◌, List, ◌++◌, ap, ◌∙◌, sym, length-append, FitsSigned, w16, w32, w64}
 use Rattle.std.proofs.lemmas.Nat.{from_be_bytes-to_be_bytes_2, from_be_bytes-to_be_bytes_4, from_be_bytes-to_be_bytes_8}
 use Rattle.std.proofs.lemmas.Int.{to_z-of_z}
 use Rattle.std.proofs.Math.Facts.{Fits-of_z}
 use Rattle.std.specs.Int.{from_be_bytes, cast_signed, cast_unsigned}
 use Rattle.im_octet.specs.Fields.{field2, field4, field8, signed_field8}
 use Rattle.im_pairs.proofs.PairLemmas.{parts}
-
--- a field of two octets
-pub length-field2 : (n : ℕ) → length (field2 n) ≡ 2
-unfolding field2
-length-field2 n = refl
-
--- a field of four octets
-pub length-field4 : (n : ℕ) → length (field4 n) ≡ 4
-unfolding field4
-length-field4 n = refl
-
--- a field of eight octets
-pub length-field8 : (n : ℕ) → length (field8 n) ≡ 8
-unfolding field8
-length-field8 n = refl
-
--- a field of eight octets with a sign
-pub length-signed8 : (z : ℤ) → length (signed_field8 z) ≡ 8
-unfolding signed_field8
-length-signed8 z = refl
 
 -- equal fields hold equal numbers
 pub same-field2 : (n m : ℕ) → n < 2 ^ 16 → m < 2 ^ 16 → field2 n ≡ field2 m → n ≡ m

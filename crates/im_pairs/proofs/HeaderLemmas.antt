@@ -7,7 +7,8 @@ use Rattle.im_model.specs.declared.headers.Header.{Header}
 use Rattle.im_pairs.specs.Pairs.{HasPair, AreAmong}
 use Rattle.im_pairs.specs.Ranges.{HeaderFits}
 use Rattle.im_pairs.proofs.PairLemmas.{parts, same_or_pair}
-use Rattle.im_pairs.proofs.FieldLemmas.{length-field2, length-field4, length-field8, length-signed8, same-field2, same-field4, same-field8, same-signed8, length-three, three}
+use Rattle.im_octet.proofs.FieldLemmas.{length-field2, length-field4, length-field8, length-signed}
+use Rattle.im_pairs.proofs.FieldLemmas.{same-field2, same-field4, same-field8, same-signed8, length-three, three}
 
 -- headers are equal by their fields
 same-fields : (h k : Header) → h.id ≡ k.id → h.ts ≡ k.ts → h.bl_tx_id ≡ k.bl_tx_id → h.bl_root ≡ k.bl_root → h.prev_alh ≡ k.prev_alh
@@ -38,12 +39,12 @@ inner-parts h k f g e =
     let whole : front h ++ (h.md ++ back h) ≡ front k ++ (k.md ++ back k) =
     sym (append_assoc (front h) h.md (back h)) ∙ e ∙ append_assoc (front k) k.md (back k) in
     let first = parts (front h) (h.md ++ back h) (front k) (k.md ++ back k)
-    (length-three _ _ _ ∙ ap (λ n. n + length (field2 h.version) + length (field2 (length h.md))) (length-signed8 h.ts ∙ sym (length-signed8 k.ts))
+    (length-three _ _ _ ∙ ap (λ n. n + length (field2 h.version) + length (field2 (length h.md))) (length-signed h.ts ∙ sym (length-signed k.ts))
     ∙ ap (λ n. length (signed_field8 k.ts) + n + length (field2 (length h.md))) (length-field2 h.version ∙ sym (length-field2 k.version))
     ∙ ap (λ n. length (signed_field8 k.ts) + length (field2 k.version) + n) (length-field2 (length h.md) ∙ sym (length-field2 (length k.md)))
     ∙ sym (length-three _ _ _)) whole in
     let head = three (signed_field8 h.ts) (field2 h.version) (field2 (length h.md)) (signed_field8 k.ts) (field2 k.version) (field2 (length k.md))
-    (length-signed8 h.ts ∙ sym (length-signed8 k.ts)) (length-field2 h.version ∙ sym (length-field2 k.version)) first.0 in
+    (length-signed h.ts ∙ sym (length-signed k.ts)) (length-field2 h.version ∙ sym (length-field2 k.version)) first.0 in
     let long : length h.md ≡ length k.md = same-field2 (length h.md) (length k.md) f.md g.md head.2 in
     let second = parts h.md (back h) k.md (back k) long first.1 in
     let third = parts (field4 h.nentries ++ h.eh ++ field8 h.bl_tx_id) h.bl_root (field4 k.nentries ++ k.eh ++ field8 k.bl_tx_id) k.bl_root

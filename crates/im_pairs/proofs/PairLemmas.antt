@@ -1,12 +1,13 @@
 -- Strings that are equal or not, the parts of equal ones, and strings that are among others.
-use Rattle.std.proofs.Common.{◌≡◌, ◌≢◌, ◌⊎◌, ◌<◌, length, ℕ, suc, zero, List, ◌∷◌, ◌++◌, take, drop, refl, arith, ap, subst, ◌∙◌, sym, true, false, Contains, inl, inr, take_at, drop_at, slice_index_or}
+use Rattle.std.proofs.Common.{◌≡◌, ◌≢◌, ◌⊎◌, ◌<◌, length, ℕ, suc, zero, List, ◌∷◌, ◌++◌, take, drop, refl, arith, ap, subst, ◌∙◌, sym, true, false, Contains, inl, inr, take_at, drop_at, slice_index_or, get_or, reverse, [], ◌-◌}
 use Rattle.std.proofs.lemmas.Bool.{false≢true}
-use Rattle.std.proofs.lemmas.List.Elements.{Contains-append_left, Contains-append_right, Contains-append_cases}
+use Rattle.std.proofs.lemmas.List.{length-reverse, get_or-reverse}
+use Rattle.std.proofs.lemmas.List.Elements.{All-from_get_or, Contains-append_left, Contains-append_right, Contains-append_cases}
 use Rattle.std.specs.Cmp.Lexicographic.{pointwise, bytes_decides}
 use Rattle.std.specs.Prelude.{nat_eq}
 use Rattle.im_digest.specs.Digests.{Hash}
 use Rattle.im_model.specs.Trees.{node_string}
-use Rattle.im_pairs.specs.Pairs.{IsPair, HasPair, AreAmong}
+use Rattle.im_pairs.specs.Pairs.{IsPair, HasPair, AreAmong, AreDigests}
 
 -- strings are equal or not
 pub equal_or_not : (x y : List ℕ) → (x ≡ y) ⊎ (x ≢ y)
@@ -80,3 +81,9 @@ AreAmong-both xs ys ss ts p q = λ x c. elim (Contains-append_cases xs ys x c) [
   | inl l ↦ Contains-append_left ss ts x (p x l)
   | inr r ↦ Contains-append_right ss ts x (q x r)
 ]
+
+-- digests of a list that code lends, in the other order
+pub digests-reversed : (xs : List (List ℕ)) → ((i : ℕ) → i < length xs → length (get_or xs i []) ≡ 32) → AreDigests (reverse xs)
+digests-reversed xs f =
+    let size : length (reverse xs) ≡ length xs = length-reverse xs in
+    All-from_get_or (λ d. length d ≡ 32) (reverse xs) [] (λ i h. ap length (get_or-reverse xs i [] (omega arith)) ∙ f (length xs - 1 - i) (omega arith))

@@ -1,15 +1,15 @@
 -- The turns of a walk past the split, as its code makes them, and what the walk begins with.
 use Rattle.std.proofs.Common.{◌≡◌, ◌<◌, ◌≤◌, length, ℕ, suc, ◌-◌, List, [], ◌∷◌, ◌++◌, reverse, refl, arith, ap, subst, ◌∙◌, sym, inl, inr, IfOk, Result, get_or}
 use Rattle.std.proofs.lemmas.Result.{IfOk-weaker}
-use Rattle.std.proofs.lemmas.List.{length-reverse, get_or-reverse}
-use Rattle.std.proofs.lemmas.List.Elements.{All-head, All-from_get_or, Contains-append_left}
+use Rattle.std.proofs.lemmas.List.{length-reverse}
+use Rattle.std.proofs.lemmas.List.Elements.{All-head, Contains-append_left}
 use Rattle.im_digest.specs.Digests.{Hash}
 use Rattle.im_model.specs.Trees.{node, node_string, split_of}
 use Rattle.im_model.specs.Paths.{path_length, up, up_strings}
 use Rattle.im_model.specs.Growth.{IsConsistency, consistency_length, older, newer, grow_strings, older_root, newer_root, consistency_strings}
 use Rattle.im_model.proofs.Lengths.{path-fits, consistency-fits}
 use Rattle.im_model.proofs.Reversed.{reverse-last}
-use Rattle.im_pairs.specs.Pairs.{GivesDigests, AreDigests}
+use Rattle.im_pairs.specs.Pairs.{GivesDigests}
 use Rattle.im_pairs.specs.Leads.{Leads}
 use Rattle.im_pathmove.specs.Carried.{IsCarried, extended}
 use Rattle.im_pathmove.specs.Walked.{HaveShape, IsWalked, IsJoined, Picks}
@@ -17,6 +17,7 @@ use Rattle.im_pathmove.specs.declared.carried.Carried.{Carried}
 use Rattle.im_pathmove.specs.declared.carried.Carried.TheVariants.{Path, Pair}
 use Rattle.im_pathmove.specs.declared.walks.Walked.{Walked}
 use Rattle.im_pathmove.proofs.WalkLemmas.{shape-left, shape-right, older-right-at, newer-right-at, carried-last, top-left, top-right, pair-past, path-past, carried-right}
+use Rattle.im_pairs.proofs.PairLemmas.{digests-reversed}
 
 -- what was picked, where either choice has a property
 picked : (Holds : Type 0) (kept other x : Carried) (P : Carried → Type 0) → Picks Holds kept other x → (Holds → P kept) → ((Holds → ⊥) → P other) → P x
@@ -112,12 +113,6 @@ shape-beside m n i k path first others front term cut s same side =
 -- a result that is this one
 pub IfOk-is : {T E : Type 0} (r : Result T E) (y : T) (P : T → Type 0) → P y → IfOk r (λ x. x ≡ y) → IfOk r P
 IfOk-is {T} r y P h e = IfOk-weaker r (λ x. x ≡ y) P (λ x s. subst P (sym s) h) e
-
--- what is known of the digests of a slice
-digests-reversed : (xs : List (List ℕ)) → ((i : ℕ) → i < length xs → length (get_or xs i []) ≡ 32) → AreDigests (reverse xs)
-digests-reversed xs f =
-    let size : length (reverse xs) ≡ length xs = length-reverse xs in
-    All-from_get_or (λ d. length d ≡ 32) (reverse xs) [] (λ i h. ap length (get_or-reverse xs i [] (omega arith)) ∙ f (length xs - 1 - i) (omega arith))
 
 -- what the walk begins with
 pub shape-ready : (m n i : ℕ) (path consistency others : List (List ℕ)) (first : List ℕ)

@@ -5,11 +5,8 @@ use Rattle.im_model.specs.Headers.{inner, alh}
 use Rattle.im_model.specs.History.{next_header, alhs_from, alhs_of, no_transaction, header_of}
 use Rattle.im_model.specs.declared.headers.Header.{Header}
 use Rattle.im_model.specs.declared.transactions.Transaction.{Transaction}
+use Rattle.im_model.proofs.HeaderLemmas.{grown}
 use Rattle.im_proof.specs.Built.{inners_from, inners_of, headers_from, headers_of}
-
--- the Alh, and that of one more transaction
-abbrev grown : Hash → List (List ℕ) → Transaction → List (List ℕ)
-grown hash alhs tx = alhs ++ alh hash (next_header hash alhs tx) ∷ []
 
 length-from : (hash : Hash) (alhs : List (List ℕ)) (txs : List Transaction) → length (headers_from hash alhs txs) ≡ length txs
 length-from hash alhs [] = refl
@@ -57,13 +54,3 @@ headers-onward hash alhs (t ∷ txs) tx = ap (λ l. next_header hash alhs t ∷ 
 pub headers-next : (hash : Hash) (history : List Transaction) (tx : Transaction)
     → headers_of hash (history ++ tx ∷ []) ≡ headers_of hash history ++ next_header hash (alhs_of hash history) tx ∷ []
 headers-next hash history tx = headers-onward hash [] history tx
-
-alhs-onward : (hash : Hash) (alhs : List (List ℕ)) (txs : List Transaction) (tx : Transaction)
-    → alhs_from hash alhs (txs ++ tx ∷ []) ≡ alhs_from hash alhs txs ++ alh hash (next_header hash (alhs_from hash alhs txs) tx) ∷ []
-alhs-onward hash alhs [] tx = refl
-alhs-onward hash alhs (t ∷ txs) tx = alhs-onward hash (grown hash alhs t) txs tx
-
--- one transaction more adds its Alh
-pub alhs-next : (hash : Hash) (history : List Transaction) (tx : Transaction)
-    → alhs_of hash (history ++ tx ∷ []) ≡ alhs_of hash history ++ alh hash (next_header hash (alhs_of hash history) tx) ∷ []
-alhs-next hash history tx = alhs-onward hash [] history tx

@@ -105,7 +105,9 @@ fn a_transaction_is_placed(rt: HostRuntime) -> Result<(), Fail> {
     let (kept, answer) = place(alloc, &Sum, disk)?;
     assert!(rt; answer == Ok(()));
     let (mut journal, ledger) = kept.into_parts();
-    assert!(rt; ledger.count() == 1 && ledger.tree().leaves() == [sum_is(0x95)].as_slice());
+    assert!(rt;
+        ledger.count() == 1 && ledger.tree().size() == 1 && *ledger.tree().leaf(1) == sum_is(0x95)
+    );
     drop(ledger);
     assert!(rt; holds_one(alloc, &mut journal));
     let disk = journal.into_disk();
@@ -119,7 +121,9 @@ fn a_ledger_that_was_read_has_its_whole_tree(rt: HostRuntime) -> Result<(), Fail
     let alloc = rt.alloc();
     let disk = disk_of(alloc, &RECORD, &BATCH, b"abc", Vec::new(alloc))?;
     let (mut journal, ledger) = opened(alloc, &Sum, disk)?.into_parts();
-    assert!(rt; ledger.count() == 1 && ledger.tree().leaves() == [sum_is(0x95)].as_slice());
+    assert!(rt;
+        ledger.count() == 1 && ledger.tree().size() == 1 && *ledger.tree().leaf(1) == sum_is(0x95)
+    );
     assert!(rt; ledger.transactions().len() == 1 && ledger.headers().len() == 1);
     drop(ledger);
     assert!(rt; holds_one(alloc, &mut journal));

@@ -1,4 +1,4 @@
-//! The headers of a book, computed from its transactions, by hand and by the plain program.
+//! The headers of a book, computed from its transactions, as they are worked by hand.
 
 ghost use Rattle.std.specs.Prelude.{◌≡◌, ◌+◌, ◌<◌, ◌≤◌, length, IfOk, OnOk};
 ghost use Rattle.im_book.specs.Booked.{last_bl, IsBook};
@@ -8,9 +8,8 @@ ghost use Rattle.im_model.specs.History.{IsHistory};
 use crate::values::{are, digest, setting};
 use im_book::book::Book;
 use im_digest::{D32, Sum};
-use im_model::headers::Header;
+use im_entry::digests::entry_root;
 use im_model::transactions::Transaction;
-use im_plain::history::{entry_root, header_at};
 use std::alloc::{AllocError, Global};
 use std::test::Fail;
 
@@ -59,27 +58,20 @@ fn three_over_growing_trees(alloc: Global) -> Result<Vec<Transaction>, Fail>
     Ok(history)
 }
 
-// Whether two headers are the same.
-fn same(header: &Header, other: &Header) -> bool {
-    (header.id, header.ts, header.bl_tx_id) == (other.id, other.ts, other.bl_tx_id)
-        && (header.version, header.nentries) == (other.version, other.nentries)
-        && header.bl_root == other.bl_root
-        && header.prev_alh == other.prev_alh
-        && header.eh == other.eh
-        && header.md.as_slice() == other.md.as_slice()
-}
-
-// Whether header k of a book is that of the plain program, over a tree of this root.
-fn is_plain(alloc: Global, book: &Book, k: u64, root: u8) -> Result<bool, AllocError>
+// Whether header k of a book, over the tree of all before it, has this root of its tree, this Alh before it, and
+// this root of its entries.
+fn has(book: &Book, k: u64, root: u8, before: u8, eh: u8) -> bool
     requires book { IsBook sum_digest book.now }
     requires first { 1 ≤ k }
     requires last { k ≤ length book.now.transactions }
 {
     let header = book.header(k);
-    let plain = header_at(alloc, &Sum, book.transactions(), k as usize)?;
-    let is = header.bl_root == digest(root) && same(header, &plain);
-    drop(plain);
-    Ok(is)
+    (header.id, header.ts, header.bl_tx_id) == (k, 0, k - 1)
+        && (header.version, header.nentries) == (1, 1)
+        && header.bl_root == digest(root)
+        && header.prev_alh == digest(before)
+        && header.eh == digest(eh)
+        && header.md.as_slice().is_empty()
 }
 
 // The first entry adds up to 92 in hex: 1, its key 6b and its value's digest 26; the others to 9e: 1, 6b and 32.
@@ -87,22 +79,20 @@ fn is_plain(alloc: Global, book: &Book, k: u64, root: u8) -> Result<bool, AllocE
 // second stands over the tree of one leaf, 95: its inner string has also the tree's size and root, 136; with its
 // number and the Alh before it that is 1cd, of which cd is left. The third stands over 95 and cd, whose root is 1
 // and their sum: 63. Its inner string adds up to 105, and with its number and the Alh before it d5 is left.
-fn are_as_worked(alloc: Global, book: &Book) -> Result<bool, AllocError>
+fn are_as_worked(book: &Book) -> bool
     requires book { IsBook sum_digest book.now }
     requires three { length book.now.transactions ≡ 3 }
 {
-    Ok(
-        book.len() == 3
-            && are(book.alhs(), &[0x95, 0xcd, 0xd5])
-            && is_plain(alloc, book, 1, 0)?
-            && is_plain(alloc, book, 2, 0x95)?
-            && is_plain(alloc, book, 3, 0x63)?,
-    )
+    book.len() == 3
+        && are(book.alhs(), &[0x95, 0xcd, 0xd5])
+        && has(book, 1, 0, 0, 0x92)
+        && has(book, 2, 0x95, 0x95, 0x9e)
+        && has(book, 3, 0x63, 0xcd, 0x9e)
 }
 
 fn headers_of_three(alloc: Global) -> Result<bool, Fail> {
     let book = Book::new(alloc, &Sum, three_over_growing_trees(alloc)?)?;
-    Ok(are_as_worked(alloc, &book)?)
+    Ok(are_as_worked(&book))
 }
 
 fn no_headers_of_none(alloc: Global) -> Result<bool, AllocError> {
@@ -111,7 +101,7 @@ fn no_headers_of_none(alloc: Global) -> Result<bool, AllocError> {
 }
 
 #[test]
-fn a_book_computes_the_headers_of_the_plain_program(rt: HostRuntime) -> Result<(), Fail> {
+fn a_book_computes_the_headers_as_worked(rt: HostRuntime) -> Result<(), Fail> {
     assert!(rt; roots_of_entries(rt.alloc())?);
     assert!(rt; headers_of_three(rt.alloc())?);
     assert!(rt; no_headers_of_none(rt.alloc())?);

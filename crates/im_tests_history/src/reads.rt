@@ -206,7 +206,7 @@ fn snapshots_agree(alloc: Global, index: &Index, history: &[Transaction]) -> Res
 {
     for n in 0..history.len() + 1 {
         let snapshot = index.snapshot(alloc, n as u64)?;
-        if !agrees(alloc, &snapshot, &history[..n])? {
+        if !agrees(alloc, snapshot.view(), &history[..n])? {
             return Ok(false);
         }
     }
@@ -258,10 +258,10 @@ fn stays(
     requires three { length three.now ≡ 3 }
 {
     let snapshot = index.snapshot(alloc, 3)?;
-    let before = index.taken() == 3 && agrees(alloc, &snapshot, three)?;
+    let before = index.taken() == 3 && agrees(alloc, snapshot.view(), three)?;
     index.take(alloc, next)?;
     let after = index.taken() == 4 && snapshot.taken() == 3;
-    Ok(before && after && agrees(alloc, &snapshot, three)?)
+    Ok(before && after && agrees(alloc, snapshot.view(), three)?)
 }
 
 fn a_snapshot_stays(alloc: Global) -> Result<bool, Fail> {

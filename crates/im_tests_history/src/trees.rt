@@ -10,12 +10,12 @@ use crate::values::{are, digest, one_to};
 use im_atree::checks::{check_consistency, check_inclusion, check_last};
 use im_atree::trees::Tree;
 use im_digest::{Hash32, Sha, Sum};
-use im_frontier::frontiers::Frontier;
 use im_model::growth::{newer_root, older_root};
 use im_model::paths::root_by_path;
 use im_model::trees::{leaf_digest, node_digest, plain_root, split};
 use im_mtree::digests::Digests;
 use im_mtree::faults::PathFault;
+use im_mtree::frontiers::Frontier;
 use im_mtree::paths::{check_path, path};
 use im_mtree::roots::root;
 use im_proof::faults::DualFault;
@@ -117,7 +117,7 @@ fn seven(alloc: Global) -> Result<Tree, AllocError> {
 
 fn roots_of_seven(tree: &Tree) -> bool {
     tree.size() == 7
-        && tree.leaves()[6] == digest(7)
+        && *tree.leaf(7) == digest(7)
         && tree.root_at(&Sum, 3) == digest(0x08)
         && tree.root_at(&Sum, 4) == digest(0x0d)
         && tree.root_at(&Sum, 7) == digest(0x22)

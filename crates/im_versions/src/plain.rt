@@ -4,37 +4,19 @@
 
 ghost use Rattle.std.specs.Prelude.{◌≡◌, ◌≤◌, ◌<◌, ◌++◌, ℕ, not, All, AllPairs, IfOk, OnOk, IsTrue, ◌⊎◌, ◌&&◌, IsNone, IfSome, nat_le, length, slice_index_or, if◌then◌else◌};
 ghost use Rattle.std.specs.List.{IsAmong};
-ghost use Rattle.im_versions.specs.Versions.{versions_in, all_versions, versions_of, last_version, is_live, is_written, number_of, last_number, begins_with, IsBelow, IsScan};
+ghost use Rattle.im_versions.specs.Versions.{all_versions, versions_of, last_version, is_live, is_written, number_of, last_number, begins_with, IsBelow, IsScan};
 ghost use Rattle.im_versions.specs.declared.versions.Version.{Version as TheVersion};
 ghost use Rattle.im_versions.specs.Admits.{holds, refusal_of, first_refusal, place_refusal};
 
-use crate::entries::{is_shown, version_of};
+use crate::entries::versions_in;
 use crate::refusals::PlaceError;
 use crate::versions::{Version, Versions};
 use im_draft::preconditions::Pre;
-use im_model::entries::Entry;
 use im_model::limits::MOST_TRANSACTIONS;
 use im_model::transactions::Transaction;
 use im_octet::octets::Octets;
 use std::alloc::{AllocError, Global};
 use std::cmp::Ordering;
-
-// Puts the versions that the entries of transaction `k` are behind the others.
-fn add_versions(
-    alloc: Global,
-    versions: &mut Vec<Version>,
-    k: u64,
-    entries: &[Entry],
-) -> Result<(), AllocError>
-    ensures { OnOk result (versions.new.items ≡ versions.old.items ++ versions_in k entries.now) }
-{
-    for entry in entries {
-        if is_shown(entry) {
-            versions.push(version_of(alloc, k, entry)?)?;
-        }
-    }
-    Ok(())
-}
 
 // The versions of a history, oldest first.
 fn all_versions(alloc: Global, history: &[Transaction]) -> Result<Vec<Version>, AllocError>
@@ -42,7 +24,8 @@ fn all_versions(alloc: Global, history: &[Transaction]) -> Result<Vec<Version>, 
 {
     let mut versions = Vec::new(alloc);
     for (i, tx) in history.iter().enumerate() {
-        add_versions(alloc, &mut versions, i as u64 + 1, tx.entries.as_slice())?;
+        let mut added = versions_in(alloc, i as u64 + 1, tx.entries.as_slice())?;
+        versions.append(&mut added)?;
     }
     Ok(versions)
 }

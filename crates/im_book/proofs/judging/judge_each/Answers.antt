@@ -5,7 +5,8 @@ use Rattle.std.proofs.lemmas.List.{map-id}
 use Rattle.im_draft.specs.declared.preconditions.Pre.{Pre}
 use Rattle.im_versions.specs.Admits.{first_refusal, refusal_of}
 use Rattle.im_versions.specs.declared.refusals.PlaceError.{PlaceError}
-use Rattle.im_book.proofs.JudgeLemmas.{held-more, if-err, refused-at}
+use Rattle.im_octet.proofs.Common.{if-err}
+use Rattle.im_book.proofs.JudgeLemmas.{held-more, refused-at}
 use Rattle.im_book.proofs.judging.judge_each.Goals as goal
 
 pub loop-pre-preserved : goal.loop-pre-preserved

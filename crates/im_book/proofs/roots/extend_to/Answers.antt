@@ -1,7 +1,7 @@
 use Rattle.std.proofs.Common.{◌≡◌, ◌-◌, ◌++◌, ℕ, List, take, drop, arith, ap, ◌∙◌, subst, sym}
 use Rattle.im_digest.specs.Digests.{Hash}
-use Rattle.im_frontier.specs.Kept.{IsFrontier}
-use Rattle.im_book.proofs.RootLemmas.{take-up}
+use Rattle.im_mtree.specs.Kept.{IsFrontier}
+use Rattle.im_octet.proofs.Common.{take-up}
 use Rattle.im_book.proofs.roots.extend_to.Goals as goal
 
 pub returns : goal.returns

@@ -1,7 +1,5 @@
-use Rattle.std.proofs.Common.{length, arith, ap, ◌∙◌}
-use Rattle.std.proofs.lemmas.List.{length-take-le}
+use Rattle.std.proofs.Common.{arith, ◌∙◌}
 use Rattle.std.proofs.lemmas.Result.{IfOk-weaker}
-use Rattle.im_dual.specs.Kept.{header_at}
 use Rattle.im_dual.proofs.KeptLemmas.{kept-id, kept-rises, kept-lags, kept-leaves, kept-dual, kept-passes}
 use Rattle.im_dual.proofs.build.build.Goals as goal
 
@@ -19,21 +17,19 @@ pub assemble-requires-clause-shrink : goal.assemble-requires-clause-shrink
 assemble-requires-clause-shrink g c =
     let r = c.requires in
     let rises = kept-rises (g.H.Hash32.digest c.args.hash.now) r.history.0 c.args.headers.now c.args.s c.args.t r.history.1 r.history.2 r.some r.order r.within in
-    let long = ap length c.leaves_of.ensures ∙ length-take-le (header_at c.args.headers.now c.args.t).bl_tx_id c.args.tree.now r.tree in
-    omega (arith, rises, long)
+    omega (arith, rises, c.size_at.ensures)
 
 pub assemble-requires-clause-lag : goal.assemble-requires-clause-lag
 assemble-requires-clause-lag g c =
     let r = c.requires in
     let lags = kept-lags (g.H.Hash32.digest c.args.hash.now) r.history.0 c.args.headers.now c.args.t r.history.1 r.history.2 (omega (arith, r.some, r.order)) r.within in
-    let long = ap length c.leaves_of.ensures ∙ length-take-le (header_at c.args.headers.now c.args.t).bl_tx_id c.args.tree.now r.tree in
-    omega (arith, lags, long)
+    omega (arith, lags, c.size_at.ensures)
 
 pub assemble-requires-clause-leaves : goal.assemble-requires-clause-leaves
 assemble-requires-clause-leaves g c =
     let r = c.requires in
-    kept-leaves (g.H.Hash32.digest c.args.hash.now) r.history.0 c.args.headers.now c.args.tree.now _ (header_at c.args.headers.now c.args.t).bl_tx_id
-    r.history.2 r.history.3 r.tree c.leaves_of.ensures
+    kept-leaves (g.H.Hash32.digest c.args.hash.now) r.history.0 c.args.headers.now c.args.tree.now c.size_at.result
+    r.history.2 r.history.3 (omega (arith, r.tree, c.size_at.ensures))
 
 pub returns-clause-value : goal.returns-clause-value
 returns-clause-value g c =

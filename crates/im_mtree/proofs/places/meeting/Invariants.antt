@@ -1,5 +1,5 @@
 use Rattle.std.proofs.Common.{◌≡◌, ◌≤◌, ◌+◌}
-use Rattle.im_mtree.specs.Ways.{sides}
+use Rattle.im_mtree.specs.Ways.{sides, IsPassedTo}
 use Rattle.im_mtree.proofs.places.meeting.Given as goal
 
 abbrev pub invariant-loop-place : goal.invariant-loop-place
@@ -7,6 +7,7 @@ invariant-loop-place l = record {
   within : l.place.index ≤ l.place.last;
   lower : l.place.last ≤ l.fn.place.last;
   same : sides (l.place.last + 1) l.place.index ≡ sides (l.fn.place.last + 1) l.fn.place.index;
+  passed : IsPassedTo l.fn.place l.place;
 }
 
 abbrev pub decreases-loop-place : goal.decreases-loop-place

@@ -1,5 +1,5 @@
 use Rattle.std.proofs.Common.{ℕ, List, sym, subst, take, arith}
-use Rattle.im_frontier.specs.Kept.{IsFrontier}
+use Rattle.im_mtree.specs.Kept.{IsFrontier}
 use Rattle.im_opening.proofs.TreeLemmas.{grown-alhs, grown-root}
 use Rattle.im_opening.proofs.records.grow.Goals as goal
 

@@ -3,7 +3,7 @@ use Rattle.im_disk.specs.Disk.{seen}
 use Rattle.im_format.specs.Records.{AreReferences, entries_octets, records_octets}
 use Rattle.im_format.specs.declared.records.Record.{Record}
 use Rattle.im_format.specs.declared.references.ValueRef.{ValueRef}
-use Rattle.im_frontier.specs.Kept.{IsFrontier}
+use Rattle.im_mtree.specs.Kept.{IsFrontier}
 use Rattle.im_model.specs.Headers.{alh, alh_string}
 use Rattle.im_model.specs.History.{IsTransaction, bl_root_of}
 use Rattle.im_mtree.specs.Checks.{first_fail}
@@ -38,8 +38,8 @@ returns-in_err-place-clause-first g c t is =
     let log = c.args.source.now.log.now in
     let shows = at-told (λ t. Shows (seen t) log c.args.source.now.lengths) (g.D.Disk.told c.args.disk.now) t c.requires.shows is in
     let there = c.in_ok-read.ensures.read t is in
-    let made = digest-made hash (seen t) (reached_of p) log c.in_ok-read.read.end c.alh-digest.result c.next_header-header.result c.in_ok-read.read.tx
-    shows.log_is there.end_is c.alh-digest.ensures c.next_header-header.ensures there.tx_is
+    let made = digest-made hash (seen t) (reached_of p) log c.in_ok-read.read.end c.alh-digest.result c.header_behind-header.result c.in_ok-read.read.tx
+    shows.log_is there.end_is c.alh-digest.ensures c.header_behind-header.ensures there.tx_is
     in
     let P : ℕ → Type 0 = λ n. first_fail (transaction_checks hash (seen t) (n + 1) p.bl p.place) ≡ Ok tt in
     judge-err _ _ (Damaged d) c.from_residual-in_err-place.ensures.1
@@ -54,8 +54,8 @@ returns-clause-first g c t is =
     let log = c.args.source.now.log.now in
     let shows = at-told (λ t. Shows (seen t) log c.args.source.now.lengths) (g.D.Disk.told c.args.disk.now) t c.requires.shows is in
     let there = c.in_ok-read.ensures.read t is in
-    let made = digest-made hash (seen t) (reached_of p) log c.in_ok-read.read.end c.alh-digest.result c.next_header-header.result c.in_ok-read.read.tx
-    shows.log_is there.end_is c.alh-digest.ensures c.next_header-header.ensures there.tx_is
+    let made = digest-made hash (seen t) (reached_of p) log c.in_ok-read.read.end c.alh-digest.result c.header_behind-header.result c.in_ok-read.read.tx
+    shows.log_is there.end_is c.alh-digest.ensures c.header_behind-header.ensures there.tx_is
     in
     let P : ℕ → Type 0 = λ n. first_fail (transaction_checks hash (seen t) (n + 1) p.bl p.place) ≡ Ok tt in
     record {
@@ -83,7 +83,7 @@ returns-clause-fits g c =
     let Y : List (List ℕ) → Type 0 = λ ds. IsConsistent hash (p.records.items ++ r ∷ []) ds read.tx.bl c.grow-bl_root.result tree in
     subst X (sym c.in_ok-push-2.ensures.items) (subst Y (sym c.in_ok-push.ensures.items)
     (consistent-next hash p.records.items p.alhs.items p.bl p.bl_root p.tree r c.grow-bl_root.result tree c.requires.fits c.requires.few is
-    c.in_ok-read.ensures.rises refer (c.alh-digest.ensures ∙ ap (alh hash) c.next_header-header.ensures) grown.0 grown.1))
+    c.in_ok-read.ensures.rises refer (c.alh-digest.ensures ∙ ap (alh hash) c.header_behind-header.ensures) grown.0 grown.1))
 
 pub grow-bl_root-requires : goal.grow-bl_root-requires
 grow-bl_root-requires g c =
@@ -110,7 +110,7 @@ returns-clause-whole g c =
     let hash = g.H.Hash32.digest c.args.hash.now in
     let p = c.args.progress.now in
     let read = c.in_ok-read.read in
-    let header = c.next_header-header.result in
+    let header = c.header_behind-header.result in
     let digest = c.alh-digest.result in
     let r : Record = record { tx = read.tx; refs = c.from_vec-refs.result; alh = digest } in
     let size : length digest ≡ 32 = ap length c.alh-digest.ensures ∙ g.met.H.Hash32.size c.args.hash.now (alh_string hash header) in
@@ -124,6 +124,6 @@ returns-clause-whole g c =
       headers_are =
           c.in_ok-push-3.ensures.items
           ∙ headers-next hash p.records.items p.alhs.items p.headers.items r header c.requires.fits.alhs_are c.requires.whole.headers_are
-          c.next_header-header.ensures
+          c.header_behind-header.ensures
           ∙ ap (λ (rs : List Record). headers_of hash (txs_of rs)) (sym c.in_ok-push-2.ensures.items);
     }

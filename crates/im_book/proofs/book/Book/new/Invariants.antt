@@ -1,5 +1,5 @@
 use Rattle.std.proofs.Common.{◌≡◌, take}
-use Rattle.im_frontier.specs.Kept.{IsFrontier}
+use Rattle.im_mtree.specs.Kept.{IsFrontier}
 use Rattle.im_book.specs.Booked.{last_bl, IsBook}
 use Rattle.im_book.proofs.book.Book.new.Given as goal
 

@@ -1,7 +1,7 @@
 use Rattle.std.proofs.Common.{◌≡◌, ◌≤◌, ◌∙◌, ap, sym, subst, arith, ℕ, List, length, take}
 use Rattle.std.proofs.lemmas.List.{length-take-le}
 use Rattle.im_digest.specs.Digests.{Hash}
-use Rattle.im_frontier.specs.Kept.{IsFrontier}
+use Rattle.im_mtree.specs.Kept.{IsFrontier}
 use Rattle.im_model.specs.declared.transactions.Transaction.{Transaction}
 use Rattle.im_book.specs.Booked.{last_bl}
 use Rattle.im_book.proofs.BookLemmas.{alhs-counted, last-bl-behind}

@@ -4,7 +4,7 @@ use Rattle.std.proofs.lemmas.Iterator.Consumers.{YieldsList-end}
 use Rattle.std.proofs.lemmas.List.{map-id}
 use Rattle.im_digest.specs.Digests.{Hash}
 use Rattle.im_book.specs.Booked.{Booked}
-use Rattle.im_frontier.specs.Kept.{IsFrontier}
+use Rattle.im_mtree.specs.Kept.{IsFrontier}
 use Rattle.im_format.specs.declared.records.Record.{Record}
 use Rattle.im_model.specs.History.{bl_root_of}
 use Rattle.im_ledger.specs.Ledgers.{Held}

@@ -1,7 +1,7 @@
 use Rattle.std.proofs.Common.{◌≡◌, ◌≤◌, ◌+◌, ℕ, List, length, min, take, refl, ap, subst, ◌∙◌, arith}
 use Rattle.std.proofs.lemmas.List.{length-take-le}
 use Rattle.im_digest.specs.Digests.{Hash}
-use Rattle.im_frontier.specs.Kept.{IsFrontier}
+use Rattle.im_mtree.specs.Kept.{IsFrontier}
 use Rattle.im_model.proofs.HistoryLemmas.{length-alhs_of}
 use Rattle.im_ledger.specs.Ledgers.{Held, IsLedger}
 use Rattle.im_ledger.proofs.LedgerLemmas.{held-same, ledger-raised, raised_to}

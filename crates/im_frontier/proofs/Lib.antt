@@ -1,3 +1,0 @@
-pub mod OnesLemmas
-pub mod GrowthLemmas
-pub mod RootLemmas
