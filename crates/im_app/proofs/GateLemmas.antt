@@ -13,7 +13,7 @@ use Rattle.im_journal.specs.Pieces.{end_of}
 use Rattle.im_journal.proofs.Mids.{first_at}
 use Rattle.im_journal.proofs.Turns.{stands, stands_batches}
 use Rattle.im_ledger.specs.Histories.{IsKept, KeptHistory}
-use Rattle.im_ledger.proofs.OpenLemmas.{same-count}
+use Rattle.im_opening.proofs.OpensLemmas.{same-count}
 use Rattle.im_opening.specs.Cut.{IsOpenedBy, repaired}
 
 module _ {D : Type 0} (told : D → Option Told) (hash : Hash) (k : KeptHistory D) (kept : IsKept told hash k) where

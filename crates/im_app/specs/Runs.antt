@@ -14,10 +14,9 @@ use Rattle.im_report.specs.Report.{Report, floor_after}
 use Rattle.im_script.specs.Script.{IsScript}
 use Rattle.im_script.specs.declared.commands.Line.{Line}
 use Rattle.im_accept.specs.Taken.{line_text, AreTaken}
-use Rattle.im_ledger.specs.Openings.{WasBegun}
 use Rattle.im_ledger.specs.declared.errors.CommitError.{CommitError}
 use Rattle.im_ledger.specs.declared.errors.CommitError.TheVariants as commit
-use Rattle.im_opening.specs.Cut.{IsOpenedBy, WasOpened}
+use Rattle.im_opening.specs.Cut.{IsOpenedBy, WasBegun, WasOpened}
 use Rattle.im_opening.specs.declared.errors.OpenError.{OpenError}
 use Rattle.im_opening.specs.declared.errors.OpenError.TheVariants as opened
 use Rattle.im_session.specs.Made.{MakesCalls}

@@ -13,7 +13,7 @@ ghost use Rattle.im_script.specs.Script.{StopsAfter};
 ghost use Rattle.im_app.specs.Fates.{HasFate};
 ghost use Rattle.im_app.specs.Runs.{GivesScript, IsGiven, KeepsFound, LeavesFound, WritesFront, WritesPart, WritesReport};
 ghost use Rattle.im_app.specs.Statuses.{EndsGiven, EndsReading, EndsRun, EndsWriting, status_behind, status_by, status_for};
-ghost use Rattle.im_ledger.specs.Openings.{SyncsAtMost};
+ghost use Rattle.im_opening.specs.Cut.{SyncsAtMost};
 ghost use Rattle.im_ledger.specs.declared.errors.CommitError.{CommitError as Why};
 ghost use Rattle.im_script.specs.declared.commands.Line.{Line as TheLine};
 

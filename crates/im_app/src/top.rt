@@ -19,7 +19,7 @@ ghost use Rattle.im_words.specs.Form.{IsForm, IsVerifyForm};
 ghost use Rattle.im_words.specs.Meaning.{AsksRun, AsksVerify};
 ghost use Rattle.im_words.specs.declared.Link.{Link};
 ghost use Rattle.im_app.specs.Fates.{HasFate, HasVerdict};
-ghost use Rattle.im_ledger.specs.Openings.{SyncsAtMost};
+ghost use Rattle.im_opening.specs.Cut.{SyncsAtMost};
 ghost use Rattle.im_ledger.specs.declared.errors.CommitError.{CommitError as Why};
 ghost use Rattle.im_script.specs.declared.commands.Line.{Line};
 ghost use Rattle.im_app.specs.Runs.{GivesScript, IsGiven, KeepsFound, LeavesFound, WritesFront, WritesPart, WritesReport};

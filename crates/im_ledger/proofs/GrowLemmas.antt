@@ -1,5 +1,5 @@
 -- A history that a disk keeps, with one transaction more.
-use Rattle.std.proofs.Common.{◌≡◌, ◌<◌, ◌≤◌, ◌+◌, ◌⊎◌, ℕ, List, [], ◌∷◌, ◌++◌, length, take, drop, get_or, refl, arith, ap, subst, ◌∙◌, sym, inl, inr, length-append}
+use Rattle.std.proofs.Common.{◌≡◌, ◌≤◌, ◌+◌, ℕ, List, [], ◌∷◌, ◌++◌, length, take, get_or, refl, arith, ap, subst, ◌∙◌, sym, inl, inr, length-append}
 use Rattle.std.proofs.Math.Seq.{get_or-append_seam, take-length}
 use Rattle.std.proofs.lemmas.List.{drop_at, take_at, take-append-le}
 use Rattle.std.specs.Prelude.{Option, IfSome}
@@ -20,12 +20,10 @@ use Rattle.im_journal.proofs.Mids.{rest_stands, safe_stands}
 use Rattle.im_journal.proofs.Prefixes.{alh_front}
 use Rattle.im_model.specs.Headers.{alh}
 use Rattle.im_model.specs.History.{alh_of, alhs_of, next_header, IsHistory}
-use Rattle.im_model.specs.declared.entries.Entry.{Entry}
 use Rattle.im_model.specs.declared.transactions.Transaction.{Transaction}
 use Rattle.im_model.proofs.HistoryLemmas.{length-alhs_of}
 use Rattle.im_model.proofs.HeaderLemmas.{alhs-next}
 use Rattle.im_ledger.specs.Histories.{IsKept, KeptHistory, StandsWithin}
-use Rattle.im_ledger.specs.Ledgers.{Held, IsLedger}
 use Rattle.im_ledger.proofs.ReadLemmas.{alh-at}
 
 -- what follows doesn't change an Alh

@@ -1,5 +1,5 @@
 -- Where the values of the next transaction are put.
-use Rattle.std.proofs.Common.{◌≡◌, ◌<◌, ◌+◌, ℕ, zero, suc, List, [], ◌∷◌, length, get_or, refl, arith, ap, subst, sym, ◌∙◌}
+use Rattle.std.proofs.Common.{◌≡◌, ◌<◌, ◌+◌, ℕ, zero, suc, List, [], ◌∷◌, get_or, refl, arith, ap, subst, sym, ◌∙◌}
 use Rattle.im_digest.specs.Digests.{Hash}
 use Rattle.im_format.specs.Batches.{joined}
 use Rattle.im_format.specs.Places.{AreAppended, log_end, refs_of}

@@ -1,15 +1,15 @@
--- The ledger of records that were read.
-use Rattle.std.proofs.Common.{◌≡◌, ◌<◌, ◌≤◌, ◌+◌, ◌-◌, ℕ, List, [], ◌∷◌, length, map, drop, get_or, refl, arith, ap, subst, ◌∙◌, sym, ne_eqb, if◌then◌else◌, All}
+-- The ledger of a history that was found.
+use Rattle.std.proofs.Common.{◌≡◌, ◌≤◌, ◌+◌, ◌-◌, ℕ, List, [], length, get_or, refl, arith, ap, subst, ◌∙◌, sym, ne_eqb, if◌then◌else◌, All}
 use Rattle.std.proofs.Math.Seq.{take-length}
-use Rattle.std.proofs.lemmas.List.{drop_all, drop_more, length-map}
 use Rattle.im_digest.specs.Digests.{Hash}
-use Rattle.im_format.specs.Records.{AreRecords}
-use Rattle.im_format.specs.declared.records.Record.{Record}
 use Rattle.im_mtree.specs.Kept.{IsFrontier, Kept}
-use Rattle.im_model.specs.History.{alh_of, alhs_of, bl_root_of, first_alh, Follow, IsHistory}
+use Rattle.im_model.specs.History.{alh_of, alhs_of, bl_root_of, first_alh, IsHistory}
 use Rattle.im_model.specs.declared.transactions.Transaction.{Transaction}
 use Rattle.im_model.proofs.HistoryLemmas.{Follow-at, length-alhs_of}
 use Rattle.im_proof.specs.Built.{headers_of}
+use Rattle.im_opening.specs.Opening.{IsOneHistory}
+use Rattle.im_opening.specs.Reach.{txs_of}
+use Rattle.im_opening.specs.declared.found.FoundHistory.{FoundHistory}
 use Rattle.im_ledger.specs.Ledgers.{Held, IsLedger}
 use Rattle.im_ledger.proofs.LedgerLemmas.{held-same}
 
@@ -19,16 +19,6 @@ alh-at hash history n =
     let place : n + 1 - 1 ≡ n = omega arith in
     ap (λ b. if b then first_alh hash else get_or (alhs_of hash history) (n + 1 - 1) []) (ne_eqb (n + 1) 0 (λ e. omega arith))
     ∙ ap (λ (i : ℕ). get_or (alhs_of hash history) i []) place
-
--- the Alh of records up to the last one of a history
-alhs-kept : (hash : Hash) (history : List Transaction) (n : ℕ) (rs : List Record) → AreRecords hash history (n + 1) rs → n + length rs ≡ length (alhs_of hash history)
-    → map (λ r. r.alh) rs ≡ drop n (alhs_of hash history)
-alhs-kept hash history n [] are all = sym (drop_all n (alhs_of hash history) (omega (arith, all)))
-alhs-kept hash history n (r ∷ rs) are all =
-    let within : n < length (alhs_of hash history) = omega (arith, all) in
-    ap (λ (x : List ℕ). x ∷ map (λ (y : Record). y.alh) rs) (are.0.alh ∙ alh-at hash history n)
-    ∙ ap (λ (l : List (List ℕ)). get_or (alhs_of hash history) n [] ∷ l) (alhs-kept hash history (n + 1) rs are.1 (omega (arith, all)))
-    ∙ sym (drop_more (alhs_of hash history) n [] within)
 
 -- no transaction of a history has a larger tree than the whole
 linked-all : (txs : List Transaction) → IsHistory txs → All (λ tx. tx.bl ≤ length txs) txs
@@ -53,15 +43,13 @@ full-is hash txs frontier top h kept told =
       root = told;
     }
 
--- the lists of these records and headers are a ledger
-pub ledger-read : (hash : Hash) (records : List Record) (held : Held) → IsHistory (map (λ r. r.tx) records) → AreRecords hash (map (λ r. r.tx) records) 1 records
-    → held.transactions ≡ map (λ r. r.tx) records → held.headers ≡ headers_of hash (map (λ r. r.tx) records) → held.alhs ≡ map (λ r. r.alh) records → held.tree ≡ map (λ r. r.alh) records
-    → IsFrontier hash held.alhs held.frontier → held.root ≡ bl_root_of hash held.alhs (length held.alhs) → IsLedger hash held
-ledger-read hash records held h are transactions headers alhs tree frontier top =
-    let txs : List Transaction = map (λ (r : Record). r.tx) records in
-    let kept : map (λ (r : Record). r.alh) records ≡ alhs_of hash txs =
-    alhs-kept hash txs 0 records are (omega (arith, length-alhs_of hash txs, length-map records (λ (r : Record). r.tx))) in
-    let own : IsFrontier hash (alhs_of hash txs) held.frontier = subst (λ (l : List (List ℕ)). IsFrontier hash l held.frontier) (alhs ∙ kept) frontier in
-    let told : held.root ≡ bl_root_of hash (alhs_of hash txs) (length (alhs_of hash txs)) = top ∙ ap (λ (l : List (List ℕ)). bl_root_of hash l (length l)) (alhs ∙ kept) in
-    held-same (IsLedger hash) held (full hash txs held.frontier held.root) transactions headers (alhs ∙ kept) (tree ∙ kept) refl refl
-    (full-is hash txs held.frontier held.root h own told)
+-- the lists of a history that was found are a ledger, whose tree has each Alh
+pub ledger-found : (hash : Hash) (found : FoundHistory) (held : Held) → IsOneHistory hash found → held.transactions ≡ txs_of found.records.items
+    → held.headers ≡ found.headers.items → held.alhs ≡ found.alhs.items → held.tree ≡ found.alhs.items
+    → IsFrontier hash found.alhs.items held.frontier → held.root ≡ bl_root_of hash found.alhs.items (length found.alhs.items) → IsLedger hash held
+ledger-found hash found held one transactions headers alhs tree frontier top =
+    let txs : List Transaction = txs_of found.records.items in
+    let own : IsFrontier hash (alhs_of hash txs) held.frontier = subst (λ (l : List (List ℕ)). IsFrontier hash l held.frontier) one.alhs frontier in
+    let told : held.root ≡ bl_root_of hash (alhs_of hash txs) (length (alhs_of hash txs)) = top ∙ ap (λ (l : List (List ℕ)). bl_root_of hash l (length l)) one.alhs in
+    held-same (IsLedger hash) held (full hash txs held.frontier held.root) transactions (headers ∙ one.headers) (alhs ∙ one.alhs) (tree ∙ one.alhs) refl refl
+    (full-is hash txs held.frontier held.root one.history own told)

@@ -2,4 +2,3 @@ pub mod Causes
 pub mod Commits
 pub mod Histories
 pub mod Ledgers
-pub mod Openings

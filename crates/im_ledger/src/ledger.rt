@@ -1,4 +1,5 @@
-ghost use Rattle.std.specs.Prelude.{◌≡◌, ◌≤◌, length, take, OnOk};
+ghost use Rattle.std.specs.Prelude.{◌≡◌, ◌≤◌, length, take, IfOk, OnOk};
+ghost use Rattle.im_opening.specs.Reach.{txs_of};
 
 use im_atree::trees::Tree;
 use im_book::book::Book;
@@ -9,6 +10,7 @@ use im_format::records::Record;
 use im_model::headers::Header;
 use im_model::transactions::Transaction;
 use im_mtree::frontiers::Frontier;
+use im_opening::found::FoundHistory;
 use im_versions::refusals::PlaceError;
 use std::alloc::{AllocError, Global};
 use std::marker::Model;
@@ -25,7 +27,7 @@ use std::marker::Model;
 ///
 /// `IsLedger`, for one hash: the lists are those of one history, the tree has the first Alh, at least as many as
 /// the tree of any transaction, and the subtrees and the root are those of this tree. `new` begins with it, and so
-/// does `from_records` over the records and headers of a history; `push` and `link` keep it where they succeed.
+/// does `from_found` over a history that was found; `push` and `link` keep it where they succeed.
 #[derive(Drop)]
 pub struct Ledger {
     book: Book,
@@ -45,10 +47,10 @@ impl Model for Ledger {
 impl Ledger {
     ghost use Rattle.std.specs.Prelude.{◌≡◌, ◌+◌, ◌<◌, ◌≤◌, [], ◌∷◌, ◌++◌, length, map, min, IfErr, IfOk, None, OnErr, OnOk, Some};
     ghost use Rattle.im_digest.specs.Digests.{Hash};
-    ghost use Rattle.im_format.specs.Records.{AreRecords};
     ghost use Rattle.im_model.specs.Headers.{alh};
-    ghost use Rattle.im_model.specs.History.{header_of, next_header, transaction_of, IsHistory, IsTransaction};
-    ghost use Rattle.im_proof.specs.Built.{headers_of};
+    ghost use Rattle.im_model.specs.History.{header_of, next_header, transaction_of, IsTransaction};
+    ghost use Rattle.im_opening.specs.Opening.{IsOneHistory};
+    ghost use Rattle.im_opening.specs.Reach.{txs_of};
     ghost use Rattle.im_versions.specs.Admits.{place_refusal};
     ghost use Rattle.im_ledger.specs.Ledgers.{IsLedger};
 
@@ -66,30 +68,29 @@ impl Ledger {
         }
     }
 
-    /// The ledger of a history whose records and headers were read. Its tree has every transaction. It hashes
-    /// the tree, once, and nothing else. Its only error is want of memory.
-    pub fn from_records<H: Hash32>(
+    /// The ledger of a history that was found. Its tree has every transaction: of it the leaves are hashed that the
+    /// tree of the last transaction lacks, and the nodes above them. Its only error is want of memory.
+    pub fn from_found<H: Hash32>(
         alloc: Global,
         hash: &H,
-        records: Vec<Record>,
-        headers: Vec<Header>,
+        found: FoundHistory,
     ) -> Result<Self, AllocError>
-        ensures ledger { IsHistory (map (λ r. r.tx) records.items) → AreRecords (H.digest hash.now) (map (λ r. r.tx) records.items) 1 records.items
-            → headers.items ≡ headers_of (H.digest hash.now) (map (λ r. r.tx) records.items) → IfOk result (IsLedger (H.digest hash.now)) }
-        ensures transactions { IfOk result (λ ledger. ledger.transactions ≡ map (λ r. r.tx) records.items) }
+        requires found { IsOneHistory (H.digest hash.now) found }
+        ensures ledger { IfOk result (IsLedger (H.digest hash.now)) }
+        ensures transactions { IfOk result (λ ledger. ledger.transactions ≡ txs_of found.records.items) }
         ensures tree { IfOk result (λ ledger. ledger.tree ≡ ledger.alhs) }
     {
-        let mut transactions = Vec::with_capacity(alloc, records.len())?;
-        let mut alhs = Vec::with_capacity(alloc, records.len())?;
+        let FoundHistory {
+            records,
+            headers,
+            alhs,
+            tree: mut frontier,
+            root: _,
+        } = found;
+        let transactions = transactions_of(alloc, records)?;
         let mut tree = Tree::new(alloc);
-        for record in records {
-            let Record { tx, refs: _, alh } = record;
-            tree.append(&alh)?;
-            alhs.push(alh)?;
-            transactions.push(tx)?;
-        }
-        let mut frontier = Frontier::new();
-        frontier.extend(hash, alhs.as_slice());
+        raise(&mut tree, alhs.as_slice(), alhs.len())?;
+        extend_to(hash, &mut frontier, alhs.as_slice(), alhs.len());
         let root = root_of(hash, &frontier);
         Ok(Ledger {
             book: Book::of(transactions, headers, alhs),
@@ -220,4 +221,20 @@ fn raise(tree: &mut Tree, alhs: &[D32], end: usize) -> Result<(), AllocError>
         tree.append(alh)?;
     }
     Ok(())
+}
+
+// The transactions of records.
+fn transactions_of(alloc: Global, records: Vec<Record>) -> Result<Vec<Transaction>, AllocError>
+    ensures { IfOk result (λ transactions. transactions.items ≡ txs_of records.items) }
+{
+    let mut transactions = Vec::with_capacity(alloc, records.len())?;
+    for record in records {
+        let Record {
+            tx,
+            refs: _,
+            alh: _,
+        } = record;
+        transactions.push(tx)?;
+    }
+    Ok(transactions)
 }

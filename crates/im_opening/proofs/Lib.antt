@@ -14,3 +14,5 @@ pub mod TreeLemmas
 pub mod PlaceLemmas
 pub mod BatchesSame
 pub mod KeptLemmas
+pub mod FoundLemmas
+pub mod OpensLemmas

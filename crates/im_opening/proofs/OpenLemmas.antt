@@ -1,6 +1,6 @@
 -- What opening leaves at every moment.
 use Rattle.std.proofs.Common.{◌≡◌, ℕ, List, [], ◌∷◌, refl, sym, ◌∙◌, ap, subst, inl, inr, Option, Some, Result, Ok, Err}
-use Rattle.std.specs.Prelude.{IfErr, IsErrAnd, IsErrOf}
+use Rattle.std.specs.Prelude.{IfErr, IsErrOf}
 use Rattle.std.specs.Option.{option_map}
 use Rattle.im_digest.specs.Digests.{Hash}
 use Rattle.im_disk.specs.Disk.{Files, Told, Images, after, seen}
@@ -59,11 +59,6 @@ pub failed-sync : (gate : ℕ) (t : Told) (o n : Option Told) (r : Result (Unit 
 failed-sync gate t o n (Ok x) at failed memory = tt
 failed-sync gate t o n (Err Failed) at failed memory = inr (failed refl ∙ ap (λ (x : Option Told). option_map (after Missed) x) at)
 failed-sync gate t o n (Err Memory) at failed memory = inr (memory refl ∙ at)
-
--- an error that is passed on
-pub if-err : {T E : Type 0} (P : E → Type 0) (r : Result T E) (x : E) → IsErrAnd r (λ e. e ≡ x) → P x → IfErr r P
-if-err P (Ok y) x h p = absurd h
-if-err P (Err e) x h p = subst P (sym h) p
 
 -- where nothing was written behind the sync
 pub rest-leaves : (hash : Hash) (history : List Transaction) (t : Told) (n : Option Told) → Stands hash (seen t) history → n ≡ Some (after Synced t)

@@ -1,17 +1,15 @@
 -- The tree of a history's Alh, while it grows.
-use Rattle.std.proofs.Common.{◌≡◌, ◌<◌, ◌≤◌, ◌+◌, ◌-◌, ℕ, List, ◌++◌, length, take, drop, sym, ◌∙◌, ap, arith, ne_eqb, if◌then◌else◌}
-use Rattle.std.proofs.Math.Seq.{take-add}
+use Rattle.std.proofs.Common.{◌≡◌, ◌<◌, ◌≤◌, ℕ, List, length, take, sym, ◌∙◌, ap, subst, arith, ne_eqb, if◌then◌else◌}
 use Rattle.std.proofs.lemmas.List.{length-take-le}
 use Rattle.im_digest.specs.Digests.{Hash}
 use Rattle.im_mtree.specs.Kept.{Kept, IsFrontier}
 use Rattle.im_model.specs.History.{bl_root_of, no_digest}
 use Rattle.im_model.specs.Trees.{root}
-
--- the first Alh, and those behind them up to a greater number
-pub grown-alhs : (alhs : List (List ℕ)) (from to : ℕ) → from ≤ to → take from alhs ++ take (to - from) (drop from alhs) ≡ take to alhs
-grown-alhs alhs from to le =
-    let same : from + (to - from) ≡ to = omega arith in
-    sym (take-add from (to - from) alhs) ∙ ap (λ n. take n alhs) same
+use Rattle.im_proof.specs.Built.{headers_of}
+use Rattle.im_opening.specs.Opening.{IsOneHistory}
+use Rattle.im_opening.specs.Reach.{IsConsistent, txs_of}
+use Rattle.im_opening.specs.declared.found.FoundHistory.{FoundHistory}
+use Rattle.im_opening.proofs.RecordGrows.{consistent-records}
 
 -- the root of a tree that isn't empty
 pub grown-root : (hash : Hash) (alhs : List (List ℕ)) (bl : ℕ) (made : List ℕ) → 0 < bl → made ≡ root hash (take bl alhs) → made ≡ bl_root_of hash alhs bl
@@ -21,3 +19,21 @@ grown-root hash alhs bl made some is =
 -- the size of the tree is the number of its leaves
 pub tree-size : (hash : Hash) (alhs : List (List ℕ)) (bl : ℕ) (tree : Kept) → bl ≤ length alhs → IsFrontier hash (take bl alhs) tree → bl ≡ tree.size
 tree-size hash alhs bl tree le whole = sym (whole.counted ∙ length-take-le bl alhs le)
+
+-- what was read so far is one history's
+pub consistent-found : (hash : Hash) (found : FoundHistory) (bl : ℕ) → IsConsistent hash found.records.items found.alhs.items bl found.root found.tree
+    → found.headers.items ≡ headers_of hash (txs_of found.records.items) → IsOneHistory hash found
+consistent-found hash found bl h headed =
+    let alhs = found.alhs.items in
+    let both = consistent-records hash found.records.items alhs bl found.root found.tree h in
+    let size : bl ≡ found.tree.size = tree-size hash alhs bl found.tree h.linked h.tree_is in
+    record {
+      history = both.0;
+      records = both.1;
+      headers = headed;
+      alhs = h.alhs_are;
+      last = sym (h.last ∙ size);
+      linked = subst (λ (n : ℕ). n ≤ length alhs) size h.linked;
+      tree = subst (λ (n : ℕ). IsFrontier hash (take n alhs) found.tree) size h.tree_is;
+      root = h.root_is ∙ ap (λ (n : ℕ). bl_root_of hash alhs n) size;
+    }

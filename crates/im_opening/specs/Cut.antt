@@ -101,3 +101,16 @@ abbrev pub WasLeft : Hash → OpenError → Told → Option Told → Type 0
 WasLeft hash opened.DiskFault t now = (now ≡ Some (after Missed t)) ⊎ ((now ≡ Some (after Synced t)) ⊎ StopsAtGate hash Failed t now)
 WasLeft hash opened.Memory t now = (now ≡ Some t) ⊎ ((now ≡ Some (after Synced t)) ⊎ StopsAtGate hash Memory t now)
 WasLeft hash (opened.Damaged damage) t now = now ≡ Some (after Synced t)
+
+-- one sync at most, and nothing else
+abbrev pub SyncsAtMost : Told → Option Told → Type 0
+SyncsAtMost t now = (now ≡ Some t) ⊎ ((now ≡ Some (after Missed t)) ⊎ (now ≡ Some (after Synced t)))
+
+-- What opening has done, by its error, to a disk whose files stand for a history, where this is the gate behind the batches
+-- that count. Where the disk failed: a sync that failed; one sync alone; or a sync and a part of the closing of the gate,
+-- whose last call failed. Where memory ran out: nothing; one sync; a sync and a part of the closing of the gate, none of
+-- whose calls failed; or all that opening does. Files that are damaged are only synced.
+abbrev pub WasBegun : OpenError → ℕ → Told → Option Told → Type 0
+WasBegun opened.DiskFault gate t now = (now ≡ Some (after Missed t)) ⊎ ((now ≡ Some (after Synced t)) ⊎ IsHalfOpened Failed gate t now)
+WasBegun opened.Memory gate t now = (now ≡ Some t) ⊎ ((now ≡ Some (after Synced t)) ⊎ (IsHalfOpened Memory gate t now ⊎ IsOpenedBy gate t now))
+WasBegun (opened.Damaged damage) gate t now = now ≡ Some (after Synced t)

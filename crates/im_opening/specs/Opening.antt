@@ -1,16 +1,20 @@
 -- What opening gives.
-use Rattle.std.specs.Prelude.{◌≡◌, ◌≤◌, ℕ, List, [], ◌∷◌, length, slice_index_or, All}
+use Rattle.std.specs.Prelude.{◌≡◌, ◌≤◌, ℕ, List, [], ◌∷◌, length, take, slice_index_or, All, Option, Some}
 use Rattle.im_clog.specs.Marks.{Lacks}
 use Rattle.im_digest.specs.Digests.{Hash}
-use Rattle.im_disk.specs.Disk.{Files}
+use Rattle.im_disk.specs.Disk.{Files, Told, seen}
 use Rattle.im_format.specs.Batches.{gate_of, joined}
 use Rattle.im_format.specs.Places.{log_end, refs_of}
 use Rattle.im_format.specs.Reading.{history_in}
-use Rattle.im_format.specs.Records.{records_octets}
+use Rattle.im_format.specs.Records.{AreRecords, records_octets}
 use Rattle.im_format.specs.Standing.{HasBatches, Stands}
 use Rattle.im_format.specs.declared.records.Record.{Record}
+use Rattle.im_mtree.specs.Kept.{IsFrontier}
+use Rattle.im_model.specs.History.{IsHistory, alhs_of, bl_root_of}
+use Rattle.im_proof.specs.Built.{headers_of}
 use Rattle.im_opening.specs.Parts.{batches_in, place_in}
-use Rattle.im_opening.specs.Reach.{txs_of}
+use Rattle.im_opening.specs.Reach.{last_bl, txs_of}
+use Rattle.im_opening.specs.declared.found.FoundHistory.{FoundHistory}
 use Rattle.im_opening.specs.declared.reading.Opened.{Opened}
 
 -- these are the records of the batches that count, the number of these, and where their records end
@@ -38,20 +42,42 @@ ends_behind records batches =
 pub record HasEnds (opened : Opened) : Type 0 where
   pub few : opened.batches ≤ 1048576
   pub gate : slice_index_or opened.ends 1 0 ≡ gate_of opened.batches
-  pub first : slice_index_or opened.ends 2 0 ≡ log_end 0 (refs_of opened.records.items)
-  pub second : slice_index_or opened.ends 3 0 ≡ log_end 1 (refs_of opened.records.items)
-  pub third : slice_index_or opened.ends 4 0 ≡ log_end 2 (refs_of opened.records.items)
-  pub fourth : slice_index_or opened.ends 5 0 ≡ log_end 3 (refs_of opened.records.items)
+  pub first : slice_index_or opened.ends 2 0 ≡ log_end 0 (refs_of opened.found.records.items)
+  pub second : slice_index_or opened.ends 3 0 ≡ log_end 1 (refs_of opened.found.records.items)
+  pub third : slice_index_or opened.ends 4 0 ≡ log_end 2 (refs_of opened.found.records.items)
+  pub fourth : slice_index_or opened.ends 5 0 ≡ log_end 3 (refs_of opened.found.records.items)
+
+-- what was found is one history's: its records, the header and the Alh of each transaction, and the tree that the last
+-- of them was placed over, whose leaves are the first Alh: its size, its whole subtrees and its root
+pub record IsOneHistory (hash : Hash) (found : FoundHistory) : Type 0 where
+  pub history : IsHistory (txs_of found.records.items)
+  pub records : AreRecords hash (txs_of found.records.items) 1 found.records.items
+  pub headers : found.headers.items ≡ headers_of hash (txs_of found.records.items)
+  pub alhs : found.alhs.items ≡ alhs_of hash (txs_of found.records.items)
+  pub last : found.tree.size ≡ last_bl 0 (txs_of found.records.items)
+  pub linked : found.tree.size ≤ length found.alhs.items
+  pub tree : IsFrontier hash (take found.tree.size found.alhs.items) found.tree
+  pub root : found.root ≡ bl_root_of hash found.alhs.items found.tree.size
 
 -- what was read is what the image has, which stands for its history
 pub record IsRead (hash : Hash) (image : Files) (opened : Opened) : Type 0 where
-  pub batches : AreBatches image opened.records.items opened.batches (slice_index_or opened.ends 0 0)
+  pub batches : AreBatches image opened.found.records.items opened.batches (slice_index_or opened.ends 0 0)
   pub within : gate_of opened.batches ≤ length (image 1)
   pub behind_is : Lacks (image 1) (gate_of opened.batches) opened.behind
-  pub transactions_are : txs_of opened.records.items ≡ history_in image
+  pub transactions_are : txs_of opened.found.records.items ≡ history_in image
   pub stands : Stands hash image (history_in image)
 
 -- the image has all that stands of the batches that count, and no file of it is shorter than its end
 pub record IsThere (image : Files) (opened : Opened) : Type 0 where
   pub batches : HasBatches image (batches_in image)
   pub long : (file : ℕ) → slice_index_or opened.ends file 0 ≤ length (image file)
+
+-- what reading the files of a disk gives, which tells this of itself or nothing: one history, whose records can be cut
+-- into the batches that count, with the ends of the files behind them; and it is what the disk's image has
+pub record IsGivenBy (hash : Hash) (told : Option Told) (opened : Opened) : Type 0 where
+  pub found : IsOneHistory hash opened.found
+  pub ends : HasEnds opened
+  pub grouped : AreGrouped opened.found.records.items opened.batches
+  pub placed : opened.ends ≡ ends_behind opened.found.records.items opened.batches
+  pub read : (t : Told) → told ≡ Some t → IsRead hash (seen t) opened
+  pub there : (t : Told) → told ≡ Some t → IsThere (seen t) opened

@@ -1,15 +1,16 @@
-//! Opening: the files of a store read and checked, with the first damage in reading order, and the repair of
-//! the gate behind the batches that count.
+//! Opening: the files of a store read and checked, with the first damage in reading order, the repair of the
+//! gate behind the batches that count, and the journal at rest with the history that was found.
 #![tactic(auto)]
 
 mod batches;
 mod ends;
 mod entries;
 pub mod errors;
+pub mod found;
 pub mod opening;
 pub mod reading;
 mod records;
-pub mod repair;
+mod repair;
 mod source;
 mod transactions;
 mod values;

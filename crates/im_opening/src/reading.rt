@@ -3,37 +3,31 @@ ghost use Rattle.im_clog.specs.Marks.{Lacks};
 ghost use Rattle.im_disk.specs.Disk.{Told, seen};
 ghost use Rattle.im_format.specs.Damages.{image_checks};
 ghost use Rattle.im_opening.specs.Answers.{HasOpenCause, Judges};
-ghost use Rattle.im_opening.specs.Opening.{AreBatches, AreGrouped, HasEnds, IsRead, IsThere, ends_behind};
+ghost use Rattle.im_opening.specs.Opening.{AreBatches, AreGrouped, IsGivenBy};
 ghost use Rattle.im_disk.specs.Causes.{HasCause};
-ghost use Rattle.im_format.specs.Records.{AreRecords};
-ghost use Rattle.im_model.specs.History.{IsHistory};
 ghost use Rattle.im_record.specs.Slots.{HaveLengths};
 ghost use Rattle.im_opening.specs.Parts.{Shows};
-ghost use Rattle.im_opening.specs.Reach.{Fits, IsWhole, txs_of};
-ghost use Rattle.im_proof.specs.Built.{headers_of};
+ghost use Rattle.im_opening.specs.Reach.{Fits, IsWhole};
 
 use crate::batches::read_batch;
 use crate::ends::end_of;
 use crate::errors::OpenError;
+use crate::found::FoundHistory;
 use crate::records::Progress;
 use crate::source::Source;
 use im_alog::reading::read_all;
 use im_clog::marks::{Mark, Uncounted, batch_at};
-use im_digest::{D32, Hash32};
+use im_digest::Hash32;
 use im_disk::disk::{Disk, DiskError};
 use im_format::files::{BATCH_OCTETS, COMMIT_LOG, FIRST_VALUE_LOG, TRANSACTION_LOG};
-use im_format::records::Record;
-use im_model::headers::Header;
 use im_mtree::frontiers::Frontier;
 use std::alloc::Global;
 
-/// The files as they were read: the records of the batches that count, in order, and where these end.
+/// The files as they were read: the history of the batches that count, and where these end.
 #[derive(Drop)]
 pub struct Opened {
-    /// The records of the batches that count, in order.
-    pub records: Vec<Record>,
-    /// The header of each record's transaction.
-    pub headers: Vec<Header>,
+    /// The history of the batches that count.
+    pub found: FoundHistory,
     /// The number of batches that count.
     pub batches: u64,
     /// Where the files end: the transaction log, the commit log at the gate behind the batches that count, and
@@ -130,14 +124,7 @@ fn read_logs<D: Disk, H: Hash32>(
 ) -> Result<Opened, OpenError>
     requires commits { IfSome (D.told disk.old) (λ t. commits.now ≡ seen t 1) }
     requires log { IfSome (D.told disk.old) (λ t. log.now ≡ seen t 0) }
-    ensures history { IfOk result (λ opened. IsHistory (txs_of opened.records.items)) }
-    ensures records { IfOk result (λ opened. AreRecords (H.digest hash.now) (txs_of opened.records.items) 1 opened.records.items) }
-    ensures ends { IfOk result (λ opened. HasEnds opened) }
-    ensures grouped { IfOk result (λ opened. AreGrouped opened.records.items opened.batches) }
-    ensures placed { IfOk result (λ opened. opened.ends ≡ ends_behind opened.records.items opened.batches) }
-    ensures headers { IfOk result (λ opened. opened.headers.items ≡ headers_of (H.digest hash.now) (txs_of opened.records.items)) }
-    ensures read { (t : Told) → D.told disk.old ≡ Some t → IfOk result (λ opened. IsRead (H.digest hash.now) (seen t) opened) }
-    ensures there { (t : Told) → D.told disk.old ≡ Some t → IfOk result (IsThere (seen t)) }
+    ensures given { IfOk result (IsGivenBy (H.digest hash.now) (D.told disk.old)) }
     ensures first { (t : Told) → D.told disk.old ≡ Some t → Judges (image_checks (H.digest hash.now) (seen t)) result }
     ensures told { D.told disk.new ≡ D.told disk.old }
     ensures cause { HasOpenCause (D.faults disk.old) (D.faults disk.new) result }
@@ -151,6 +138,7 @@ fn read_logs<D: Disk, H: Hash32>(
         batches,
         behind,
     } = read;
+    let root = progress.bl_root;
     let records = progress.records;
     let ends = [
         progress.place,
@@ -160,9 +148,15 @@ fn read_logs<D: Disk, H: Hash32>(
         end_of(2, records.as_slice()),
         end_of(3, records.as_slice()),
     ];
-    Ok(Opened {
+    let found = FoundHistory {
         records,
         headers: progress.headers,
+        alhs: progress.alhs,
+        tree: progress.tree,
+        root,
+    };
+    Ok(Opened {
+        found,
         batches,
         ends,
         behind,
@@ -185,14 +179,7 @@ pub fn read_files<D: Disk, H: Hash32>(
     hash: &H,
     disk: &mut D,
 ) -> Result<Opened, OpenError>
-    ensures history { IfOk result (λ opened. IsHistory (txs_of opened.records.items)) }
-    ensures records { IfOk result (λ opened. AreRecords (H.digest hash.now) (txs_of opened.records.items) 1 opened.records.items) }
-    ensures ends { IfOk result (λ opened. HasEnds opened) }
-    ensures grouped { IfOk result (λ opened. AreGrouped opened.records.items opened.batches) }
-    ensures placed { IfOk result (λ opened. opened.ends ≡ ends_behind opened.records.items opened.batches) }
-    ensures headers { IfOk result (λ opened. opened.headers.items ≡ headers_of (H.digest hash.now) (txs_of opened.records.items)) }
-    ensures read { (t : Told) → D.told disk.old ≡ Some t → IfOk result (λ opened. IsRead (H.digest hash.now) (seen t) opened) }
-    ensures there { (t : Told) → D.told disk.old ≡ Some t → IfOk result (IsThere (seen t)) }
+    ensures given { IfOk result (IsGivenBy (H.digest hash.now) (D.told disk.old)) }
     ensures first { (t : Told) → D.told disk.old ≡ Some t → Judges (image_checks (H.digest hash.now) (seen t)) result }
     ensures told { D.told disk.new ≡ D.told disk.old }
     ensures cause { HasOpenCause (D.faults disk.old) (D.faults disk.new) result }

@@ -15,6 +15,7 @@ ghost use Rattle.im_model.specs.declared.transactions.Transaction.{Transaction};
 ghost use Rattle.im_opening.specs.Cut.{IsCut, IsHalfRepaired, IsHalfShut, IsKept, IsShut, repaired, shut_at};
 
 use crate::reading::Opened;
+use im_alog::laying::sync;
 use im_clog::marks::Uncounted;
 use im_disk::disk::{Disk, DiskError};
 
@@ -33,12 +34,12 @@ pub(crate) fn shut_gate<D: Disk>(disk: &mut D, gate: u64) -> Result<(), DiskErro
     ensures cause { HasCause (D.faults disk.old) (D.faults disk.new) result }
 {
     disk.write_at(1, gate, &[0])?;
-    disk.sync()
+    sync(disk)
 }
 
 /// Closes the gate behind the batches that count, where no octet stands at it, or it is open and octets up to the
 /// next gate are missing: one `write_at` and one `sync`. Else nothing is done. Behind a call that fails no other is made.
-pub fn repair<D: Disk>(disk: &mut D, opened: &Opened) -> Result<(), DiskError>
+pub(crate) fn repair<D: Disk>(disk: &mut D, opened: &Opened) -> Result<(), DiskError>
     requires within { IfSome (D.told disk.old) (λ t. gate_of opened.now.batches ≤ length (seen t 1)) }
     requires ends { HasEnds opened.now }
     ensures leaves { (hash : Hash) (t : Told) → D.told disk.old ≡ Some t → IsDurable t → IsRead hash (seen t) opened.now

@@ -1,7 +1,6 @@
 use Rattle.std.proofs.Common.{arith, ◌≡◌, ◌∙◌, ◌+◌, ℕ, length, refl, ap, subst, inl}
-use Rattle.im_disk.specs.Moments.{Leaves}
 use Rattle.im_disk.proofs.Growing.{grows_both}
-use Rattle.im_journal.specs.Kept.{HasStaged, StandsBy}
+use Rattle.im_journal.specs.Kept.{HasStaged}
 use Rattle.im_journal.specs.declared.batches.Step.TheVariants.{Idle, Staged, Gated}
 use Rattle.im_ledger.proofs.DurableLemmas.{at-last, one-more}
 use Rattle.im_ledger.proofs.GrownLemmas.{step-grows}

@@ -1,17 +1,18 @@
-use Rattle.std.proofs.Common.{◌≡◌, ℕ, length, refl, ◌∙◌, ap, subst, inr, Option}
+use Rattle.std.proofs.Common.{◌≡◌, ℕ, length, refl, ◌∙◌, ap, subst, inr, Option, Some}
 use Rattle.im_disk.specs.Disk.{Told, after, seen}
 use Rattle.im_disk.specs.declared.calls.Call.TheVariants.{Synced, Missed}
 use Rattle.im_disk.specs.Grown.{Grows}
 use Rattle.im_disk.proofs.Growing.{grows_both, grows_by_answer, grows_same}
 use Rattle.im_format.specs.Batches.{gate_of}
 use Rattle.im_format.specs.Reading.{history_in}
+use Rattle.im_octet.proofs.Common.{if-err}
 use Rattle.im_opening.specs.Cut.{IsHalfOpened, WasLeft}
 use Rattle.im_opening.specs.Answers.{of_disk}
 use Rattle.im_opening.specs.Opening.{IsRead}
 use Rattle.im_format.proofs.HeldRecords.{Has32}
 use Rattle.im_format.proofs.StandReads.{stands-once}
 use Rattle.im_opening.proofs.GateLemmas.{batches-same, lacks-none}
-use Rattle.im_opening.proofs.OpenLemmas.{failed-left, failed-opened, if-err, read-left, repaired-leaves, rest-leaves, stopped-left, synced-told}
+use Rattle.im_opening.proofs.OpenLemmas.{failed-left, failed-opened, read-left, repaired-leaves, rest-leaves, stopped-left, synced-told}
 use Rattle.im_opening.specs.Cut.{repaired}
 use Rattle.std.specs.Option.{option_map}
 use Rattle.im_opening.proofs.KeptLemmas.{map-told}
@@ -19,71 +20,73 @@ use Rattle.im_opening.proofs.opening.open_files.Goals as goal
 
 pub returns-in_err-sync-clause-moments : goal.returns-in_err-sync-clause-moments
 returns-in_err-sync-clause-moments g c t history is stands =
-    failed-opened (g.H.Hash32.digest c.args.hash.now) history t (g.D.Disk.told c.args.disk.now) (g.D.Disk.told c.sync.new.self) c.in_err-sync.field-0.0 is
+    failed-opened (g.H.Hash32.digest c.args.hash.now) history t (g.D.Disk.told c.args.disk.now) (g.D.Disk.told c.sync.new.disk) c.in_err-sync.field-0.0 is
     (c.in_err-sync.ensures.failed, c.in_err-sync.ensures.memory)
 
 pub returns-in_err-opened-clause-moments : goal.returns-in_err-opened-clause-moments
 returns-in_err-opened-clause-moments g c t history is stands =
-    let synced = synced-told (g.D.Disk.told c.args.disk.now) (g.D.Disk.told c.sync.new.self) t c.in_ok-sync.ensures.ok is in
+    let synced = synced-told (g.D.Disk.told c.args.disk.now) (g.D.Disk.told c.sync.new.disk) t c.in_ok-sync.ensures.ok is in
     inr (inr (rest-leaves (g.H.Hash32.digest c.args.hash.now) history t (g.D.Disk.told c.read_files.new.disk) stands (c.in_err-opened.ensures.told ∙ synced)))
 
 pub returns-in_err-repair-clause-moments : goal.returns-in_err-repair-clause-moments
 returns-in_err-repair-clause-moments g c t history is stands =
     let hash = g.H.Hash32.digest c.args.hash.now in
-    let synced = synced-told (g.D.Disk.told c.args.disk.now) (g.D.Disk.told c.sync.new.self) t c.in_ok-sync.ensures.ok is in
+    let synced = synced-told (g.D.Disk.told c.args.disk.now) (g.D.Disk.told c.sync.new.disk) t c.in_ok-sync.ensures.ok is in
     let told = c.in_ok-opened.ensures.told ∙ synced in
-    let read : IsRead hash (seen t) c.in_ok-opened.opened = c.in_ok-opened.ensures.read (after Synced t) synced in
+    let read : IsRead hash (seen t) c.in_ok-opened.opened = c.in_ok-opened.ensures.given.read (after Synced t) synced in
     let long : Has32 hash = record { long = g.met.H.Hash32.size c.args.hash.now } in
     inr (inr (repaired-leaves hash history t (g.D.Disk.told c.read_files.new.disk) (g.D.Disk.told c.repair.new.disk) told
     (stands-once hash (seen t) (history_in (seen t)) history long read.stands stands)
     (c.in_err-repair.ensures.leaves hash (after Synced t) told (λ image now. now) read)))
 
 pub returns-clause-opened : goal.returns-clause-opened
-returns-clause-opened g c t history is stands =
+returns-clause-opened g c =
     let hash = g.H.Hash32.digest c.args.hash.now in
-    let synced = synced-told (g.D.Disk.told c.args.disk.now) (g.D.Disk.told c.sync.new.self) t c.in_ok-sync.ensures.ok is in
-    let told = c.in_ok-opened.ensures.told ∙ synced in
-    let read : IsRead hash (seen t) c.in_ok-opened.opened = c.in_ok-opened.ensures.read (after Synced t) synced in
+    let was = g.D.Disk.told c.args.disk.now in
+    let mid = g.D.Disk.told c.sync.new.disk in
+    let opened = c.in_ok-opened.opened in
+    let given = c.in_ok-opened.ensures.given in
     let long : Has32 hash = record { long = g.met.H.Hash32.size c.args.hash.now } in
-    repaired-leaves hash history t (g.D.Disk.told c.read_files.new.disk) (g.D.Disk.told c.repair.new.disk) told
-    (stands-once hash (seen t) (history_in (seen t)) history long read.stands stands)
-    (c.in_ok-repair.ensures.leaves hash (after Synced t) told (λ image now. now) read)
+    let synced : (t : Told) → was ≡ Some t → mid ≡ Some (after Synced t) = λ t is. synced-told was mid t c.in_ok-sync.ensures.ok is in
+    let f : Told → Told = repaired opened.behind (gate_of opened.batches) in
+    record {
+      given = record {
+        found = given.found;
+        ends = given.ends;
+        grouped = given.grouped;
+        placed = given.placed;
+        read = λ t is. given.read (after Synced t) (synced t is);
+        there = λ t is. given.there (after Synced t) (synced t is);
+      };
+      calls =
+          c.in_ok-repair.ensures.calls
+          ∙ ap (λ (m : Option Told). option_map f m) (c.in_ok-opened.ensures.told ∙ c.in_ok-sync.ensures.ok)
+          ∙ map-told f (after Synced) was;
+      kept = λ t is.
+          c.in_ok-repair.ensures.kept hash (after Synced t) (c.in_ok-opened.ensures.told ∙ synced t is) (λ image now. now)
+          (given.read (after Synced t) (synced t is)) (given.there (after Synced t) (synced t is));
+      moments = λ t history is stands.
+          (let told = c.in_ok-opened.ensures.told ∙ synced t is in
+          let read : IsRead hash (seen t) opened = given.read (after Synced t) (synced t is) in
+          repaired-leaves hash history t (g.D.Disk.told c.read_files.new.disk) (g.D.Disk.told c.repair.new.disk) told
+          (stands-once hash (seen t) (history_in (seen t)) history long read.stands stands)
+          (c.in_ok-repair.ensures.leaves hash (after Synced t) told (λ image now. now) read));
+    }
 
 pub returns-clause-moments : goal.returns-clause-moments
-returns-clause-moments g c t history is stands = inr (inr (returns-clause-opened g c t history is stands))
-
-pub returns-clause-read : goal.returns-clause-read
-returns-clause-read g c t is =
-    c.in_ok-opened.ensures.read (after Synced t) (synced-told (g.D.Disk.told c.args.disk.now) (g.D.Disk.told c.sync.new.self) t c.in_ok-sync.ensures.ok is)
+returns-clause-moments g c t history is stands = inr (inr ((returns-clause-opened g c).moments t history is stands))
 
 pub returns-clause-first : goal.returns-clause-first
 returns-clause-first g c t is = record {
   is =
       (c.in_ok-opened.ensures.first (after Synced t)
-      (synced-told (g.D.Disk.told c.args.disk.now) (g.D.Disk.told c.sync.new.self) t c.in_ok-sync.ensures.ok is)).is;
+      (synced-told (g.D.Disk.told c.args.disk.now) (g.D.Disk.told c.sync.new.disk) t c.in_ok-sync.ensures.ok is)).is;
 }
-
-pub returns-clause-shut : goal.returns-clause-shut
-returns-clause-shut g c t is =
-    let synced = synced-told (g.D.Disk.told c.args.disk.now) (g.D.Disk.told c.sync.new.self) t c.in_ok-sync.ensures.ok is in
-    c.in_ok-repair.ensures.shut (g.H.Hash32.digest c.args.hash.now) (after Synced t) (c.in_ok-opened.ensures.told ∙ synced)
-    (c.in_ok-opened.ensures.read (after Synced t) synced)
-
-pub returns-clause-there : goal.returns-clause-there
-returns-clause-there g c t is =
-    c.in_ok-opened.ensures.there (after Synced t) (synced-told (g.D.Disk.told c.args.disk.now) (g.D.Disk.told c.sync.new.self) t c.in_ok-sync.ensures.ok is)
-
-pub returns-clause-kept : goal.returns-clause-kept
-returns-clause-kept g c t is =
-    let hash = g.H.Hash32.digest c.args.hash.now in
-    let synced = synced-told (g.D.Disk.told c.args.disk.now) (g.D.Disk.told c.sync.new.self) t c.in_ok-sync.ensures.ok is in
-    c.in_ok-repair.ensures.kept hash (after Synced t) (c.in_ok-opened.ensures.told ∙ synced) (λ image now. now)
-    (c.in_ok-opened.ensures.read (after Synced t) synced) (c.in_ok-opened.ensures.there (after Synced t) synced)
 
 pub returns-in_err-sync-clause-left : goal.returns-in_err-sync-clause-left
 returns-in_err-sync-clause-left g c t is =
-    if-err (λ e. WasLeft (g.H.Hash32.digest c.args.hash.now) e t (g.D.Disk.told c.sync.new.self)) c.from_residual.result (of_disk c.in_err-sync.field-0.0) c.from_residual.ensures.1
-    (failed-left (g.H.Hash32.digest c.args.hash.now) t (g.D.Disk.told c.args.disk.now) (g.D.Disk.told c.sync.new.self) c.in_err-sync.field-0.0 is
+    if-err (λ e. WasLeft (g.H.Hash32.digest c.args.hash.now) e t (g.D.Disk.told c.sync.new.disk)) c.from_residual.result (of_disk c.in_err-sync.field-0.0) c.from_residual.ensures.1
+    (failed-left (g.H.Hash32.digest c.args.hash.now) t (g.D.Disk.told c.args.disk.now) (g.D.Disk.told c.sync.new.disk) c.in_err-sync.field-0.0 is
     (c.in_err-sync.ensures.failed, c.in_err-sync.ensures.memory))
 
 pub returns-in_err-opened-clause-left : goal.returns-in_err-opened-clause-left
@@ -92,14 +95,14 @@ returns-in_err-opened-clause-left g c t is =
     let now = g.D.Disk.told c.read_files.new.disk in
     if-err (λ e. WasLeft hash e t now) c.from_residual-in_err-opened.result c.in_err-opened.field-0.0 c.from_residual-in_err-opened.ensures.1
     (read-left hash c.in_err-opened.field-0.0 t now
-    (c.in_err-opened.ensures.told ∙ synced-told (g.D.Disk.told c.args.disk.now) (g.D.Disk.told c.sync.new.self) t c.in_ok-sync.ensures.ok is))
+    (c.in_err-opened.ensures.told ∙ synced-told (g.D.Disk.told c.args.disk.now) (g.D.Disk.told c.sync.new.disk) t c.in_ok-sync.ensures.ok is))
 
 pub returns-in_err-repair-clause-left : goal.returns-in_err-repair-clause-left
 returns-in_err-repair-clause-left g c t is =
     let hash = g.H.Hash32.digest c.args.hash.now in
-    let synced = synced-told (g.D.Disk.told c.args.disk.now) (g.D.Disk.told c.sync.new.self) t c.in_ok-sync.ensures.ok is in
+    let synced = synced-told (g.D.Disk.told c.args.disk.now) (g.D.Disk.told c.sync.new.disk) t c.in_ok-sync.ensures.ok is in
     let told = c.in_ok-opened.ensures.told ∙ synced in
-    let read : IsRead hash (seen t) c.in_ok-opened.opened = c.in_ok-opened.ensures.read (after Synced t) synced in
+    let read : IsRead hash (seen t) c.in_ok-opened.opened = c.in_ok-opened.ensures.given.read (after Synced t) synced in
     let opened = c.in_ok-opened.opened in
     let same : opened.batches ≡ length read.stands.batches =
     batches-same hash (history_in (seen t)) (seen t) opened.batches read.stands read.batches.batches_are
@@ -115,24 +118,15 @@ returns-in_err-repair-clause-left g c t is =
       subst H same (opened.behind, read.behind_is, c.in_err-repair.ensures.half (after Synced t) told),
     ))
 
-pub returns-clause-calls : goal.returns-clause-calls
-returns-clause-calls g c =
-    let opened = c.in_ok-opened.opened in
-    let f : Told → Told = repaired opened.behind (gate_of opened.batches) in
-    let o = g.D.Disk.told c.args.disk.now in
-    c.in_ok-repair.ensures.calls
-    ∙ ap (λ (m : Option Told). option_map f m) (c.in_ok-opened.ensures.told ∙ c.in_ok-sync.ensures.ok)
-    ∙ map-told f (after Synced) o
-
 pub returns-in_err-sync-clause-grows : goal.returns-in_err-sync-clause-grows
 returns-in_err-sync-clause-grows g c =
-    grows_by_answer Synced Missed (g.D.Disk.told c.args.disk.now) (g.D.Disk.told c.sync.new.self) c.sync.result
+    grows_by_answer Synced Missed (g.D.Disk.told c.args.disk.now) (g.D.Disk.told c.sync.new.disk) c.sync.result
     c.sync.ensures.ok c.sync.ensures.failed c.sync.ensures.memory
 
 pub returns-in_err-opened-clause-grows : goal.returns-in_err-opened-clause-grows
 returns-in_err-opened-clause-grows g c =
     let a = g.D.Disk.told c.args.disk.now in
-    let b = g.D.Disk.told c.sync.new.self in
+    let b = g.D.Disk.told c.sync.new.disk in
     let d = g.D.Disk.told c.read_files.new.disk in
     let first : Grows a b = grows_by_answer Synced Missed a b c.sync.result c.sync.ensures.ok c.sync.ensures.failed c.sync.ensures.memory in
     grows_both a b d first (grows_same b d c.in_err-opened.ensures.told)
@@ -140,7 +134,7 @@ returns-in_err-opened-clause-grows g c =
 pub returns-in_err-repair-clause-grows : goal.returns-in_err-repair-clause-grows
 returns-in_err-repair-clause-grows g c =
     let a = g.D.Disk.told c.args.disk.now in
-    let b = g.D.Disk.told c.sync.new.self in
+    let b = g.D.Disk.told c.sync.new.disk in
     let d = g.D.Disk.told c.read_files.new.disk in
     let e = g.D.Disk.told c.repair.new.disk in
     let first : Grows a b = grows_by_answer Synced Missed a b c.sync.result c.sync.ensures.ok c.sync.ensures.failed c.sync.ensures.memory in
@@ -149,7 +143,7 @@ returns-in_err-repair-clause-grows g c =
 pub returns-clause-grows : goal.returns-clause-grows
 returns-clause-grows g c =
     let a = g.D.Disk.told c.args.disk.now in
-    let b = g.D.Disk.told c.sync.new.self in
+    let b = g.D.Disk.told c.sync.new.disk in
     let d = g.D.Disk.told c.read_files.new.disk in
     let e = g.D.Disk.told c.repair.new.disk in
     let first : Grows a b = grows_by_answer Synced Missed a b c.sync.result c.sync.ensures.ok c.sync.ensures.failed c.sync.ensures.memory in

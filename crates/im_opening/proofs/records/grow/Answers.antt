@@ -1,6 +1,7 @@
 use Rattle.std.proofs.Common.{ℕ, List, sym, subst, take, arith}
 use Rattle.im_mtree.specs.Kept.{IsFrontier}
-use Rattle.im_opening.proofs.TreeLemmas.{grown-alhs, grown-root}
+use Rattle.im_octet.proofs.Common.{take-up}
+use Rattle.im_opening.proofs.TreeLemmas.{grown-root}
 use Rattle.im_opening.proofs.records.grow.Goals as goal
 
 pub returns-clause-tree : goal.returns-clause-tree
@@ -11,7 +12,7 @@ returns-clause-tree g c =
     let S : ℕ → Type 0 = λ n. IsFrontier hash (take n alhs) c.args.tree.now in
     let before = subst S (sym c.size-size.ensures) c.requires.tree in
     let T : List (List ℕ) → Type 0 = λ l. IsFrontier hash l c.extend.new.self in
-    subst T (grown-alhs alhs size c.args.bl (omega arith)) (c.extend.ensures.leaves (take size alhs) before)
+    subst T (take-up alhs size c.args.bl (omega arith)) (c.extend.ensures.leaves (take size alhs) before)
 
 pub returns-clause-root : goal.returns-clause-root
 returns-clause-root g c =

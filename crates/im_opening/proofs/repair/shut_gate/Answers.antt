@@ -10,7 +10,8 @@ use Rattle.im_format.specs.Standing.{Stands}
 use Rattle.im_alog.proofs.Outcomes.{HasAnswer, if_mapped, leaves_of_sync, leaves_of_write, reads_of_write, seen_of_write}
 use Rattle.im_opening.specs.Cut.{IsCut, IsHalfShut, IsShut, shut_at}
 use Rattle.im_opening.proofs.GateLemmas.{cut-kept, same-torn}
-use Rattle.im_opening.proofs.OpenLemmas.{failed-sync, failed-write, if-err}
+use Rattle.im_octet.proofs.Common.{if-err}
+use Rattle.im_opening.proofs.OpenLemmas.{failed-sync, failed-write}
 use Rattle.im_opening.proofs.repair.shut_gate.Goals as goal
 
 pub returns-in_err-write_at-clause-leaves : goal.returns-in_err-write_at-clause-leaves
@@ -29,8 +30,8 @@ returns-clause-leaves g c hash history before here =
     let one = leaves_of_write P 1 c.args.gate (0 ∷ []) _ _ c.write_at.result a (cut-kept hash history c.args.gate) before in
     let now = seen_of_write P 1 c.args.gate (0 ∷ []) _ _ c.write_at.result a c.requires.within (cut-kept hash history c.args.gate) here in
     leaves_weaker P (λ image. Stands hash image history) (λ image cut. cut.stands) _ _
-    (leaves_both P (g.D.Disk.told c.args.disk.now) (g.D.Disk.told c.write_at.new.self) (g.D.Disk.told c.sync.new.self) one
-    (leaves_of_sync P (g.D.Disk.told c.write_at.new.self) (g.D.Disk.told c.sync.new.self) c.sync.result
+    (leaves_both P (g.D.Disk.told c.args.disk.now) (g.D.Disk.told c.write_at.new.self) (g.D.Disk.told c.sync.new.disk) one
+    (leaves_of_sync P (g.D.Disk.told c.write_at.new.self) (g.D.Disk.told c.sync.new.disk) c.sync.result
     (record { ok = c.sync.ensures.ok; failed = c.sync.ensures.failed; memory = c.sync.ensures.memory }) one.1
     (if_told (λ t. P (seen t)) (λ t. (image : Files) → ((k : ℕ) → image k ≡ seen t k) → P image) (λ t cut image same. cut-kept hash history c.args.gate (seen t) image (same-torn 1 c.args.gate 1 (seen t) image same) cut) _ now)))
 
@@ -38,7 +39,7 @@ pub returns-clause-shut : goal.returns-clause-shut
 returns-clause-shut g c =
     let o = g.D.Disk.told c.args.disk.now in
     let Q : Told → Type 0 = λ t. IsShut (seen t) c.args.gate in
-    on_ok_after (λ m. IfSome m Q) (g.D.Disk.told c.sync.new.self) _ c.sync.result c.sync.ensures.ok
+    on_ok_after (λ m. IfSome m Q) (g.D.Disk.told c.sync.new.disk) _ c.sync.result c.sync.ensures.ok
     (if_mapped Q Q (after Synced) (λ t h. h) (g.D.Disk.told c.write_at.new.self)
     (subst (λ (m : Option Told). IfSome m Q) (sym c.in_ok-write_at.ensures.ok)
     (if_told (λ t. Reads (seen t) (octet_span 1 c.args.gate 0)) Q (λ t r. record { octet = 0; closed = λ e. omega (arith, e); reads = r }) _
@@ -51,7 +52,7 @@ both-calls gate (Some t) = refl
 pub returns-clause-written : goal.returns-clause-written
 returns-clause-written g c =
     let o = g.D.Disk.told c.args.disk.now in
-    on_ok_after (λ (m : Option Told). m ≡ option_map (shut_at c.args.gate) o) (g.D.Disk.told c.sync.new.self) _ c.sync.result c.sync.ensures.ok
+    on_ok_after (λ (m : Option Told). m ≡ option_map (shut_at c.args.gate) o) (g.D.Disk.told c.sync.new.disk) _ c.sync.result c.sync.ensures.ok
     (ap (λ (m : Option Told). option_map (after Synced) m) c.in_ok-write_at.ensures.ok ∙ both-calls c.args.gate o)
 
 pub returns-in_err-write_at-clause-grows : goal.returns-in_err-write_at-clause-grows
@@ -61,10 +62,10 @@ returns-in_err-write_at-clause-grows g c =
 
 pub returns-clause-grows : goal.returns-clause-grows
 returns-clause-grows g c =
-    grows_both (g.D.Disk.told c.args.disk.now) (g.D.Disk.told c.write_at.new.self) (g.D.Disk.told c.sync.new.self)
+    grows_both (g.D.Disk.told c.args.disk.now) (g.D.Disk.told c.write_at.new.self) (g.D.Disk.told c.sync.new.disk)
     (grows_by_answer (Wrote 1 c.args.gate (0 ∷ [])) (Tore 1 c.args.gate 1) (g.D.Disk.told c.args.disk.now) (g.D.Disk.told c.write_at.new.self) c.write_at.result
     c.write_at.ensures.ok c.write_at.ensures.failed c.write_at.ensures.memory)
-    (grows_by_answer Synced Missed (g.D.Disk.told c.write_at.new.self) (g.D.Disk.told c.sync.new.self) c.sync.result
+    (grows_by_answer Synced Missed (g.D.Disk.told c.write_at.new.self) (g.D.Disk.told c.sync.new.disk) c.sync.result
     c.sync.ensures.ok c.sync.ensures.failed c.sync.ensures.memory)
 
 pub returns-in_err-write_at-clause-half : goal.returns-in_err-write_at-clause-half
@@ -75,6 +76,6 @@ returns-in_err-write_at-clause-half g c t is =
 
 pub returns-clause-half : goal.returns-clause-half
 returns-clause-half g c t is =
-    failed-sync c.args.gate t (g.D.Disk.told c.write_at.new.self) (g.D.Disk.told c.sync.new.self) c.sync.result
+    failed-sync c.args.gate t (g.D.Disk.told c.write_at.new.self) (g.D.Disk.told c.sync.new.disk) c.sync.result
     (c.in_ok-write_at.ensures.ok ∙ ap (λ (m : Option Told). option_map (after (Wrote 1 c.args.gate (0 ∷ []))) m) is)
     c.sync.ensures.failed c.sync.ensures.memory

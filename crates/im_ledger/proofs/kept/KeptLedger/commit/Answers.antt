@@ -1,5 +1,4 @@
-use Rattle.std.proofs.Common.{◌≡◌, ◌∙◌, List, [], ◌∷◌, ◌++◌, length, arith, refl, sym, ap, subst, inl}
-use Rattle.im_digest.specs.Digests.{Hash}
+use Rattle.std.proofs.Common.{◌≡◌, ◌∙◌, List, [], ◌∷◌, ◌++◌, length, arith, refl, ap, inl}
 use Rattle.im_format.specs.declared.records.Record.{Record}
 use Rattle.im_model.specs.declared.transactions.Transaction.{Transaction}
 use Rattle.im_ledger.specs.Histories.{KeptHistory}

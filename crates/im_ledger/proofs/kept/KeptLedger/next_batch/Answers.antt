@@ -1,4 +1,3 @@
-use Rattle.std.proofs.Common.{◌≡◌}
 use Rattle.im_ledger.specs.Histories.{KeptHistory}
 use Rattle.im_ledger.proofs.PlaceLemmas.{next-record}
 use Rattle.im_ledger.proofs.kept.KeptLedger.next_batch.Goals as goal

@@ -1,0 +1,65 @@
+use Rattle.std.proofs.Common.{◌≡◌, ℕ, List, length, sym, ◌∙◌, ap, subst, arith, get_or}
+use Rattle.im_format.specs.Batches.{gate_of}
+use Rattle.im_journal.specs.Holding.{AreFirst}
+use Rattle.im_opening.specs.Opens.{AreOpened, Opens}
+use Rattle.im_opening.specs.Reach.{txs_of}
+use Rattle.im_format.proofs.HeldRecords.{Has32}
+use Rattle.im_opening.proofs.FoundLemmas.{Rests, rests-with}
+use Rattle.im_opening.proofs.OpensLemmas.{fails-by, fault-by, opens-by, others-by}
+use Rattle.im_opening.proofs.opening.open.Goals as goal
+
+pub resume-journal-requires : goal.resume-journal-requires
+resume-journal-requires g c =
+    let hash = g.H.Hash32.digest c.args.hash.now in
+    let opened = c.in-Ok.opened in
+    let long : Has32 hash = record { long = g.met.H.Hash32.size c.args.hash.now } in
+    let was = g.D.Disk.told c.args.disk in
+    let now = g.D.Disk.told c.open_files.new.disk in
+    let records = opened.found.records.items in
+    let rests : Rests hash now opened = rests-with hash was now opened long c.in-Ok.ensures.opened in
+    let many : c.len-durable.result ≡ length records = omega (arith, c.len-durable.ensures, opened.found.records.ok) in
+    let F : ℕ → Type 0 = λ n. AreFirst hash (txs_of records) rests.batches n opened.ends in
+    record { first = (hash, txs_of records, rests.batches, subst F (sym many) rests.first, rests.resting) }
+
+pub returns-clause-rests : goal.returns-clause-rests
+returns-clause-rests g c =
+    let hash = g.H.Hash32.digest c.args.hash.now in
+    let opened = c.in-Ok.opened in
+    let long : Has32 hash = record { long = g.met.H.Hash32.size c.args.hash.now } in
+    let was = g.D.Disk.told c.args.disk in
+    let now = g.D.Disk.told c.open_files.new.disk in
+    let records = opened.found.records.items in
+    let rests : Rests hash now opened = rests-with hash was now opened long c.in-Ok.ensures.opened in
+    let many : c.len-durable.result ≡ length records = omega (arith, c.len-durable.ensures, opened.found.records.ok) in
+    let F : ℕ → Type 0 = λ n. AreFirst hash (txs_of records) rests.batches n opened.ends in
+    record {
+      batches = rests.batches;
+      joined_is = rests.joined_is;
+      rests = c.resume-journal.ensures.rests hash (txs_of records) rests.batches (subst F (sym many) rests.first) rests.resting;
+      all = c.resume-journal.ensures.given.2 ∙ many;
+    }
+
+pub returns-clause-fresh : goal.returns-clause-fresh
+returns-clause-fresh g c = (c.resume-journal.ensures.going, (returns-clause-rests g c).rests.idle)
+
+pub returns-clause-opens : goal.returns-clause-opens
+returns-clause-opens g c =
+    let hash = g.H.Hash32.digest c.args.hash.now in
+    let opened = c.in-Ok.opened in
+    let long : Has32 hash = record { long = g.met.H.Hash32.size c.args.hash.now } in
+    let said : AreOpened hash (g.D.Disk.told c.args.disk) (g.D.Disk.told c.open_files.new.disk) opened = c.in-Ok.ensures.opened in
+    let txs = txs_of opened.found.records.items in
+    let O : g.row.D.Denot → Type 0 = λ d. Opens g.D.Disk.told g.D.Disk.faults hash c.args.disk d (gate_of opened.batches) txs in
+    let G : ℕ → Type 0 = λ n. Opens g.D.Disk.told g.D.Disk.faults hash c.args.disk c.resume-journal.result.disk n txs in
+    let opens = opens-by g.D.Disk.told g.D.Disk.faults hash c.args.disk c.open_files.new.disk opened long said c.in-Ok.ensures.grows
+    (c.in-Ok.ensures.cause.others (λ e. cc)) in
+    let gate : gate_of opened.batches ≡ get_or c.resume-journal.result.ends 1 0 =
+    sym (ap (λ (l : List ℕ). get_or l 1 0) c.resume-journal.ensures.given.1 ∙ said.given.ends.gate) in
+    subst G gate (subst O (sym c.resume-journal.ensures.given.0) opens)
+
+pub returns-in-Err-clause-failed : goal.returns-in-Err-clause-failed
+returns-in-Err-clause-failed g c =
+    let long : Has32 (g.H.Hash32.digest c.args.hash.now) = record { long = g.met.H.Hash32.size c.args.hash.now } in
+    let ens = c.in-Err.ensures in
+    fails-by g.D.Disk.told g.D.Disk.faults (g.H.Hash32.digest c.args.hash.now) c.args.disk c.open_files.new.disk c.in-Err.error long
+    (λ t is. (ens.first t is).is) ens.moments ens.left ens.grows (fault-by _ _ _ c.in-Err.error ens.cause) (others-by _ _ _ c.in-Err.error ens.cause)

@@ -1,0 +1,19 @@
+use im_digest::D32;
+use im_format::records::Record;
+use im_mtree::frontiers::Frontier;
+use im_model::headers::Header;
+
+/// A history as it was read, with all that was computed on the way. A clause tells that they belong together.
+#[derive(Drop)]
+pub struct FoundHistory {
+    /// The records of its transactions, in order.
+    pub records: Vec<Record>,
+    /// The header of each transaction.
+    pub headers: Vec<Header>,
+    /// The Alh of each header.
+    pub alhs: Vec<D32>,
+    /// The whole subtrees of the tree that the last transaction was placed over: the first Alh are its leaves.
+    pub tree: Frontier,
+    /// The root of this tree, 32 zeros where it is empty.
+    pub root: D32,
+}
