@@ -49,11 +49,11 @@ pub record IsSound (known : Known) : Type 0 where
   pub entries_shown : AllByRecursion (EntryWasShown known.messages) known.entries
 
 -- of nothing
-nothing-sound : IsSound nothing
+pub nothing-sound : IsSound nothing
 nothing-sound = record { headers_rise = tt; entries_rise = tt; state = tt; headers_kept = tt; entries_kept = tt; headers_shown = tt; entries_shown = tt }
 
 -- a header that was found is found behind more
-header-found : (headers more : List Header) (t : ℕ) (h : Header) → Rises Header is_lower headers → h.id ≡ t → header_at headers t ≡ Some h → header_at (with_headers headers more) t ≡ Some h
+pub header-found : (headers more : List Header) (t : ℕ) (h : Header) → Rises Header is_lower headers → h.id ≡ t → header_at headers t ≡ Some h → header_at (with_headers headers more) t ≡ Some h
 header-found headers more t h rises e is =
     let there : header_at headers h.id ≡ Some h = ap (λ (n : ℕ). header_at headers n) e ∙ is in
     ap (λ (n : ℕ). header_at (with_headers headers more) n) (sym e) ∙ puts-found Header is_lower is_level header-order headers more h h rises there

@@ -7,3 +7,7 @@ pub mod WalkLemmas
 pub mod SearchLemmas
 pub mod KeepLemmas
 pub mod VerdictLemmas
+pub mod FoldLemmas
+pub mod ForkLemmas
+pub mod HoldLemmas
+pub mod ShowLemmas

@@ -36,7 +36,7 @@ abbrev pub FitsAt : List Header → Header → Type 0
 FitsAt headers header = IfSome (header_at headers header.id) (λ kept. kept ≡ header)
 
 -- one of the state's number is the state
-is-state : (headers : List Header) (state header : Header) → header_at headers state.id ≡ Some state → FitsAt headers header → header.id ≡ state.id → state ≡ header
+pub is-state : (headers : List Header) (state header : Header) → header_at headers state.id ≡ Some state → FitsAt headers header → header.id ≡ state.id → state ≡ header
 is-state headers state header kept fits e =
     let there : header_at headers header.id ≡ Some state = ap (λ (t : ℕ). header_at headers t) e ∙ kept in
     subst (λ (r : Option Header). IfSome r (λ k. k ≡ header)) there fits

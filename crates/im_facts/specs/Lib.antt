@@ -3,3 +3,4 @@ pub mod Verdicts
 pub mod Accepted
 pub mod Copies
 pub mod Folds
+pub mod Held

@@ -3,6 +3,7 @@
 
 mod agree;
 pub mod clients;
+pub mod collisions;
 mod copies;
 pub mod facts;
 pub mod laws;
