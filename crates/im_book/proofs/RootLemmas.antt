@@ -3,7 +3,7 @@ use Rattle.std.proofs.Common.{◌≡◌, ◌<◌, ◌≤◌, ◌+◌, ◌-◌, �
 use Rattle.std.proofs.Math.Seq.{take-length}
 use Rattle.std.proofs.lemmas.List.{length-take-le, take-append-le}
 use Rattle.im_digest.specs.Digests.{Hash}
-use Rattle.im_mtree.specs.Kept.{IsFrontier, Kept}
+use Rattle.im_mtree.specs.Kept.{IsFrontier, KeptRoots}
 use Rattle.im_model.specs.History.{bl_root_of, no_digest, Follow, IsHistory, IsTransaction}
 use Rattle.im_model.specs.Trees.{root}
 use Rattle.im_model.specs.declared.transactions.Transaction.{Transaction}
@@ -33,7 +33,7 @@ next-fits txs before tx h first within is =
     (Follow-item txs (length before) (length before) tx h.follow within refl is, subst Q (sym is) (subst P first tree))
 
 -- what is kept of a tree stays so while an Alh comes behind them
-pub kept-behind : (hash : Hash) (alhs after : List (List ℕ)) (n : ℕ) (digest : List ℕ) (frontier : Kept) → n ≤ length alhs → IsFrontier hash (take n alhs) frontier → after ≡ alhs ++ digest ∷ []
+pub kept-behind : (hash : Hash) (alhs after : List (List ℕ)) (n : ℕ) (digest : List ℕ) (frontier : KeptRoots) → n ≤ length alhs → IsFrontier hash (take n alhs) frontier → after ≡ alhs ++ digest ∷ []
     → IsFrontier hash (take frontier.size after) frontier
 kept-behind hash alhs after n digest frontier within f grown =
     let size : frontier.size ≡ n = f.counted ∙ length-take-le n alhs within in

@@ -17,14 +17,14 @@ use Rattle.im_mtree.specs.PathChecks.{path_checks}
 use Rattle.im_mtree.specs.declared.faults.PathFault.{PathFault}
 use Rattle.im_mtree.proofs.CheckLemmas.{all-hold}
 use Rattle.im_proof.specs.TreeChecks.{inclusion_checks, consistency_checks, last_checks, bl_checks}
-use Rattle.im_proof.specs.ChainChecks.{first_of, end_of, linear_checks, advance_terms, advance_paths, path_checks_of, path_checks_from, advance_checks}
+use Rattle.im_proof.specs.ChainChecks.{first_of, end_of_terms, linear_checks, advance_terms, advance_paths, path_checks_of, path_checks_from, advance_checks}
 use Rattle.im_proof.specs.declared.faults.DualFault.{DualFault}
 use Rattle.im_proof.specs.declared.faults.DualFault.TheVariants.{InclusionLength, InclusionRoot, ConsistencyLength, ConsistencyOld, ConsistencyNew, LastLength, LastRoot, BlAlh, LinearLength, LinearStart, LinearEnd, AdvanceLength, AdvanceCount, AdvancePathLength, AdvancePathRoot, AdvanceEnd}
 use Rattle.im_pairs.specs.Pairs.{AreDigests, AreAmong}
 use Rattle.im_pairs.specs.Leads.{Leads}
 use Rattle.im_pairs.proofs.PairLemmas.{AreAmong-head, AreAmong-tail, AreAmong-cons}
 use Rattle.im_carried.specs.Opened.{Links, Lies}
-use Rattle.im_carried.specs.Shown.{Walks, Advances, Grows}
+use Rattle.im_carried.specs.Shown.{Walks, Advances, GrowsTree}
 use Rattle.im_carried.specs.Hashed.{path_strings, inclusion_strings, grown_strings, last_strings, linear_strings, walk_strings, advance_strings}
 use Rattle.im_carried.proofs.HeldLemmas.{first-holds}
 use Rattle.im_mtree.proofs.CheckLemmas.{each-holds}
@@ -94,7 +94,7 @@ last-shown hash size root alh path strings some digests e among =
 
 -- a consistency list of the exact length that gives both roots
 grows-by : (hash : Hash) (m n : ℕ) (a b : List ℕ) (list strings : List (List ℕ)) → 0 < m → m < n → AreDigests list → length list ≡ consistency_length m n
-    → older_root hash m n a list ≡ a → newer_root hash m n a list ≡ b → AreAmong (consistency_strings hash m n list) strings → Grows hash m n a b strings
+    → older_root hash m n a list ≡ a → newer_root hash m n a list ≡ b → AreAmong (consistency_strings hash m n list) strings → GrowsTree hash m n a b strings
 grows-by hash m n a b [] strings some less digests long old new among =
     absurd (let same : m ≡ n = (consistency-fits m n [] some (omega arith)).1 long in omega arith)
 grows-by hash m n a b (first ∷ others) strings some less digests long old new among = record {
@@ -110,7 +110,7 @@ grows-by hash m n a b (first ∷ others) strings some less digests long old new 
 
 -- the consistency list
 pub grown-shown : (hash : Hash) (m n : ℕ) (a b : List ℕ) (list strings : List (List ℕ)) → 0 < m → m < n → AreDigests list
-    → first_fail (consistency_checks hash m n a b list) ≡ Ok tt → AreAmong (grown_strings hash m n list) strings → Grows hash m n a b strings
+    → first_fail (consistency_checks hash m n a b list) ≡ Ok tt → AreAmong (grown_strings hash m n list) strings → GrowsTree hash m n a b strings
 grown-shown hash m n a b list strings some less digests e among =
     let due : (nat_lt 0 m && nat_lt m n) ≡ true = ap (λ (t : Bool). t && nat_lt m n) (lt-ltb 0 m some) ∙ lt-ltb m n less in
     let long : Check DualFault = (nat_eq (length list) (consistency_length m n), ConsistencyLength (consistency_length m n) (length list)) in
@@ -159,7 +159,7 @@ pub linear-shown : (hash : Hash) (from to : ℕ) (start end : List ℕ) (terms s
 linear-shown hash from to start end terms strings order e among =
     let long : Check DualFault = (nat_eq (length terms) (to - from + 1), LinearLength (to - from + 1) (length terms)) in
     let starts : Check DualFault = (bytes_eq (first_of terms) start, LinearStart start (first_of terms)) in
-    let ends : Check DualFault = (bytes_eq (end_of hash from terms) end, LinearEnd end (end_of hash from terms)) in
+    let ends : Check DualFault = (bytes_eq (end_of_terms hash from terms) end, LinearEnd end (end_of_terms hash from terms)) in
     let one = first-holds {F = DualFault} long (starts ∷ ends ∷ []) e in
     let two = first-holds {F = DualFault} starts (ends ∷ []) one.1 in
     let three = first-holds {F = DualFault} ends [] two.1 in
@@ -169,7 +169,7 @@ linear-shown hash from to start end terms strings order e among =
     record {
       inners = drop 1 terms;
       long = omega arith;
-      ends = ap (λ (a : List ℕ). chain hash a from (drop 1 terms)) (sym is) ∙ (bytes_eq-Decides (end_of hash from terms) end).0 three.0;
+      ends = ap (λ (a : List ℕ). chain hash a from (drop 1 terms)) (sym is) ∙ (bytes_eq-Decides (end_of_terms hash from terms) end).0 three.0;
       among = subst (λ (a : List ℕ). AreAmong (chain_strings hash a from (drop 1 terms)) strings) is among;
     }
 
@@ -210,7 +210,7 @@ advance-shown hash a e size root end terms paths strings within digests lists he
       let due : nat_le e (a + 1) ≡ false = lt-leb e (a + 1) more in
       let long : Check DualFault = (nat_eq (length terms) (advance_terms a e), AdvanceLength (advance_terms a e) (length terms)) in
       let count : Check DualFault = (nat_eq (length paths) (advance_paths a e), AdvanceCount (advance_paths a e) (length paths)) in
-      let ends : Check DualFault = (bytes_eq (end_of hash (a + 1) terms) end, AdvanceEnd end (end_of hash (a + 1) terms)) in
+      let ends : Check DualFault = (bytes_eq (end_of_terms hash (a + 1) terms) end, AdvanceEnd end (end_of_terms hash (a + 1) terms)) in
       let walk : List (Check DualFault) = path_checks_from hash size root (a + 1) (first_of terms) (drop 1 terms) paths in
       let one = first-holds {F = DualFault} long (count ∷ (if nat_eq (length terms) 0 then [] else walk ++ ends ∷ [])) held in
       let two = first-holds {F = DualFault} count (if nat_eq (length terms) 0 then [] else walk ++ ends ∷ []) one.1 in
@@ -225,6 +225,6 @@ advance-shown hash a e size root end terms paths strings within digests lists he
       let all : AreAmong (walk_strings hash size (a + 1) (first_of terms) (drop 1 terms) paths) strings =
       subst (λ (t : Bool). AreAmong (if t then [] else walk_strings hash size (a + 1) (first_of terms) (drop 1 terms) paths) strings) none among in
       let shown = walks-shown hash size (a + 1) root (first_of terms) (drop 1 terms) paths end strings (omega arith) (omega arith) (omega arith) lists parts.0
-      ((bytes_eq-Decides (end_of hash (a + 1) terms) end).0 last.0) all in
+      ((bytes_eq-Decides (end_of_terms hash (a + 1) terms) end).0 last.0) all in
       inr (more, first_of terms, drop 1 terms, digests 0 [] (omega arith), omega arith, shown.0, shown.1))
 ]

@@ -22,7 +22,7 @@ Advances hash size root a e end strings =
     × Walks hash size root first (a + 1) inners end strings × AreAmong (chain_strings hash first (a + 1) inners) strings)
 
 -- a consistency list from one size and root to another
-pub record Grows (hash : Hash) (m n : ℕ) (old_root new_root : List ℕ) (strings : List (List ℕ)) : Type 0 where
+pub record GrowsTree (hash : Hash) (m n : ℕ) (old_root new_root : List ℕ) (strings : List (List ℕ)) : Type 0 where
   pub first : List ℕ
   pub terms : List (List ℕ)
   pub first_long : length first ≡ 32
@@ -45,7 +45,7 @@ pub record ShowsDual (hash : Hash) (source target : Header) (tip : List ℕ) (st
   pub inclusion : source.id < target.bl_tx_id → Lies hash target.bl_tx_id target.bl_root source.id (alh hash source) strings
   pub kept : 0 < source.bl_tx_id → source.bl_tx_id ≡ target.bl_tx_id → source.bl_root ≡ target.bl_root
   pub grown : 0 < source.bl_tx_id → source.bl_tx_id < target.bl_tx_id
-      → Grows hash source.bl_tx_id target.bl_tx_id source.bl_root target.bl_root strings
+      → GrowsTree hash source.bl_tx_id target.bl_tx_id source.bl_root target.bl_root strings
   pub last : 0 < target.bl_tx_id → Lies hash target.bl_tx_id target.bl_root target.bl_tx_id tip strings
   pub at_tip : source.id ≡ target.bl_tx_id → tip ≡ alh hash source
   pub far : source.id < target.bl_tx_id → Links hash tip target.bl_tx_id target.id (alh hash target) strings

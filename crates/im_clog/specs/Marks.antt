@@ -11,7 +11,7 @@ mark_at log gate = record { first = first_at log gate; count = number_at log gat
 
 -- why no batch counts at a gate: there is no octet; or another octet than 01 stands there; or the gate is open, and
 -- not all octets up to the next gate's are there
-abbrev pub Lacks : List ℕ → ℕ → Uncounted → Type 0
-Lacks log gate Missing = length log ≤ gate
-Lacks log gate (Closed octet) = (gate < length log) × (octet ≡ slice_index_or log gate 0) × (octet ≢ 1)
-Lacks log gate (Short len) = (slice_index_or log gate 0 ≡ 1) × (len ≡ length log) × (length log ≤ gate + 25)
+abbrev pub IsUncounted : List ℕ → ℕ → Uncounted → Type 0
+IsUncounted log gate Missing = length log ≤ gate
+IsUncounted log gate (Closed octet) = (gate < length log) × (octet ≡ slice_index_or log gate 0) × (octet ≢ 1)
+IsUncounted log gate (Short len) = (slice_index_or log gate 0 ≡ 1) × (len ≡ length log) × (length log ≤ gate + 25)

@@ -3,7 +3,7 @@
 ghost use Rattle.std.specs.Prelude.{◌≡◌, ◌<◌, ◌^◌, ◌++◌, ◌∷◌, ◌↔◌, ℕ, List, length, IsTrue};
 ghost use Rattle.im_format.specs.Batches.{Counts, batch_octets};
 ghost use Rattle.im_format.specs.Reading.{counts};
-ghost use Rattle.im_clog.specs.Marks.{mark_at, Lacks};
+ghost use Rattle.im_clog.specs.Marks.{mark_at, IsUncounted};
 ghost use Rattle.im_clog.specs.declared.marks.Uncounted.{Uncounted};
 
 /// The test of a gate says that a batch counts exactly where it does.
@@ -23,6 +23,6 @@ pub fn a_staged_batch_is_read_back()
 
 /// At most one reason holds at a gate, and none where a batch counts.
 pub fn one_reason_holds()
-    ensures one { (log : List ℕ) (gate : ℕ) (a b : Uncounted) → Lacks log gate a → Lacks log gate b → a ≡ b }
-    ensures none { (log : List ℕ) (gate : ℕ) (a : Uncounted) → Lacks log gate a → Counts log gate → ⊥ }
+    ensures one { (log : List ℕ) (gate : ℕ) (a b : Uncounted) → IsUncounted log gate a → IsUncounted log gate b → a ≡ b }
+    ensures none { (log : List ℕ) (gate : ℕ) (a : Uncounted) → IsUncounted log gate a → Counts log gate → ⊥ }
 {}

@@ -1,7 +1,7 @@
 ghost use Rattle.std.specs.Prelude.{◌≡◌, ◌≤◌, ◌+◌, ◌↔◌, length, IfOk, IfErr, IsOk};
 ghost use Rattle.im_format.specs.Batches.{Counts};
 ghost use Rattle.im_format.specs.Reading.{number8};
-ghost use Rattle.im_clog.specs.Marks.{mark_at, Lacks};
+ghost use Rattle.im_clog.specs.Marks.{mark_at, IsUncounted};
 
 use im_format::files::BATCH_OCTETS;
 
@@ -42,7 +42,7 @@ pub enum Uncounted {
 pub fn batch_at(log: &[u8], gate: usize) -> Result<Mark, Uncounted>
     ensures counts { IsOk result ↔ Counts log.now gate }
     ensures mark { IfOk result (λ mark. mark ≡ mark_at log.now gate) }
-    ensures reason { IfErr result (λ reason. Lacks log.now gate reason) }
+    ensures reason { IfErr result (λ reason. IsUncounted log.now gate reason) }
 {
     let Some(octet) = log.get(gate) else {
         return Err(Uncounted::Missing);

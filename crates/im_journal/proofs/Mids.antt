@@ -11,8 +11,8 @@ use Rattle.im_format.specs.Standing.{Stands}
 use Rattle.im_format.specs.declared.records.Record.{Record}
 use Rattle.im_format.specs.declared.spans.Span.{Span}
 use Rattle.im_journal.specs.Holding.{AreFirst, AreNext, IsResting, ends_of}
-use Rattle.im_journal.specs.Kept.{CanStage, HasSealed, HasStaged, IsAt, IsAtRest, IsInBatch, Kept, StandsBy}
-use Rattle.im_journal.specs.Phases.{FitsDisk, IsDone, IsEither, IsGated, IsOpened, IsSafe, IsSealed, IsStaging}
+use Rattle.im_journal.specs.Kept.{CanStage, HasSealed, HasStaged, IsAtStep, IsAtRest, IsInBatch, Kept, StandsBy}
+use Rattle.im_journal.specs.Phases.{FitsDisk, IsDone, IsEither, IsGated, HasOpenGate, IsSafe, IsSealed, IsStaging}
 use Rattle.im_journal.specs.Pieces.{end_of, ends_after, pieces_of}
 use Rattle.im_journal.specs.declared.batches.Step.{Step}
 use Rattle.im_journal.specs.declared.batches.Step.TheVariants.{Idle, Staging, Staged, Sealed, Gated}
@@ -69,12 +69,12 @@ module _ {D : Type 0} (told : D → Option Told) (hash : Hash) (history : List T
   mid_safe : (image : Files) → IsSafe (end_of k.ends) (spans_of batches) (gate_of (length batches)) image → Stands hash image (take k.durable history)
   mid_safe = safe_stands hash history batches k.durable k.ends mid.first
 
-  mid_opened : (image : Files) → IsOpened (end_of k.ends) (spans_of batches ++ k.batch.pieces) (gate_of (length batches)) image → Stands hash image (take (k.durable + length rs) history)
+  mid_opened : (image : Files) → HasOpenGate (end_of k.ends) (spans_of batches ++ k.batch.pieces) (gate_of (length batches)) image → Stands hash image (take (k.durable + length rs) history)
   mid_opened image opened =
       stands hash history (batches ++ rs ∷ []) (k.durable + length rs) (first_more hash history batches k.durable mid_first rs mid.next) image
       (batch_safe hash history batches k.durable rs mid_first mid.next image
-      (subst (λ (e : List ℕ). IsOpened (end_of e) (spans_of batches ++ pieces_of (ends_of batches) (k.durable + 1) rs) (gate_of (length batches)) image) mid.first.ends_are
-      (subst (λ (ps : List Span). IsOpened (end_of k.ends) (spans_of batches ++ ps) (gate_of (length batches)) image) pieces_are opened)))
+      (subst (λ (e : List ℕ). HasOpenGate (end_of e) (spans_of batches ++ pieces_of (ends_of batches) (k.durable + 1) rs) (gate_of (length batches)) image) mid.first.ends_are
+      (subst (λ (ps : List Span). HasOpenGate (end_of k.ends) (spans_of batches ++ ps) (gate_of (length batches)) image) pieces_are opened)))
 
   mid_either : (image : Files) → IsEither (end_of k.ends) (spans_of batches) (gate_of (length batches)) k.batch.pieces image → StandsBy Gated hash history k.durable (length rs) image
   mid_either image (inl safe) = inl (mid_safe image safe)
@@ -86,10 +86,10 @@ module _ {D : Type 0} (told : D → Option Told) (hash : Hash) (history : List T
   pub leaves_either : (a b : Option Told) → Leaves (IsEither (end_of k.ends) (spans_of batches) (gate_of (length batches)) k.batch.pieces) a b → Leaves (StandsBy Gated hash history k.durable (length rs)) a b
   leaves_either a b l = leaves_weaker (IsEither (end_of k.ends) (spans_of batches) (gate_of (length batches)) k.batch.pieces) (StandsBy Gated hash history k.durable (length rs)) mid_either a b l
 
-  pub at_step : (s : Step) → k.batch.step ≡ s → IsAt s (told k.disk) (end_of k.ends) (spans_of batches) (gate_of (length batches)) k.batch.pieces k.batch.written
-  at_step s is = subst (λ s. IsAt s (told k.disk) (end_of k.ends) (spans_of batches) (gate_of (length batches)) k.batch.pieces k.batch.written) is mid.at
+  pub at_step : (s : Step) → k.batch.step ≡ s → IsAtStep s (told k.disk) (end_of k.ends) (spans_of batches) (gate_of (length batches)) k.batch.pieces k.batch.written
+  at_step s is = subst (λ s. IsAtStep s (told k.disk) (end_of k.ends) (spans_of batches) (gate_of (length batches)) k.batch.pieces k.batch.written) is mid.at
 
-  stands_at : (s : Step) → IsAt s (told k.disk) (end_of k.ends) (spans_of batches) (gate_of (length batches)) k.batch.pieces k.batch.written → LeavesNow (StandsBy s hash history k.durable (length rs)) (told k.disk)
+  stands_at : (s : Step) → IsAtStep s (told k.disk) (end_of k.ends) (spans_of batches) (gate_of (length batches)) k.batch.pieces k.batch.written → LeavesNow (StandsBy s hash history k.durable (length rs)) (told k.disk)
   stands_at Idle at = absurd at
   stands_at Staging at = if_told (IsStaging (end_of k.ends) (spans_of batches) (gate_of (length batches)) (take k.batch.written k.batch.pieces) (drop k.batch.written k.batch.pieces)) (λ t. _) (λ t h image now. mid_safe image (h.safe image now)) (told k.disk) at
   stands_at Staged at = if_told (IsStaging (end_of k.ends) (spans_of batches) (gate_of (length batches)) k.batch.pieces []) (λ t. _) (λ t h image now. mid_safe image (h.safe image now)) (told k.disk) at

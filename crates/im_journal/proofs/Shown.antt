@@ -16,7 +16,7 @@ use Rattle.im_format.specs.declared.records.Record.{Record}
 use Rattle.im_format.specs.declared.references.ValueRef.{ValueRef}
 use Rattle.im_format.specs.declared.spans.Span.{Span}
 use Rattle.im_journal.specs.Holding.{IsResting}
-use Rattle.im_journal.specs.Kept.{IsAt, Kept}
+use Rattle.im_journal.specs.Kept.{IsAtStep, Kept}
 use Rattle.im_journal.specs.Phases.{IsGated, IsSealed, IsStaging}
 use Rattle.im_journal.specs.Values.{HasValue, HoldsBatches}
 use Rattle.im_journal.specs.Pieces.{end_of}
@@ -104,7 +104,7 @@ value_shows hash history image batches value ref are reads has =
     (record { shown_as = shown_is hash (1 + has.number) has.entry.value ref image entry.0 entry.1; hval = entry.0.hval })
 
 -- what stood before a batch reads at each step of it
-spans_at : (s : Step) (o : Option Told) (ends : ℕ → ℕ) (spans : List Span) (gate : ℕ) (pieces : List Span) (written : ℕ) → IsAt s o ends spans gate pieces written → IfSome o (λ t. All (Reads (seen t)) spans)
+spans_at : (s : Step) (o : Option Told) (ends : ℕ → ℕ) (spans : List Span) (gate : ℕ) (pieces : List Span) (written : ℕ) → IsAtStep s o ends spans gate pieces written → IfSome o (λ t. All (Reads (seen t)) spans)
 spans_at Idle o ends spans gate pieces written at = absurd at
 spans_at Staging o ends spans gate pieces written at =
     if_told (IsStaging ends spans gate (take written pieces) (drop written pieces)) (λ t. All (Reads (seen t)) spans) (λ t h. all-left (Reads (seen t)) spans (take written pieces) h.here.reads) o at

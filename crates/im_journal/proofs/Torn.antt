@@ -5,7 +5,7 @@ use Rattle.im_format.specs.declared.spans.Span.{Span}
 use Rattle.im_format.specs.Spans.{octet_span}
 use Rattle.im_alog.proofs.Torn.{keeps, keeps_all, same_all, same_reads}
 use Rattle.im_alog.proofs.Outcomes.{keeps_long as ends_kept}
-use Rattle.im_journal.specs.Phases.{IsClosed, IsLong, IsSafe, IsClear}
+use Rattle.im_journal.specs.Phases.{IsClosed, ReachesEnds, IsSafe, IsClear}
 
 pub keeps_closed : (file at n gate : ℕ) (old new : Files) → TornFile file at n old new → (file ≡ 1 → gate + 1 ≤ at) → IsClosed old gate → IsClosed new gate
 keeps_closed file at n gate old new torn clear c = record {
@@ -15,7 +15,7 @@ keeps_closed file at n gate old new torn clear c = record {
 }
 
 -- a torn write shortens no file
-pub keeps_long : (file at n : ℕ) (ends : ℕ → ℕ) (old new : Files) → TornFile file at n old new → IsLong ends old → IsLong ends new
+pub keeps_long : (file at n : ℕ) (ends : ℕ → ℕ) (old new : Files) → TornFile file at n old new → ReachesEnds ends old → ReachesEnds ends new
 keeps_long file at n ends old new torn h = record { long = ends_kept ends file at n old new torn h.long }
 
 pub keeps_safe : (ends : ℕ → ℕ) (spans : List Span) (gate : ℕ) (p : Span) (old new : Files) → TornFile p.file p.at (length p.octets) old new → IsClear spans gate p
@@ -26,7 +26,7 @@ keeps_safe ends spans gate p old new torn clear safe = record {
   closed = keeps_closed p.file p.at (length p.octets) gate old new torn clear.behind safe.closed;
 }
 
-pub same_long : (ends : ℕ → ℕ) (old new : Files) → ((k : ℕ) → new k ≡ old k) → IsLong ends old → IsLong ends new
+pub same_long : (ends : ℕ → ℕ) (old new : Files) → ((k : ℕ) → new k ≡ old k) → ReachesEnds ends old → ReachesEnds ends new
 same_long ends old new same h = record { long = λ k. subst (λ (l : List ℕ). ends k ≤ length l) (sym (same k)) (h.long k) }
 
 pub same_safe : (ends : ℕ → ℕ) (spans : List Span) (gate : ℕ) (old new : Files) → ((k : ℕ) → new k ≡ old k) → IsSafe ends spans gate old → IsSafe ends spans gate new

@@ -15,7 +15,7 @@ use Rattle.im_format.specs.Spans.{Reads, octet_span}
 use Rattle.im_format.specs.declared.records.Record.{Record}
 use Rattle.im_format.specs.declared.spans.Span.{Span}
 use Rattle.im_journal.specs.Holding.{AreFirst, AreNext, ends_of}
-use Rattle.im_journal.specs.Phases.{IsClosed, IsLong, IsOpened, IsSafe}
+use Rattle.im_journal.specs.Phases.{IsClosed, ReachesEnds, HasOpenGate, IsSafe}
 use Rattle.im_journal.specs.Pieces.{end_of, ends_after, log_pieces, pieces_of, value_piece, value_pieces}
 use Rattle.im_journal.proofs.Calls.{closed_long}
 use Rattle.im_journal.proofs.Limits.{first_number}
@@ -153,7 +153,7 @@ module _ (hash : Hash) (history : List Transaction) (batches : List (List Record
       six a a2 b b2 c c2 d d2 e e2 f f2 p q r s t u = cc
 
   -- no file is shorter than its end behind the batch
-  long_after : (image : Files) → IsLong (end_of (ends_of batches)) image → All (Reads image) (pieces_of (ends_of batches) (durable + 1) rs) → (k : ℕ) → end_of (ends_after (ends_of batches) (durable + 1) rs) k ≤ length (image k)
+  long_after : (image : Files) → ReachesEnds (end_of (ends_of batches)) image → All (Reads image) (pieces_of (ends_of batches) (durable + 1) rs) → (k : ℕ) → end_of (ends_after (ends_of batches) (durable + 1) rs) k ≤ length (image k)
   long_after image long h zero = reads_long image 0 (length (records_octets 1 (joined batches))) octets (records_read image h) (long.long 0)
   long_after image long h (suc zero) = omega (arith, closed_long image (gate_of (length batches) + 25) (next_closed image h))
   long_after image long h (suc (suc zero)) = reads_long image 2 (before 0) (log_values 0 rs) (values_of image h 0 (omega arith)) (long.long 2)
@@ -162,7 +162,7 @@ module _ (hash : Hash) (history : List Transaction) (batches : List (List Record
   long_after image long h (suc (suc (suc (suc (suc zero))))) = reads_long image 5 (before 3) (log_values 3 rs) (values_of image h 3 (omega arith)) (long.long 5)
   long_after image long h (suc (suc (suc (suc (suc (suc k)))))) = omega arith
 
-  pub batch_safe : (image : Files) → IsOpened (end_of (ends_of batches)) (spans_of batches ++ pieces_of (ends_of batches) (durable + 1) rs) (gate_of (length batches)) image
+  pub batch_safe : (image : Files) → HasOpenGate (end_of (ends_of batches)) (spans_of batches ++ pieces_of (ends_of batches) (durable + 1) rs) (gate_of (length batches)) image
       → IsSafe (end_of (ends_of (batches ++ rs ∷ []))) (spans_of (batches ++ rs ∷ [])) (gate_of (length (batches ++ rs ∷ []))) image
   batch_safe image opened =
       let R = Reads image in

@@ -54,12 +54,12 @@ pub record IsAtRest {D : Type 0} (told : D → Option Told) (hash : Hash) (histo
   pub resting : IfSome (told k.disk) (IsResting batches k.ends)
 
 -- how far the disk is with a batch
-abbrev pub IsAt : Step → Option Told → (ℕ → ℕ) → List Span → ℕ → List Span → ℕ → Type 0
-IsAt Idle told ends spans gate pieces written = ⊥
-IsAt Staging told ends spans gate pieces written = IfSome told (IsStaging ends spans gate (take written pieces) (drop written pieces))
-IsAt Staged told ends spans gate pieces written = IfSome told (IsStaging ends spans gate pieces [])
-IsAt Sealed told ends spans gate pieces written = IfSome told (IsSealed ends spans gate pieces)
-IsAt Gated told ends spans gate pieces written = IfSome told (IsGated ends spans gate pieces)
+abbrev pub IsAtStep : Step → Option Told → (ℕ → ℕ) → List Span → ℕ → List Span → ℕ → Type 0
+IsAtStep Idle told ends spans gate pieces written = ⊥
+IsAtStep Staging told ends spans gate pieces written = IfSome told (IsStaging ends spans gate (take written pieces) (drop written pieces))
+IsAtStep Staged told ends spans gate pieces written = IfSome told (IsStaging ends spans gate pieces [])
+IsAtStep Sealed told ends spans gate pieces written = IfSome told (IsSealed ends spans gate pieces)
+IsAtStep Gated told ends spans gate pieces written = IfSome told (IsGated ends spans gate pieces)
 
 -- a batch of these records is in progress, behind these batches: the first `durable` of the placed history
 pub record IsInBatch {D : Type 0} (told : D → Option Told) (hash : Hash) (history : List Transaction) (batches : List (List Record)) (rs : List Record) (k : Kept D) : Type 0 where
@@ -68,7 +68,7 @@ pub record IsInBatch {D : Type 0} (told : D → Option Told) (hash : Hash) (hist
   pub pieces : k.batch.pieces ≡ pieces_of k.ends (k.durable + 1) rs
   pub ends : k.batch.ends ≡ ends_after k.ends (k.durable + 1) rs
   pub count : k.batch.count ≡ length rs
-  pub at : IsAt k.batch.step (told k.disk) (end_of k.ends) (spans_of batches) (gate_of (length batches)) k.batch.pieces k.batch.written
+  pub at : IsAtStep k.batch.step (told k.disk) (end_of k.ends) (spans_of batches) (gate_of (length batches)) k.batch.pieces k.batch.written
 
 -- a batch of the records rs is in progress, or can be begun with them where they are those handed in
 abbrev pub CanStage : {D : Type 0} → (D → Option Told) → Hash → List Transaction → List (List Record) → List Record → List Record → Kept D → Type 0

@@ -11,19 +11,19 @@ pub record IsClosed (image : Files) (gate : ℕ) : Type 0 where
   pub reads : Reads image (octet_span 1 gate octet)
 
 -- no file is shorter than its end
-pub record IsLong (ends : ℕ → ℕ) (image : Files) : Type 0 where
+pub record ReachesEnds (ends : ℕ → ℕ) (image : Files) : Type 0 where
   pub long : (k : ℕ) → ends k ≤ length (image k)
 
 -- the image has these spans, and a closed gate behind them
 pub record IsSafe (ends : ℕ → ℕ) (spans : List Span) (gate : ℕ) (image : Files) : Type 0 where
   pub reads : All (Reads image) spans
-  pub long : IsLong ends image
+  pub long : ReachesEnds ends image
   pub closed : IsClosed image gate
 
 -- the image has these spans, and the gate is open
-pub record IsOpened (ends : ℕ → ℕ) (spans : List Span) (gate : ℕ) (image : Files) : Type 0 where
+pub record HasOpenGate (ends : ℕ → ℕ) (spans : List Span) (gate : ℕ) (image : Files) : Type 0 where
   pub reads : All (Reads image) spans
-  pub long : IsLong ends image
+  pub long : ReachesEnds ends image
   pub opened : Reads image (octet_span 1 gate 1)
 
 -- a piece that lies outside of these spans and behind the gate
@@ -53,17 +53,17 @@ pub record IsSealed (ends : ℕ → ℕ) (spans : List Span) (gate : ℕ) (piece
 
 -- without the batch, or with it
 abbrev pub IsEither : (ℕ → ℕ) → List Span → ℕ → List Span → Files → Type 0
-IsEither ends spans gate pieces image = IsSafe ends spans gate image ⊎ IsOpened ends (spans ++ pieces) gate image
+IsEither ends spans gate pieces image = IsSafe ends spans gate image ⊎ HasOpenGate ends (spans ++ pieces) gate image
 
 -- The gate is written, and not yet durable.
 pub record IsGated (ends : ℕ → ℕ) (spans : List Span) (gate : ℕ) (pieces : List Span) (t : Told) : Type 0 where
   pub either : (image : Files) → Images t image → IsEither ends spans gate pieces image
-  pub here : IsOpened ends (spans ++ pieces) gate (seen t)
+  pub here : HasOpenGate ends (spans ++ pieces) gate (seen t)
 
 -- All is durable.
 pub record IsDone (ends : ℕ → ℕ) (spans : List Span) (gate : ℕ) (pieces : List Span) (t : Told) : Type 0 where
-  pub opened : (image : Files) → Images t image → IsOpened ends (spans ++ pieces) gate image
-  pub here : IsOpened ends (spans ++ pieces) gate (seen t)
+  pub opened : (image : Files) → Images t image → HasOpenGate ends (spans ++ pieces) gate image
+  pub here : HasOpenGate ends (spans ++ pieces) gate (seen t)
 
 -- a piece that a disk takes
 pub record FitsDisk (p : Span) : Type 0 where

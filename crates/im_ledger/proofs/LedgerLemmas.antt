@@ -4,7 +4,7 @@ use Rattle.std.proofs.Math.Seq.{take-length}
 use Rattle.std.proofs.lemmas.List.{take-append-le, length-take-le}
 use Rattle.std.proofs.lemmas.List.Elements.{All-nil, All-push}
 use Rattle.im_digest.specs.Digests.{Hash}
-use Rattle.im_mtree.specs.Kept.{IsFrontier, Kept}
+use Rattle.im_mtree.specs.Kept.{IsFrontier, KeptRoots}
 use Rattle.im_model.specs.Headers.{alh}
 use Rattle.im_model.specs.History.{alhs_of, bl_root_of, header_of, next_header, no_digest, no_transaction, Follow, IsTransaction}
 use Rattle.im_model.specs.Trees.{root}
@@ -25,7 +25,7 @@ held-same P a b transactions headers alhs tree frontier root p =
     let B : List Header → Type 0 = λ hs. P (record { transactions = b.transactions; headers = hs; alhs = a.alhs; tree = a.tree; frontier = a.frontier; root = a.root }) in
     let C : List (List ℕ) → Type 0 = λ ds. P (record { transactions = b.transactions; headers = b.headers; alhs = ds; tree = a.tree; frontier = a.frontier; root = a.root }) in
     let D : List (List ℕ) → Type 0 = λ ds. P (record { transactions = b.transactions; headers = b.headers; alhs = b.alhs; tree = ds; frontier = a.frontier; root = a.root }) in
-    let E : Kept → Type 0 = λ k. P (record { transactions = b.transactions; headers = b.headers; alhs = b.alhs; tree = b.tree; frontier = k; root = a.root }) in
+    let E : KeptRoots → Type 0 = λ k. P (record { transactions = b.transactions; headers = b.headers; alhs = b.alhs; tree = b.tree; frontier = k; root = a.root }) in
     let F : List ℕ → Type 0 = λ r. P (record { transactions = b.transactions; headers = b.headers; alhs = b.alhs; tree = b.tree; frontier = b.frontier; root = r }) in
     subst A (sym transactions) (subst B (sym headers) (subst C (sym alhs) (subst D (sym tree) (subst E (sym frontier) (subst F (sym root) p)))))
 
@@ -94,7 +94,7 @@ ledger-placed hash before after tx l room is over transactions headers alhs tree
     held-same (IsLedger hash) after (grown_by hash before tx) transactions headers alhs tree frontier root (ledger-grown hash before tx l room is over)
 
 -- the lists with a tree of the first Alh, and this kept of it
-abbrev pub raised_to : Held → ℕ → Kept → List ℕ → Held
+abbrev pub raised_to : Held → ℕ → KeptRoots → List ℕ → Held
 raised_to held end frontier top = record {
   transactions = held.transactions;
   headers = held.headers;
@@ -105,7 +105,7 @@ raised_to held end frontier top = record {
 }
 
 -- a ledger whose tree is raised, where what is kept of the tree is that of its leaves
-pub ledger-raised : (hash : Hash) (held : Held) (end : ℕ) (frontier : Kept) (top : List ℕ) → IsLedger hash held → length held.tree ≤ end → end ≤ length held.transactions
+pub ledger-raised : (hash : Hash) (held : Held) (end : ℕ) (frontier : KeptRoots) (top : List ℕ) → IsLedger hash held → length held.tree ≤ end → end ≤ length held.transactions
     → IsFrontier hash (take end held.alhs) frontier → top ≡ bl_root_of hash (take end held.alhs) (length (take end held.alhs)) → IsLedger hash (raised_to held end frontier top)
 ledger-raised hash held end frontier top l up inside kept told =
     let leaves : List (List ℕ) = take end held.alhs in
@@ -140,7 +140,7 @@ ledger-empty hash held transactions headers alhs tree kept top =
     })
 
 -- the lists of a ledger are a book
-pub book-within : (hash : Hash) (held : Held) (book : Booked) (tree : List (List ℕ)) (frontier : Kept) (root : List ℕ)
+pub book-within : (hash : Hash) (held : Held) (book : Booked) (tree : List (List ℕ)) (frontier : KeptRoots) (root : List ℕ)
     → record { transactions = book.transactions; headers = book.headers; alhs = book.alhs; tree = tree; frontier = frontier; root = root } ≡ held → IsLedger hash held → IsBook hash book
 book-within hash held book tree frontier root same l =
     let own : IsLedger hash (record { transactions = book.transactions; headers = book.headers; alhs = book.alhs; tree = tree; frontier = frontier; root = root }) = subst (IsLedger hash) (sym same) l in

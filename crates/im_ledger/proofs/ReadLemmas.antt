@@ -2,7 +2,7 @@
 use Rattle.std.proofs.Common.{◌≡◌, ◌≤◌, ◌+◌, ◌-◌, ℕ, List, [], length, get_or, refl, arith, ap, subst, ◌∙◌, sym, ne_eqb, if◌then◌else◌, All}
 use Rattle.std.proofs.Math.Seq.{take-length}
 use Rattle.im_digest.specs.Digests.{Hash}
-use Rattle.im_mtree.specs.Kept.{IsFrontier, Kept}
+use Rattle.im_mtree.specs.Kept.{IsFrontier, KeptRoots}
 use Rattle.im_model.specs.History.{alh_of, alhs_of, bl_root_of, first_alh, IsHistory}
 use Rattle.im_model.specs.declared.transactions.Transaction.{Transaction}
 use Rattle.im_model.proofs.HistoryLemmas.{Follow-at, length-alhs_of}
@@ -25,10 +25,10 @@ linked-all : (txs : List Transaction) → IsHistory txs → All (λ tx. tx.bl �
 linked-all txs h = λ i d lt. omega (arith, lt, (Follow-at 0 0 txs i d h.follow lt).linked)
 
 -- the lists of a history whose tree has it all, and this kept of the tree
-abbrev full : Hash → List Transaction → Kept → List ℕ → Held
+abbrev full : Hash → List Transaction → KeptRoots → List ℕ → Held
 full hash txs frontier top = record { transactions = txs; headers = headers_of hash txs; alhs = alhs_of hash txs; tree = alhs_of hash txs; frontier = frontier; root = top }
 
-full-is : (hash : Hash) (txs : List Transaction) (frontier : Kept) (top : List ℕ) → IsHistory txs → IsFrontier hash (alhs_of hash txs) frontier
+full-is : (hash : Hash) (txs : List Transaction) (frontier : KeptRoots) (top : List ℕ) → IsHistory txs → IsFrontier hash (alhs_of hash txs) frontier
     → top ≡ bl_root_of hash (alhs_of hash txs) (length (alhs_of hash txs)) → IsLedger hash (full hash txs frontier top)
 full-is hash txs frontier top h kept told =
     let many : length (alhs_of hash txs) ≡ length txs = length-alhs_of hash txs in

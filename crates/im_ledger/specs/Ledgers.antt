@@ -1,7 +1,7 @@
 -- What a session has of its history.
 use Rattle.std.specs.Prelude.{◌≡◌, ℕ, ◌≤◌, List, length, take, All}
 use Rattle.im_digest.specs.Digests.{Hash}
-use Rattle.im_mtree.specs.Kept.{IsFrontier, Kept}
+use Rattle.im_mtree.specs.Kept.{IsFrontier, KeptRoots}
 use Rattle.im_model.specs.History.{alhs_of, bl_root_of, IsHistory}
 use Rattle.im_model.specs.declared.headers.Header.{Header}
 use Rattle.im_model.specs.declared.transactions.Transaction.{Transaction}
@@ -13,7 +13,7 @@ pub record Held : Type 0 where
   pub headers : List Header
   pub alhs : List (List ℕ)
   pub tree : List (List ℕ)
-  pub frontier : Kept
+  pub frontier : KeptRoots
   pub root : List ℕ
 
 -- they are those of one history, whose tree lags: it has the first Alh, and at least as many as the tree

@@ -4,16 +4,16 @@ use Rattle.im_digest.specs.Digests.{Hash}
 use Rattle.im_mtree.specs.Subtrees.{subtrees}
 
 -- the roots of the whole subtrees of some leaves, the last first, and the number of leaves
-pub record Kept : Type 0 where
+pub record KeptRoots : Type 0 where
   pub roots : List (List ℕ)
   pub size : ℕ
 
 -- what a stack of roots, the last at its end, and a number of leaves keep
-abbrev pub kept : List (List ℕ) → ℕ → Kept
+abbrev pub kept : List (List ℕ) → ℕ → KeptRoots
 kept stack size = record { roots = reverse stack; size = size }
 
 -- it is what is kept of these leaves
-pub record IsFrontier (hash : Hash) (leaves : List (List ℕ)) (frontier : Kept) : Type 0 where
+pub record IsFrontier (hash : Hash) (leaves : List (List ℕ)) (frontier : KeptRoots) : Type 0 where
   pub counted : frontier.size ≡ length leaves
   pub whole : frontier.roots ≡ subtrees hash leaves (length leaves)
 

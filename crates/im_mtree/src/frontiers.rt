@@ -29,9 +29,9 @@ pub struct Frontier {
 
 impl Model for Frontier {
     ghost use Rattle.std.specs.Prelude.{◌≡◌, ◌<◌, ◌^◌, length};
-    ghost use Rattle.im_mtree.specs.Kept.{Kept, kept, ones};
+    ghost use Rattle.im_mtree.specs.Kept.{KeptRoots, kept, ones};
 
-    ghost Value = { Kept };
+    ghost Value = { KeptRoots };
 
     ghost view = { λ s. kept s.stack.items s.size };
 

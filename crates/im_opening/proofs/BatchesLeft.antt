@@ -13,7 +13,7 @@ use Rattle.im_format.proofs.HeldBatches.{counts-false, counts-true}
 use Rattle.im_mtree.proofs.CheckLemmas.{fail_append}
 use Rattle.im_opening.specs.Answers.{Tells}
 use Rattle.im_opening.specs.Opening.{AreBatches}
-use Rattle.im_opening.specs.Parts.{batches_from, batches_in, place_from, place_in, records_in}
+use Rattle.im_opening.specs.Parts.{batches_from, batches_in, place_from, counted_end, records_in}
 use Rattle.im_opening.specs.declared.errors.OpenError.{OpenError}
 use Rattle.im_opening.specs.declared.errors.OpenError.TheVariants.{DiskFault, Damaged, Memory}
 use Rattle.im_opening.proofs.Finding.{tells-first}
@@ -29,7 +29,7 @@ pub record BatchesLeft (hash : Hash) (image : Files) (gate batches : ℕ) (recor
   pub enough : length (image 1) ≤ gate + most
   pub records_are : records ++ joined (batches_from image most gate r.place) ≡ joined (batches_in image)
   pub batches_are : batches + length (batches_from image most gate r.place) ≡ length (batches_in image)
-  pub place_is : place_from image most gate r.place ≡ place_in image
+  pub place_is : place_from image most gate r.place ≡ counted_end image
   pub finds : first_fail (batches_checks hash image most gate r) ≡ first_fail (image_checks hash image)
 
 pub batches-first : (hash : Hash) (image : Files) → BatchesLeft hash image 0 0 [] at_first
@@ -69,7 +69,7 @@ module _ (hash : Hash) (image : Files) (gate batches : ℕ) (records : List Reco
   next-by : (most : ℕ) → Counts (image 1) gate → length (image 1) ≤ gate + most
       → records ++ joined (batches_from image most gate r.place) ≡ joined (batches_in image)
       → batches + length (batches_from image most gate r.place) ≡ length (batches_in image)
-      → place_from image most gate r.place ≡ place_in image
+      → place_from image most gate r.place ≡ counted_end image
       → first_fail (batches_checks hash image most gate r) ≡ first_fail (image_checks hash image)
       → first_fail (batch_checks hash image gate r) ≡ Ok tt
       → BatchesLeft hash image (gate + 25) (batches + 1) (records ++ records_in image r.place (number_at (image 1) gate))
@@ -125,7 +125,7 @@ module _ (hash : Hash) (image : Files) (gate batches : ℕ) (records : List Reco
   last-by : (most : ℕ) → (Counts (image 1) gate → ⊥)
       → records ++ joined (batches_from image most gate r.place) ≡ joined (batches_in image)
       → batches + length (batches_from image most gate r.place) ≡ length (batches_in image)
-      → place_from image most gate r.place ≡ place_in image
+      → place_from image most gate r.place ≡ counted_end image
       → first_fail (batches_checks hash image most gate r) ≡ first_fail (image_checks hash image)
       → AreBatches image records batches r.place × (first_fail (image_checks hash image) ≡ Ok tt)
   last-by zero none rs bs ps finds = (record { records_are = sym (append-nil records) ∙ rs; batches_are = omega (arith, bs); place_is = ps }, sym finds)

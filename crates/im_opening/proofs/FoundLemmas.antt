@@ -12,7 +12,7 @@ use Rattle.im_journal.specs.Holding.{AreFirst, IsResting}
 use Rattle.im_journal.specs.Phases.{IsSafe}
 use Rattle.im_journal.specs.Pieces.{end_of}
 use Rattle.im_model.specs.History.{IsHistory}
-use Rattle.im_opening.specs.Cut.{IsHeld, IsKept}
+use Rattle.im_opening.specs.Cut.{IsHeld, IsHeldThroughout}
 use Rattle.im_opening.specs.Opening.{ends_behind}
 use Rattle.im_opening.specs.Opens.{AreOpened}
 use Rattle.im_opening.specs.Parts.{batches_in}
@@ -28,7 +28,7 @@ held-safe batches ends image h = record {
   closed = record { octet = h.shut.octet; shut = h.shut.closed; reads = h.shut.reads };
 }
 
-kept-rests : (batches : List (List Record)) (ends : List ℕ) (t : Told) → IsKept batches ends t → IsResting batches ends t
+kept-rests : (batches : List (List Record)) (ends : List ℕ) (t : Told) → IsHeldThroughout batches ends t → IsResting batches ends t
 kept-rests batches ends t k = record { safe = λ image left. held-safe batches ends image (k.each image left); here = held-safe batches ends (seen t) k.here }
 
 -- records that were read, in some batches
@@ -55,7 +55,7 @@ pub record Rests (hash : Hash) (told : Option Told) (opened : Opened) : Type 0 w
   pub first : AreFirst hash (txs_of opened.found.records.items) batches (length opened.found.records.items) opened.ends
   pub resting : IfSome told (IsResting batches opened.ends)
 
-if-kept : (batches : List (List Record)) (ends : List ℕ) (o : Option Told) → IfSome o (IsKept batches ends) → IfSome o (IsResting batches ends)
+if-kept : (batches : List (List Record)) (ends : List ℕ) (o : Option Told) → IfSome o (IsHeldThroughout batches ends) → IfSome o (IsResting batches ends)
 if-kept batches ends None h = tt
 if-kept batches ends (Some t) h = kept-rests batches ends t h
 

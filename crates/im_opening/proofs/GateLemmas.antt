@@ -14,7 +14,7 @@ use Rattle.im_format.specs.declared.spans.Span.{Span}
 use Rattle.im_model.specs.declared.entries.Entry.{Entry}
 use Rattle.im_model.specs.declared.transactions.Transaction.{Transaction}
 use Rattle.im_alog.proofs.Torn.{keeps_all, same_all}
-use Rattle.im_clog.specs.Marks.{Lacks}
+use Rattle.im_clog.specs.Marks.{IsUncounted}
 use Rattle.im_clog.specs.declared.marks.Uncounted.{Uncounted}
 use Rattle.im_clog.specs.declared.marks.Uncounted.TheVariants.{Missing, Closed, Short}
 use Rattle.im_format.specs.Reading.{counts, number_at, records_end}
@@ -22,7 +22,7 @@ use Rattle.im_opening.specs.Parts.{batches_from, batches_in, records_in}
 use Rattle.im_format.proofs.HeldBatches.{true-counts}
 use Rattle.std.proofs.lemmas.Bool.{cases_Bool, cases_lt}
 use Rattle.std.proofs.Common.{if◌then◌else◌}
-use Rattle.im_opening.specs.Cut.{IsCut, IsShut}
+use Rattle.im_opening.specs.Cut.{IsCutOff, IsShut}
 use Rattle.im_octet.specs.Fields.{field8}
 use Rattle.std.proofs.Common.{length-append}
 use Rattle.im_format.proofs.LengthLemmas.{length-fields}
@@ -67,7 +67,7 @@ module _ (gate : ℕ) where
       (spans-miss (g + 25) (id + length batch) (end + length (records_octets id batch)) batches (omega arith))
 
 -- a torn write of the gate leaves what is cut short so
-pub cut-kept : (hash : Hash) (history : List Transaction) (gate : ℕ) (old new : Files) → TornFile 1 gate 1 old new → IsCut hash history gate old → IsCut hash history gate new
+pub cut-kept : (hash : Hash) (history : List Transaction) (gate : ℕ) (old new : Files) → TornFile 1 gate 1 old new → IsCutOff hash history gate old → IsCutOff hash history gate new
 cut-kept hash history gate old new torn cut =
     let s = cut.stands in
     let there = s.there in
@@ -182,13 +182,13 @@ batches-same hash history image n s is none = elim (cases_lt n (length s.batches
 ]
 
 -- nothing counts at a gate where a reason is told
-pub lacks-none : (log : List ℕ) (gate : ℕ) (reason : Uncounted) → Lacks log gate reason → Counts log gate → ⊥
+pub lacks-none : (log : List ℕ) (gate : ℕ) (reason : Uncounted) → IsUncounted log gate reason → Counts log gate → ⊥
 lacks-none log gate Missing h counts = omega (arith, h, counts.whole)
 lacks-none log gate (Closed octet) h counts = h.2 (h.1 ∙ counts.opened)
 lacks-none log gate (Short len) h counts = omega (arith, h.2, counts.whole)
 
 -- a closed gate that was read
-pub shut-read : (image : Files) (gate octet : ℕ) → Lacks (image 1) gate (Closed octet) → IsShut image gate
+pub shut-read : (image : Files) (gate octet : ℕ) → IsUncounted (image 1) gate (Closed octet) → IsShut image gate
 shut-read image gate octet h =
     let log = image 1 in
     let here : drop gate log ≡ get_or log gate 0 ∷ drop (suc gate) log = drop-cons log gate 0 h.0 in

@@ -6,14 +6,14 @@ use Rattle.im_alog.proofs.Outcomes.{keeps_long}
 use Rattle.im_disk.proofs.Tearing.{written_torn}
 use Rattle.im_alog.proofs.Torn.{keeps_all, same_all, same_reads, written_reads}
 use Rattle.im_alog.specs.Holding.{IsDurable}
-use Rattle.im_clog.specs.Marks.{Lacks}
+use Rattle.im_clog.specs.Marks.{IsUncounted}
 use Rattle.im_clog.specs.declared.marks.Uncounted.TheVariants.{Closed}
 use Rattle.im_disk.specs.Disk.{Files, Told, TornFile, seen, with_file, written}
 use Rattle.im_disk.specs.declared.disk.DiskError.{DiskError}
 use Rattle.im_format.specs.Batches.{gate_of, spans_of}
 use Rattle.im_format.specs.Spans.{octet_span}
 use Rattle.im_format.specs.declared.records.Record.{Record}
-use Rattle.im_opening.specs.Cut.{IsHeld, IsKept, IsShut, shut_at}
+use Rattle.im_opening.specs.Cut.{IsHeld, IsHeldThroughout, IsShut, shut_at}
 use Rattle.im_opening.specs.Opening.{IsThere}
 use Rattle.im_opening.specs.Parts.{batches_in}
 use Rattle.im_opening.specs.declared.reading.Opened.{Opened}
@@ -33,19 +33,19 @@ held-same batches ends old new same h = record {
 
 -- where the gate was found closed
 pub kept-closed : (opened : Opened) (t : Told) (octet : ℕ) → IsDurable t → IsThere (seen t) opened → opened.batches ≡ length (batches_in (seen t))
-    → Lacks (seen t 1) (gate_of opened.batches) (Closed octet) → IsKept (batches_in (seen t)) opened.ends t
+    → IsUncounted (seen t 1) (gate_of opened.batches) (Closed octet) → IsHeldThroughout (batches_in (seen t)) opened.ends t
 kept-closed opened t octet durable there many lacks =
     let batches = batches_in (seen t) in
     let here : IsHeld batches opened.ends (seen t) = record {
       reads = there.batches.reads;
       long = there.long;
-      shut = shut-read (seen t) (gate_of (length batches)) octet (subst (λ (n : ℕ). Lacks (seen t 1) (gate_of n) (Closed octet)) many lacks);
+      shut = shut-read (seen t) (gate_of (length batches)) octet (subst (λ (n : ℕ). IsUncounted (seen t 1) (gate_of n) (Closed octet)) many lacks);
     } in
     record { each = λ image left. held-same batches opened.ends (seen t) image (durable image left) here; here = here }
 
 -- and where it was closed
 pub kept-shut : (opened : Opened) (t : Told) (gate : ℕ) → IsThere (seen t) opened → opened.batches ≡ length (batches_in (seen t))
-    → gate ≡ gate_of opened.batches → gate ≤ length (seen t 1) → IsKept (batches_in (seen t)) opened.ends (shut_at gate t)
+    → gate ≡ gate_of opened.batches → gate ≤ length (seen t 1) → IsHeldThroughout (batches_in (seen t)) opened.ends (shut_at gate t)
 kept-shut opened t gate there many at le =
     let old = seen t in
     let batches = batches_in old in
@@ -63,10 +63,10 @@ kept-shut opened t gate there many at le =
 
 -- after a repair that was made
 pub kept-after : {T : Type 0} (opened : Opened) (t : Told) (gate : ℕ) (o n : Option Told) (r : Result T DiskError) → o ≡ Some t
-    → OnOk r (n ≡ option_map (shut_at gate) o) → IsKept (batches_in (seen t)) opened.ends (shut_at gate t)
-    → OnOk r (IfSome n (IsKept (batches_in (seen t)) opened.ends))
+    → OnOk r (n ≡ option_map (shut_at gate) o) → IsHeldThroughout (batches_in (seen t)) opened.ends (shut_at gate t)
+    → OnOk r (IfSome n (IsHeldThroughout (batches_in (seen t)) opened.ends))
 kept-after opened t gate o n (Ok x) is made kept =
-    let P : Option Told → Type 0 = λ m. IfSome m (IsKept (batches_in (seen t)) opened.ends) in
+    let P : Option Told → Type 0 = λ m. IfSome m (IsHeldThroughout (batches_in (seen t)) opened.ends) in
     subst P (sym (made ∙ ap (λ (m : Option Told). option_map (shut_at gate) m) is)) kept
 kept-after opened t gate o n (Err e) is made kept = tt
 

@@ -1,6 +1,6 @@
 -- What opening does to a disk: its sync, and the repair of the gate behind the batches that count.
 use Rattle.std.specs.Prelude.{◌≡◌, ◌≢◌, ◌⊎◌, ◌≤◌, ◌+◌, ℕ, List, [], ◌∷◌, length, slice_index_or, All, Option, Some}
-use Rattle.im_clog.specs.Marks.{Lacks}
+use Rattle.im_clog.specs.Marks.{IsUncounted}
 use Rattle.im_clog.specs.declared.marks.Uncounted.{Uncounted}
 use Rattle.im_clog.specs.declared.marks.Uncounted.TheVariants.{Missing, Closed, Short}
 use Rattle.im_digest.specs.Digests.{Hash}
@@ -20,7 +20,7 @@ use Rattle.im_opening.specs.declared.reading.Opened.{Opened}
 
 -- the image stands for this history, this is the place of the gate behind its batches, and the commit log ends before
 -- the gate behind that one
-pub record IsCut (hash : Hash) (history : List Transaction) (gate : ℕ) (image : Files) : Type 0 where
+pub record IsCutOff (hash : Hash) (history : List Transaction) (gate : ℕ) (image : Files) : Type 0 where
   pub stands : Stands hash image history
   pub gate_is : gate ≡ gate_of (length stands.batches)
   pub short : length (image 1) ≤ gate + 25
@@ -57,7 +57,7 @@ IsHalfShut Memory gate t now = (now ≡ Some t) ⊎ (now ≡ Some (after (Wrote 
 -- what opening a disk has done, where this is the gate behind the batches that count: a sync, and the repair that the
 -- reason asks for, why no batch counts at the gate in what reads gave
 abbrev pub IsOpenedBy : ℕ → Told → Option Told → Type 0
-IsOpenedBy gate t now = (behind : Uncounted) × Lacks (seen t 1) gate behind × (now ≡ Some (repaired behind gate (after Synced t)))
+IsOpenedBy gate t now = (behind : Uncounted) × IsUncounted (seen t 1) gate behind × (now ≡ Some (repaired behind gate (after Synced t)))
 
 -- what opening a disk does: a sync, and the repair of the gate behind the batches that count
 abbrev pub opened_by : Opened → Told → Told
@@ -71,7 +71,7 @@ pub record IsHeld (batches : List (List Record)) (ends : List ℕ) (image : File
   pub shut : IsShut image (gate_of (length batches))
 
 -- and so has each image that a crash may leave, and what reads give
-pub record IsKept (batches : List (List Record)) (ends : List ℕ) (t : Told) : Type 0 where
+pub record IsHeldThroughout (batches : List (List Record)) (ends : List ℕ) (t : Told) : Type 0 where
   pub each : (image : Files) → Images t image → IsHeld batches ends image
   pub here : IsHeld batches ends (seen t)
 
@@ -85,7 +85,7 @@ IsHalfRepaired (Short len) error gate t now = IsHalfShut error gate t now
 -- what opening a disk has done where that repair ends in an error, and this is the gate behind the batches that count: a
 -- sync, and a part of the repair that the reason asks for, why no batch counts at the gate in what reads gave
 abbrev pub IsHalfOpened : DiskError → ℕ → Told → Option Told → Type 0
-IsHalfOpened error gate t now = (behind : Uncounted) × Lacks (seen t 1) gate behind × IsHalfRepaired behind error gate (after Synced t) now
+IsHalfOpened error gate t now = (behind : Uncounted) × IsUncounted (seen t 1) gate behind × IsHalfRepaired behind error gate (after Synced t) now
 
 -- where what reads gave stands for a history, that was done, and at every moment behind the sync each image stands for
 -- the history

@@ -1,6 +1,6 @@
 -- What opening gives.
 use Rattle.std.specs.Prelude.{◌≡◌, ◌≤◌, ℕ, List, [], ◌∷◌, length, take, slice_index_or, All, Option, Some}
-use Rattle.im_clog.specs.Marks.{Lacks}
+use Rattle.im_clog.specs.Marks.{IsUncounted}
 use Rattle.im_digest.specs.Digests.{Hash}
 use Rattle.im_disk.specs.Disk.{Files, Told, seen}
 use Rattle.im_format.specs.Batches.{gate_of, joined}
@@ -12,8 +12,8 @@ use Rattle.im_format.specs.declared.records.Record.{Record}
 use Rattle.im_mtree.specs.Kept.{IsFrontier}
 use Rattle.im_model.specs.History.{IsHistory, alhs_of, bl_root_of}
 use Rattle.im_proof.specs.Built.{headers_of}
-use Rattle.im_opening.specs.Parts.{batches_in, place_in}
-use Rattle.im_opening.specs.Reach.{last_bl, txs_of}
+use Rattle.im_opening.specs.Parts.{batches_in, counted_end}
+use Rattle.im_opening.specs.Reach.{last_bl_from, txs_of}
 use Rattle.im_opening.specs.declared.found.FoundHistory.{FoundHistory}
 use Rattle.im_opening.specs.declared.reading.Opened.{Opened}
 
@@ -21,7 +21,7 @@ use Rattle.im_opening.specs.declared.reading.Opened.{Opened}
 pub record AreBatches (image : Files) (records : List Record) (batches place : ℕ) : Type 0 where
   pub records_are : records ≡ joined (batches_in image)
   pub batches_are : batches ≡ length (batches_in image)
-  pub place_is : place ≡ place_in image
+  pub place_is : place ≡ counted_end image
 
 -- these records can be cut into so many batches, each of one record at least
 pub record AreGrouped (records : List Record) (count : ℕ) : Type 0 where
@@ -54,7 +54,7 @@ pub record IsOneHistory (hash : Hash) (found : FoundHistory) : Type 0 where
   pub records : AreRecords hash (txs_of found.records.items) 1 found.records.items
   pub headers : found.headers.items ≡ headers_of hash (txs_of found.records.items)
   pub alhs : found.alhs.items ≡ alhs_of hash (txs_of found.records.items)
-  pub last : found.tree.size ≡ last_bl 0 (txs_of found.records.items)
+  pub last : found.tree.size ≡ last_bl_from 0 (txs_of found.records.items)
   pub linked : found.tree.size ≤ length found.alhs.items
   pub tree : IsFrontier hash (take found.tree.size found.alhs.items) found.tree
   pub root : found.root ≡ bl_root_of hash found.alhs.items found.tree.size
@@ -63,7 +63,7 @@ pub record IsOneHistory (hash : Hash) (found : FoundHistory) : Type 0 where
 pub record IsRead (hash : Hash) (image : Files) (opened : Opened) : Type 0 where
   pub batches : AreBatches image opened.found.records.items opened.batches (slice_index_or opened.ends 0 0)
   pub within : gate_of opened.batches ≤ length (image 1)
-  pub behind_is : Lacks (image 1) (gate_of opened.batches) opened.behind
+  pub behind_is : IsUncounted (image 1) (gate_of opened.batches) opened.behind
   pub transactions_are : txs_of opened.found.records.items ≡ history_in image
   pub stands : Stands hash image (history_in image)
 

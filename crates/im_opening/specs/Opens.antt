@@ -13,7 +13,7 @@ use Rattle.im_format.specs.Standing.{Stands}
 use Rattle.im_format.specs.declared.damages.Damage.{Damage}
 use Rattle.im_model.specs.declared.transactions.Transaction.{Transaction}
 use Rattle.im_mtree.specs.Checks.{first_fail}
-use Rattle.im_opening.specs.Cut.{IsKept, IsOpenedBy, SyncsAtMost, WasBegun, WasOpened, opened_by}
+use Rattle.im_opening.specs.Cut.{IsHeldThroughout, IsOpenedBy, SyncsAtMost, WasBegun, WasOpened, opened_by}
 use Rattle.im_opening.specs.Opening.{IsGivenBy}
 use Rattle.im_opening.specs.Parts.{batches_in}
 use Rattle.im_opening.specs.declared.errors.OpenError.{OpenError}
@@ -26,7 +26,7 @@ use Rattle.im_opening.specs.declared.reading.Opened.{Opened}
 pub record AreOpened (hash : Hash) (was now : Option Told) (opened : Opened) : Type 0 where
   pub given : IsGivenBy hash was opened
   pub calls : now ≡ option_map (opened_by opened) was
-  pub kept : (t : Told) → was ≡ Some t → IfSome now (IsKept (batches_in (seen t)) opened.ends)
+  pub kept : (t : Told) → was ≡ Some t → IfSome now (IsHeldThroughout (batches_in (seen t)) opened.ends)
   pub moments : (t : Told) (history : List Transaction) → was ≡ Some t → Stands hash (seen t) history
       → Leaves (λ image. Stands hash image history) (Some (after Synced t)) now
 

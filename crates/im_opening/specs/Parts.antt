@@ -94,5 +94,5 @@ place_from image (suc most) gate at =
     if counts (image 1) gate then place_from image most (gate + 25) (records_end image at (number_at (image 1) gate)) else at
 
 -- where the records of all batches that count end in the transaction log
-abbrev pub place_in : Files → ℕ
-place_in image = place_from image (length (image 1)) 0 0
+abbrev pub counted_end : Files → ℕ
+counted_end image = place_from image (length (image 1)) 0 0

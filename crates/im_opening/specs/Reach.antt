@@ -5,7 +5,7 @@ use Rattle.im_disk.specs.Disk.{Files}
 use Rattle.im_format.specs.Damages.{Reached, behind, behind_one}
 use Rattle.im_format.specs.Records.{AreReferences, records_octets}
 use Rattle.im_format.specs.declared.records.Record.{Record}
-use Rattle.im_mtree.specs.Kept.{Kept, IsFrontier}
+use Rattle.im_mtree.specs.Kept.{KeptRoots, IsFrontier}
 use Rattle.im_model.specs.History.{Follow, alhs_of, bl_root_of}
 use Rattle.im_model.specs.declared.transactions.Transaction.{Transaction}
 use Rattle.im_proof.specs.Built.{headers_of}
@@ -22,9 +22,9 @@ abbrev pub txs_of : List Record → List Transaction
 txs_of records = map (λ r. r.tx) records
 
 -- the size of the tree of the last transaction, or this where there is none
-abbrev pub last_bl : ℕ → List Transaction → ℕ
-last_bl bl [] = bl
-last_bl bl (tx ∷ txs) = last_bl tx.bl txs
+abbrev pub last_bl_from : ℕ → List Transaction → ℕ
+last_bl_from bl [] = bl
+last_bl_from bl (tx ∷ txs) = last_bl_from tx.bl txs
 
 -- the references of records, from this ID on, are those of their values
 abbrev pub AreReferred : Hash → ℕ → List Record → Type 0
@@ -33,10 +33,10 @@ AreReferred hash id (r ∷ rs) = AreReferences hash id r.tx.entries r.refs × Ar
 
 -- records of a history: their transactions follow each other, and their Alh are the history's; the last one's
 -- tree has this size, this root and these whole subtrees
-pub record IsConsistent (hash : Hash) (records : List Record) (alhs : List (List ℕ)) (bl : ℕ) (bl_root : List ℕ) (tree : Kept) : Type 0 where
+pub record IsConsistent (hash : Hash) (records : List Record) (alhs : List (List ℕ)) (bl : ℕ) (bl_root : List ℕ) (tree : KeptRoots) : Type 0 where
   pub few : length alhs ≤ 1048576
   pub follow : Follow 0 0 (txs_of records)
-  pub last : last_bl 0 (txs_of records) ≡ bl
+  pub last : last_bl_from 0 (txs_of records) ≡ bl
   pub linked : bl ≤ length alhs
   pub root_is : bl_root ≡ bl_root_of hash alhs bl
   pub tree_is : IsFrontier hash (take bl alhs) tree
@@ -49,7 +49,7 @@ abbrev pub Fits : Hash → Progress → Type 0
 Fits hash p = IsConsistent hash p.records.items p.alhs.items p.bl p.bl_root p.tree
 
 -- the records that were read end where their octets do, and each has its header
-pub record IsWhole (hash : Hash) (p : Progress) : Type 0 where
+pub record IsWholeProgress (hash : Hash) (p : Progress) : Type 0 where
   pub place_is : p.place ≡ length (records_octets 1 p.records.items)
   pub headers_are : p.headers.items ≡ headers_of hash (txs_of p.records.items)
 

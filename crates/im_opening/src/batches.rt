@@ -5,11 +5,11 @@ ghost use Rattle.im_format.specs.Damages.{batch_checks, numbers};
 ghost use Rattle.im_mtree.specs.Checks.{first_fail};
 ghost use Rattle.im_opening.specs.Answers.{HasOpenCause, Judges};
 ghost use Rattle.im_opening.specs.Parts.{Shows, mark_checks};
-ghost use Rattle.im_opening.specs.Reach.{AreMore, Fits, IsWhole, reached_of};
+ghost use Rattle.im_opening.specs.Reach.{AreMore, Fits, IsWholeProgress, reached_of};
 
 use crate::errors::OpenError;
 use crate::records::{Progress, read_records};
-use crate::source::Source;
+use crate::source::RecordSource;
 use im_clog::marks::Mark;
 use im_digest::Hash32;
 use im_disk::disk::Disk;
@@ -50,7 +50,7 @@ pub(crate) fn read_batch<D: Disk, H: Hash32>(
     alloc: Global,
     hash: &H,
     disk: &mut D,
-    source: &Source,
+    source: &RecordSource,
     mark: &Mark,
     gate: u64,
     progress: &mut Progress,
@@ -60,12 +60,12 @@ pub(crate) fn read_batch<D: Disk, H: Hash32>(
     requires gate { gate < 2 ^ 63 }
     requires place { progress.old.place ≤ length source.now.log.now }
     requires fits { Fits (H.digest hash.now) progress.old }
-    requires whole { IsWhole (H.digest hash.now) progress.old }
+    requires whole { IsWholeProgress (H.digest hash.now) progress.old }
     ensures within { OnOk result (progress.new.place ≤ length source.now.log.now) }
     ensures some { OnOk result (1 ≤ mark.now.count) }
     ensures more { OnOk result (length progress.new.alhs.items ≡ length progress.old.alhs.items + mark.now.count) }
     ensures fits { OnOk result (Fits (H.digest hash.now) progress.new) }
-    ensures whole { OnOk result (IsWhole (H.digest hash.now) progress.new) }
+    ensures whole { OnOk result (IsWholeProgress (H.digest hash.now) progress.new) }
     ensures read { (t : Told) → D.told disk.old ≡ Some t
         → OnOk result (AreMore (H.digest hash.now) (seen t) mark.now.count progress.old progress.new) }
     ensures first { (t : Told) → D.told disk.old ≡ Some t

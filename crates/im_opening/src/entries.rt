@@ -8,7 +8,7 @@ ghost use Rattle.im_opening.specs.Answers.{HasOpenCause, Judges};
 ghost use Rattle.im_opening.specs.Parts.{Shows, IsEntryAt, AreEntriesAt, entry_checks};
 
 use crate::errors::OpenError;
-use crate::source::Source;
+use crate::source::RecordSource;
 use crate::values::read_value;
 use im_digest::{D32, Hash32};
 use im_disk::disk::Disk;
@@ -45,7 +45,7 @@ fn read_entry<'a, D: Disk, H: Hash32>(
     alloc: Global,
     hash: &H,
     disk: &mut D,
-    source: &Source<'a>,
+    source: &RecordSource<'a>,
     id: u64,
     at: u64,
     keys: &mut Keys<'a>,
@@ -90,7 +90,7 @@ pub(crate) fn read_entries<D: Disk, H: Hash32>(
     alloc: Global,
     hash: &H,
     disk: &mut D,
-    source: &Source,
+    source: &RecordSource,
     id: u64,
     at: u64,
     count: u32,

@@ -1,7 +1,7 @@
 use im_digest::D32;
 use im_format::records::Record;
-use im_mtree::frontiers::Frontier;
 use im_model::headers::Header;
+use im_mtree::frontiers::Frontier;
 
 /// A history as it was read, with all that was computed on the way. A clause tells that they belong together.
 #[derive(Drop)]

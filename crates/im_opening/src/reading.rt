@@ -1,5 +1,5 @@
 ghost use Rattle.std.specs.Prelude.{◌≡◌, ◌≤◌, ◌*◌, length, Some, IfOk, IfSome};
-ghost use Rattle.im_clog.specs.Marks.{Lacks};
+ghost use Rattle.im_clog.specs.Marks.{IsUncounted};
 ghost use Rattle.im_disk.specs.Disk.{Told, seen};
 ghost use Rattle.im_format.specs.Damages.{image_checks};
 ghost use Rattle.im_opening.specs.Answers.{HasOpenCause, Judges};
@@ -7,14 +7,14 @@ ghost use Rattle.im_opening.specs.Opening.{AreBatches, AreGrouped, IsGivenBy};
 ghost use Rattle.im_disk.specs.Causes.{HasCause};
 ghost use Rattle.im_record.specs.Slots.{HaveLengths};
 ghost use Rattle.im_opening.specs.Parts.{Shows};
-ghost use Rattle.im_opening.specs.Reach.{Fits, IsWhole};
+ghost use Rattle.im_opening.specs.Reach.{Fits, IsWholeProgress};
 
 use crate::batches::read_batch;
 use crate::ends::end_of;
 use crate::errors::OpenError;
 use crate::found::FoundHistory;
 use crate::records::Progress;
-use crate::source::Source;
+use crate::source::RecordSource;
 use im_alog::reading::read_all;
 use im_clog::marks::{Mark, Uncounted, batch_at};
 use im_digest::Hash32;
@@ -52,18 +52,18 @@ fn read_batches<D: Disk, H: Hash32>(
     hash: &H,
     disk: &mut D,
     commits: &[u8],
-    source: &Source,
+    source: &RecordSource,
 ) -> Result<BatchesRead, OpenError>
     requires shows { IfSome (D.told disk.old) (λ t. Shows (seen t) source.now.log.now source.now.lengths) }
     requires commits { IfSome (D.told disk.old) (λ t. commits.now ≡ seen t 1) }
     ensures fits { IfOk result (λ read. Fits (H.digest hash.now) read.progress) }
-    ensures whole { IfOk result (λ read. IsWhole (H.digest hash.now) read.progress) }
+    ensures whole { IfOk result (λ read. IsWholeProgress (H.digest hash.now) read.progress) }
     ensures grouped { IfOk result (λ read. AreGrouped read.progress.records.items read.batches) }
     ensures gate { IfOk result (λ read. read.gate ≡ 25 * read.batches) }
     ensures few { IfOk result (λ read. read.batches ≤ 1048576) }
     ensures reaches { IfOk result (λ read. read.gate ≤ length commits.now) }
     ensures within { IfOk result (λ read. read.progress.place ≤ length source.now.log.now) }
-    ensures behind { IfOk result (λ read. Lacks commits.now read.gate read.behind) }
+    ensures behind { IfOk result (λ read. IsUncounted commits.now read.gate read.behind) }
     ensures read { (t : Told) → D.told disk.old ≡ Some t
         → IfOk result (λ read. AreBatches (seen t) read.progress.records.items read.batches read.progress.place) }
     ensures first { (t : Told) → D.told disk.old ≡ Some t
@@ -130,7 +130,7 @@ fn read_logs<D: Disk, H: Hash32>(
     ensures cause { HasOpenCause (D.faults disk.old) (D.faults disk.new) result }
 {
     let lengths = log_lengths(disk)?;
-    let source = Source { log, lengths };
+    let source = RecordSource { log, lengths };
     let read = read_batches(alloc, hash, disk, commits, &source)?;
     let BatchesRead {
         progress,

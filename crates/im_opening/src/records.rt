@@ -6,10 +6,10 @@ ghost use Rattle.im_model.specs.Entries.{entry_digest};
 ghost use Rattle.im_model.specs.History.{IsTransaction, bl_root_of, next_header};
 ghost use Rattle.im_opening.specs.Answers.{HasOpenCause, Judges};
 ghost use Rattle.im_opening.specs.Parts.{Shows};
-ghost use Rattle.im_opening.specs.Reach.{AreMore, Fits, IsOneMore, IsWhole, reached_of};
+ghost use Rattle.im_opening.specs.Reach.{AreMore, Fits, IsOneMore, IsWholeProgress, reached_of};
 
 use crate::errors::OpenError;
-use crate::source::Source;
+use crate::source::RecordSource;
 use crate::transactions::{TransactionRead, read_transaction};
 use im_digest::{D32, Hash32};
 use im_disk::disk::Disk;
@@ -79,18 +79,18 @@ pub(crate) fn read_record<D: Disk, H: Hash32>(
     alloc: Global,
     hash: &H,
     disk: &mut D,
-    source: &Source,
+    source: &RecordSource,
     progress: &mut Progress,
 ) -> Result<(), OpenError>
     requires shows { IfSome (D.told disk.old) (λ t. Shows (seen t) source.now.log.now source.now.lengths) }
     requires place { progress.old.place ≤ length source.now.log.now }
     requires few { length progress.old.alhs.items < 1048576 }
     requires fits { Fits (H.digest hash.now) progress.old }
-    requires whole { IsWhole (H.digest hash.now) progress.old }
+    requires whole { IsWholeProgress (H.digest hash.now) progress.old }
     ensures within { OnOk result (progress.new.place ≤ length source.now.log.now) }
     ensures more { OnOk result (length progress.new.alhs.items ≡ length progress.old.alhs.items + 1) }
     ensures fits { OnOk result (Fits (H.digest hash.now) progress.new) }
-    ensures whole { OnOk result (IsWhole (H.digest hash.now) progress.new) }
+    ensures whole { OnOk result (IsWholeProgress (H.digest hash.now) progress.new) }
     ensures read { (t : Told) → D.told disk.old ≡ Some t
         → OnOk result (IsOneMore (H.digest hash.now) (seen t) progress.old progress.new) }
     ensures first { (t : Told) → D.told disk.old ≡ Some t
@@ -130,7 +130,7 @@ pub(crate) fn read_records<D: Disk, H: Hash32>(
     alloc: Global,
     hash: &H,
     disk: &mut D,
-    source: &Source,
+    source: &RecordSource,
     count: u64,
     progress: &mut Progress,
 ) -> Result<(), OpenError>
@@ -138,11 +138,11 @@ pub(crate) fn read_records<D: Disk, H: Hash32>(
     requires place { progress.old.place ≤ length source.now.log.now }
     requires few { length progress.old.alhs.items + count ≤ 1048576 }
     requires fits { Fits (H.digest hash.now) progress.old }
-    requires whole { IsWhole (H.digest hash.now) progress.old }
+    requires whole { IsWholeProgress (H.digest hash.now) progress.old }
     ensures within { OnOk result (progress.new.place ≤ length source.now.log.now) }
     ensures more { OnOk result (length progress.new.alhs.items ≡ length progress.old.alhs.items + count) }
     ensures fits { OnOk result (Fits (H.digest hash.now) progress.new) }
-    ensures whole { OnOk result (IsWhole (H.digest hash.now) progress.new) }
+    ensures whole { OnOk result (IsWholeProgress (H.digest hash.now) progress.new) }
     ensures read { (t : Told) → D.told disk.old ≡ Some t
         → OnOk result (AreMore (H.digest hash.now) (seen t) count progress.old progress.new) }
     ensures first { (t : Told) → D.told disk.old ≡ Some t

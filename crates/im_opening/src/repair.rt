@@ -12,7 +12,7 @@ ghost use Rattle.im_opening.specs.Parts.{batches_in};
 ghost use Rattle.im_disk.specs.Moments.{Leaves, LeavesNow};
 ghost use Rattle.im_format.specs.Standing.{Stands};
 ghost use Rattle.im_model.specs.declared.transactions.Transaction.{Transaction};
-ghost use Rattle.im_opening.specs.Cut.{IsCut, IsHalfRepaired, IsHalfShut, IsKept, IsShut, repaired, shut_at};
+ghost use Rattle.im_opening.specs.Cut.{IsCutOff, IsHalfRepaired, IsHalfShut, IsHeldThroughout, IsShut, repaired, shut_at};
 
 use crate::reading::Opened;
 use im_alog::laying::sync;
@@ -25,7 +25,7 @@ pub(crate) fn shut_gate<D: Disk>(disk: &mut D, gate: u64) -> Result<(), DiskErro
     requires within { LiesWithin (D.told disk.old) 1 gate 0 }
     requires end { gate < 2 ^ 62 }
     ensures leaves { (hash : Hash) (history : List Transaction)
-        → LeavesNow (IsCut hash history gate) (D.told disk.old) → IfSome (D.told disk.old) (λ t. IsCut hash history gate (seen t))
+        → LeavesNow (IsCutOff hash history gate) (D.told disk.old) → IfSome (D.told disk.old) (λ t. IsCutOff hash history gate (seen t))
         → Leaves (λ image. Stands hash image history) (D.told disk.old) (D.told disk.new) }
     ensures shut { OnOk result (IfSome (D.told disk.new) (λ t. IsShut (seen t) gate)) }
     ensures written { OnOk result (D.told disk.new ≡ option_map (shut_at gate) (D.told disk.old)) }
@@ -48,7 +48,7 @@ pub(crate) fn repair<D: Disk>(disk: &mut D, opened: &Opened) -> Result<(), DiskE
         → OnOk result (IfSome (D.told disk.new) (λ t. IsShut (seen t) (gate_of opened.now.batches))) }
     ensures kept { (hash : Hash) (t : Told) → D.told disk.old ≡ Some t → IsDurable t → IsRead hash (seen t) opened.now
         → IsThere (seen t) opened.now
-        → OnOk result (IfSome (D.told disk.new) (IsKept (batches_in (seen t)) opened.now.ends)) }
+        → OnOk result (IfSome (D.told disk.new) (IsHeldThroughout (batches_in (seen t)) opened.now.ends)) }
     ensures calls { OnOk result (D.told disk.new ≡ option_map (repaired opened.now.behind (gate_of opened.now.batches)) (D.told disk.old)) }
     ensures half { (t : Told) → D.told disk.old ≡ Some t → IfErr result (λ error. IsHalfRepaired opened.now.behind error (gate_of opened.now.batches) t (D.told disk.new)) }
     ensures grows { Grows (D.told disk.old) (D.told disk.new) }

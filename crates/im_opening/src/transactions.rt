@@ -10,7 +10,7 @@ ghost use Rattle.im_opening.specs.Parts.{Shows, IsTransactionAt, transaction_che
 
 use crate::entries::{EntriesRead, read_entries};
 use crate::errors::OpenError;
-use crate::source::Source;
+use crate::source::RecordSource;
 use im_digest::{D32, Hash32};
 use im_disk::disk::Disk;
 use im_format::references::ValueRef;
@@ -35,7 +35,7 @@ pub(crate) fn read_transaction<D: Disk, H: Hash32>(
     alloc: Global,
     hash: &H,
     disk: &mut D,
-    source: &Source,
+    source: &RecordSource,
     id: u64,
     at: u64,
     least_bl: u64,

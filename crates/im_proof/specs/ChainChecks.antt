@@ -13,15 +13,15 @@ first_of terms = slice_index_or terms 0 []
 
 -- the Alh that the terms lead to, where the first is the Alh of a number and the others are the inner
 -- digests of those behind it
-abbrev pub end_of : Hash → ℕ → List (List ℕ) → List ℕ
-end_of hash from terms = chain hash (first_of terms) from (drop 1 terms)
+abbrev pub end_of_terms : Hash → ℕ → List (List ℕ) → List ℕ
+end_of_terms hash from terms = chain hash (first_of terms) from (drop 1 terms)
 
 -- linear terms from one number and Alh to another
 abbrev pub linear_checks : Hash → ℕ → ℕ → List ℕ → List ℕ → List (List ℕ) → List (Check DualFault)
 linear_checks hash from to start end terms =
     (nat_eq (length terms) (to - from + 1), LinearLength (to - from + 1) (length terms))
     ∷ (bytes_eq (first_of terms) start, LinearStart start (first_of terms))
-    ∷ (bytes_eq (end_of hash from terms) end, LinearEnd end (end_of hash from terms))
+    ∷ (bytes_eq (end_of_terms hash from terms) end, LinearEnd end (end_of_terms hash from terms))
     ∷ []
 
 -- the number of the terms of an advance from a to e
@@ -53,4 +53,4 @@ advance_checks hash a e size root end terms paths =
     ∷ (nat_eq (length paths) (advance_paths a e), AdvanceCount (advance_paths a e) (length paths))
     ∷ (if nat_eq (length terms) 0 then []
     else path_checks_from hash size root (a + 1) (first_of terms) (drop 1 terms) paths
-    ++ (bytes_eq (end_of hash (a + 1) terms) end, AdvanceEnd end (end_of hash (a + 1) terms)) ∷ [])
+    ++ (bytes_eq (end_of_terms hash (a + 1) terms) end, AdvanceEnd end (end_of_terms hash (a + 1) terms)) ∷ [])

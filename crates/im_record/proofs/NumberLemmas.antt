@@ -8,7 +8,7 @@ use Rattle.std.proofs.lemmas.Bool.{cases_lt, lt-ltb, le-ltb}
 use Rattle.std.proofs.lemmas.List.{map-append, length-map}
 use Rattle.std.proofs.lemmas.Slice.Eq.{bytes_eq-Decides}
 use Rattle.im_format.specs.Damages.{index_of}
-use Rattle.im_record.specs.Keys.{AreNumbered, lent, number_in, number_of}
+use Rattle.im_record.specs.Keys.{AreNumbered, lent, number_in, key_number}
 
 -- where a key stands when one more is put behind
 pub record Put (key put : List ℕ) (keys : List (List ℕ)) : Type 0 where
@@ -46,14 +46,14 @@ none_from i n h = ap (λ (b : Bool). if b then Some i else None) (le-ltb i n h)
 
 -- the numbers of keys behind which one more is put that isn't among them
 pub number_of-put : (keys : List (List ℕ)) (new key : List ℕ) → index_of new keys ≡ length keys
-    → number_of (keys ++ new ∷ []) key ≡ update bytes_eq (number_of keys) new (Some (length keys)) key
+    → key_number (keys ++ new ∷ []) key ≡ update bytes_eq (key_number keys) new (Some (length keys)) key
 number_of-put keys new key fresh =
     let p : Put key new keys = put key new keys in
     let all : List (List ℕ) = keys ++ new ∷ [] in
     let long : length (keys ++ new ∷ []) ≡ length keys + 1 = length-append keys (new ∷ []) in
     elim (bytes_eq new key) as (λ (b : Bool). bytes_eq new key ≡ b
     → (index_of key keys ≡ length keys → index_of key (keys ++ new ∷ []) ≡ length keys + (if b then 0 else 1))
-    → number_of (keys ++ new ∷ []) key ≡ cond b (Some (length keys)) (number_of keys key)) [
+    → key_number (keys ++ new ∷ []) key ≡ cond b (Some (length keys)) (key_number keys key)) [
       | true ↦ λ t absent.
           let here : index_of key keys ≡ length keys =
           subst (λ (k : List ℕ). index_of k keys ≡ length keys) ((bytes_eq-Decides new key).0 t) fresh in
@@ -82,13 +82,13 @@ AreNumbered-put keys new old next n are fresh count steps = record {
       let all : lent (keys ++ new ∷ []) ≡ lent keys ++ new.now ∷ [] = map-append (λ (k : Bor (List ℕ)). k.now) keys (new ∷ []) in
       steps key
       ∙ ap (λ (o : Option ℕ). cond (bytes_eq new.now key) (Some n) o) (are.each key)
-      ∙ ap (λ (i : ℕ). cond (bytes_eq new.now key) (Some i) (number_of (lent keys) key)) long
+      ∙ ap (λ (i : ℕ). cond (bytes_eq new.now key) (Some i) (key_number (lent keys) key)) long
       ∙ sym (number_of-put (lent keys) new.now key fresh)
-      ∙ ap (λ (ks : List (List ℕ)). number_of ks key) (sym all);
+      ∙ ap (λ (ks : List (List ℕ)). key_number ks key) (sym all);
 }
 
 -- a key without a number is none of them
-pub absent_key : (keys : List (List ℕ)) (key : List ℕ) → number_of keys key ≡ None → index_of key keys ≡ length keys
+pub absent_key : (keys : List (List ℕ)) (key : List ℕ) → key_number keys key ≡ None → index_of key keys ≡ length keys
 absent_key keys key none = elim (cases_lt (index_of key keys) (length keys)) [
   | inl among ↦ absurd (let some = some_below (index_of key keys) (length keys) among in cc)
   | inr not ↦ omega (arith, (put key [] keys).low)

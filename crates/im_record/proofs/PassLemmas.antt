@@ -18,7 +18,7 @@ use Rattle.im_format.specs.Spans.{Reads, octets_at}
 use Rattle.im_format.specs.Standing.{LiesIn}
 use Rattle.im_format.specs.declared.records.Record.{Record}
 use Rattle.im_format.specs.declared.references.ValueRef.{ValueRef}
-use Rattle.im_record.specs.Back.{FitsEntry, FitsRecord, FitsRef, HasAt, Holds, IsEntryOf, IsReadAs, IsSound, Passes}
+use Rattle.im_record.specs.Back.{FitsEntry, FitsRecord, FitsRef, HasAt, HasRecord, IsEntryOf, IsReadAs, IsSound, PassesChecks}
 use Rattle.im_record.specs.Slots.{AreAttributes}
 use Rattle.im_record.proofs.AtLemmas.{HasAt-front, HasAt-back, HasAt-moved, HasAt-within}
 use Rattle.im_record.proofs.BackLemmas.{entry-back, record-back}
@@ -292,7 +292,7 @@ record_with ts entries bl refs alh = record { tx = record { ts = ts; entries = e
 
 -- a record of a history passes its checks
 pub record-passes : (hash : Hash) (image : Files) (id least at : ℕ) (r : Record) → ((octets : List ℕ) → length (hash octets) ≡ 32)
-    → IsSound hash id r → least ≤ r.tx.bl → Holds image id at r → Passes hash image id least at r
+    → IsSound hash id r → least ≤ r.tx.bl → HasRecord image id at r → PassesChecks hash image id least at r
 unfolding record_octets
 record-passes hash image id least at r sizes s grows h =
     let log : List ℕ = image 0 in

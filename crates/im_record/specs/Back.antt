@@ -89,7 +89,7 @@ record_in image at = record {
 
 -- the octets at a place of an image's transaction log pass the checks of transaction id, behind one whose tree
 -- had this size, and are read as this record
-pub record Passes (hash : Hash) (image : Files) (id least at : ℕ) (r : Record) : Type 0 where
+pub record PassesChecks (hash : Hash) (image : Files) (id least at : ℕ) (r : Record) : Type 0 where
   pub head : first_fail (head_checks (image 0) id least at) ≡ Ok tt
   pub entries : first_fail (slots_checks hash image id [] (at + 28) (count_at (image 0) at)) ≡ Ok tt
   pub alh : first_fail (alh_checks (image 0) (alh_place image at) r.alh) ≡ Ok tt
@@ -97,7 +97,7 @@ pub record Passes (hash : Hash) (image : Files) (id least at : ℕ) (r : Record)
   pub end : record_end image at ≡ at + length (record_octets id r)
 
 -- the image has these octets in its transaction log, and the values of the record, within their logs
-pub record Holds (image : Files) (id at : ℕ) (r : Record) : Type 0 where
+pub record HasRecord (image : Files) (id at : ℕ) (r : Record) : Type 0 where
   pub octets : HasAt (image 0) at (record_octets id r)
   pub values : All (Reads image) (entries_spans r.tx.entries r.refs)
   pub lie : All (LiesIn image) r.refs
@@ -111,6 +111,6 @@ AreOctets log = (i : ℕ) → slice_index_or log i 0 < 256
 pub record IsWritten (hash : Hash) (image : Files) (id least at : ℕ) (want : List ℕ) (r : Record) : Type 0 where
   pub sound : IsSound hash id r
   pub grows : least ≤ r.tx.bl
-  pub held : Holds image id at r
+  pub held : HasRecord image id at r
   pub end : record_end image at ≡ at + length (record_octets id r)
   pub alh : r.alh ≡ want

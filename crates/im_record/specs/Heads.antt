@@ -11,8 +11,8 @@ abbrev pub head_at : List ℕ → ℕ → Head
 head_at log at = record { ts = ts_at log at; bl = bl_at log at; count = count_at log at }
 
 -- the checks of BlTxID, at its place
-abbrev pub bl_checks : List ℕ → ℕ → ℕ → ℕ → List (Check Damage)
-bl_checks log id bl at =
+abbrev pub tree_size_checks : List ℕ → ℕ → ℕ → ℕ → List (Check Damage)
+tree_size_checks log id bl at =
     reaches log at 8
     ∷ (nat_le bl (number8 log at), numbers 0 at bl (number8 log at))
     ∷ (nat_le (number8 log at) (id - 1), numbers 0 at (id - 1) (number8 log at))

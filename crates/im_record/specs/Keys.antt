@@ -8,8 +8,8 @@ use Rattle.std.specs.Prelude.{◌≡◌, ℕ, List, length, map, nat_lt, Option,
 use Rattle.im_format.specs.Damages.{index_of}
 
 -- the number of a key, from 0, where it is one of these
-abbrev pub number_of : List (List ℕ) → List ℕ → Option ℕ
-number_of keys key = if nat_lt (index_of key keys) (length keys) then Some (index_of key keys) else None
+abbrev pub key_number : List (List ℕ) → List ℕ → Option ℕ
+key_number keys key = if nat_lt (index_of key keys) (length keys) then Some (index_of key keys) else None
 
 -- the number that a map from lent keys has for a key
 abbrev pub number_in : BTreeMap (Bor (List ℕ)) ℕ → List ℕ → Option ℕ
@@ -21,4 +21,4 @@ lent keys = map (λ k. k.now) keys
 
 -- the map has the number of each of these keys, and no other key
 pub record AreNumbered (keys : List (List ℕ)) (numbers : BTreeMap (Bor (List ℕ)) ℕ) : Type 0 where
-  pub each : (key : List ℕ) → number_in numbers key ≡ number_of keys key
+  pub each : (key : List ℕ) → number_in numbers key ≡ key_number keys key

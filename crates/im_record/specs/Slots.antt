@@ -94,7 +94,7 @@ abbrev pub AreAttributes : List ℕ → Type 0
 AreAttributes md = (deleted : Bool) × (non_indexable : Bool) × (md ≡ attributes deleted non_indexable)
 
 -- a reference of a value of transaction id that lies in a value log, where they have these lengths
-pub record Lies (logs : List ℕ) (id : ℕ) (ref : ValueRef) : Type 0 where
+pub record LiesInLogs (logs : List ℕ) (id : ℕ) (ref : ValueRef) : Type 0 where
   pub short : ref.len ≤ 4096
   pub log : ref.log ≤ 3
   pub room : ref.at + ref.len ≤ id * 2 ^ 22

@@ -2,7 +2,7 @@ ghost use Rattle.std.specs.Prelude.{◌≡◌, ◌≤◌, ◌+◌, length, IfOk,
 ghost use Rattle.im_mtree.specs.Checks.{first_fail};
 ghost use Rattle.im_format.specs.Damages.{head_checks};
 ghost use Rattle.im_format.specs.Reading.{number4, number8};
-ghost use Rattle.im_record.specs.Heads.{head_at, bl_checks, count_checks};
+ghost use Rattle.im_record.specs.Heads.{head_at, tree_size_checks, count_checks};
 
 use crate::fields::{number4, number8, numbers};
 use im_format::damages::Damage;
@@ -53,7 +53,7 @@ fn read_bl(log: &[u8], at: u64, id: u64, least: u64) -> Result<u64, Damage>
     requires { at ≤ length log.now }
     ensures bl { IfOk result (λ bl. bl ≡ number8 log.now at) }
     ensures within { OnOk result (at + 8 ≤ length log.now) }
-    ensures first { MatchResult result (λ bl. first_fail (bl_checks log.now id least at) ≡ Ok tt) (λ d. first_fail (bl_checks log.now id least at) ≡ Err d) }
+    ensures first { MatchResult result (λ bl. first_fail (tree_size_checks log.now id least at) ≡ Ok tt) (λ d. first_fail (tree_size_checks log.now id least at) ≡ Err d) }
 {
     let bl = number8(log, at)?;
     if bl < least {

@@ -24,7 +24,7 @@ impl<'a> Model for Keys<'a> {
 impl<'a> Keys<'a> {
     ghost use Rattle.std.specs.Prelude.{◌≡◌, [], ◌∷◌, ◌++◌, length, OnOk, OnErr};
     ghost use Rattle.im_format.specs.Damages.{index_of};
-    ghost use Rattle.im_record.specs.Keys.{number_of};
+    ghost use Rattle.im_record.specs.Keys.{key_number};
 
     /// No keys. It takes no memory.
     pub fn new(alloc: Global) -> Self
@@ -45,7 +45,7 @@ impl<'a> Keys<'a> {
 
     // The number of a key, from 0, where it is among them.
     pub(crate) fn number_of(&self, key: &[u8]) -> Option<u64>
-        ensures { result ≡ number_of self.now key.now }
+        ensures { result ≡ key_number self.now key.now }
     {
         self.numbers.get(key).copied()
     }

@@ -11,7 +11,7 @@ ghost use Rattle.im_format.specs.Reading.{alh_place, count_at, slot_at};
 ghost use Rattle.im_format.specs.Records.{IsRecord, record_octets};
 ghost use Rattle.im_format.specs.declared.records.Record.{Record};
 ghost use Rattle.im_record.specs.Slots.{HaveLengths, slot_checks_by};
-ghost use Rattle.im_record.specs.Back.{AreOctets, FitsRecord, HasAt, Holds, IsReadAs, IsSound, IsWritten, Passes, record_in};
+ghost use Rattle.im_record.specs.Back.{AreOctets, FitsRecord, HasAt, HasRecord, IsReadAs, IsSound, IsWritten, PassesChecks, record_in};
 
 /// What is put between others stands behind the first.
 pub fn octets_stand_where_they_are_put()
@@ -36,7 +36,7 @@ pub fn a_sound_record_fits()
 
 /// A history's record that an image holds passes all its checks, and is read as it was written.
 pub fn a_record_passes_its_checks()
-    ensures { (hash : Hash) (image : Files) (id least at : ℕ) (r : Record) → ((octets : List ℕ) → length (hash octets) ≡ 32) → IsSound hash id r → least ≤ r.tx.bl → Holds image id at r → Passes hash image id least at r }
+    ensures { (hash : Hash) (image : Files) (id least at : ℕ) (r : Record) → ((octets : List ℕ) → length (hash octets) ≡ 32) → IsSound hash id r → least ≤ r.tx.bl → HasRecord image id at r → PassesChecks hash image id least at r }
 {}
 
 /// What is found of an entry by the lengths of the value logs is what is found of it in the image.

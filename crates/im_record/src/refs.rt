@@ -1,7 +1,7 @@
 ghost use Rattle.std.specs.Prelude.{◌≡◌, ◌<◌, ◌≤◌, ◌+◌, ◌*◌, ◌^◌, length, slice_index, IfOk, OnOk, MatchResult, Ok, Err};
 ghost use Rattle.im_mtree.specs.Checks.{first_fail};
 ghost use Rattle.im_format.specs.Reading.{number4, number8};
-ghost use Rattle.im_record.specs.Slots.{ref_at, len_part, log_part, place_part, ref_part, Lies};
+ghost use Rattle.im_record.specs.Slots.{ref_at, len_part, log_part, place_part, ref_part, LiesInLogs};
 
 use crate::fields::{field, number4, number8, numbers};
 use im_format::damages::Damage;
@@ -21,7 +21,7 @@ pub(crate) fn read_ref(log: &[u8], at: u64, id: u64, logs: &[u64; 4]) -> Result<
     requires few { id < 2 ^ 42 }
     ensures value { IfOk result (λ value. value ≡ ref_at log.now at) }
     ensures within { OnOk result (at + 45 ≤ length log.now) }
-    ensures lies { IfOk result (Lies logs.now id) }
+    ensures lies { IfOk result (LiesInLogs logs.now id) }
     ensures first { MatchResult result (λ value. first_fail (ref_part log.now logs.now id at) ≡ Ok tt) (λ d. first_fail (ref_part log.now logs.now id at) ≡ Err d) }
 {
     let hval = field::<32>(log, at)?;

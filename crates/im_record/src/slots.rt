@@ -3,7 +3,7 @@ ghost use Rattle.im_mtree.specs.Checks.{first_fail};
 ghost use Rattle.im_format.specs.Damages.{index_of, md_checks};
 ghost use Rattle.im_format.specs.Reading.{number2, slot_at};
 ghost use Rattle.im_format.specs.Spans.{octets_at};
-ghost use Rattle.im_record.specs.Slots.{md_part, key_part, slot_checks_by, AreAttributes, IsSlot, Lies, Tells};
+ghost use Rattle.im_record.specs.Slots.{md_part, key_part, slot_checks_by, AreAttributes, IsSlot, LiesInLogs, Tells};
 
 use crate::errors::SlotError;
 use crate::fields::{number2, numbers, octets_at};
@@ -55,7 +55,7 @@ pub fn read_slot<'a>(
     ensures two { IfOk result (λ slot. length slot.md.now ≤ 2) }
     ensures given { IfOk result (λ slot. 1 ≤ length slot.key.now) }
     ensures short { IfOk result (λ slot. length slot.key.now ≤ 1024) }
-    ensures lies { IfOk result (λ slot. Lies logs.now id slot.value) }
+    ensures lies { IfOk result (λ slot. LiesInLogs logs.now id slot.value) }
     ensures within { IfOk result (λ slot. slot.end ≤ length log.now) }
     ensures keys { IfOk result (λ slot. keys.new ≡ keys.old ++ slot.key.now ∷ []) }
     ensures kept { OnErr result (keys.new ≡ keys.old) }

@@ -58,13 +58,13 @@ abbrev pub is_live : List Transaction → List ℕ → Bool
 is_live history key = is_written (last_version history key)
 
 -- the number of a version, 0 where there is none
-abbrev pub number_of : Option Version → ℕ
-number_of None = 0
-number_of (Some version) = version.tx
+abbrev pub version_number : Option Version → ℕ
+version_number None = 0
+version_number (Some version) = version.tx
 
 -- the number of the transaction that wrote the key's last version, 0 where there is none
 abbrev pub last_number : List Transaction → List ℕ → ℕ
-last_number history key = number_of (last_version history key)
+last_number history key = version_number (last_version history key)
 
 -- the key begins with the prefix
 abbrev pub begins_with : List ℕ → List ℕ → Bool

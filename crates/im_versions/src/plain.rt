@@ -4,7 +4,7 @@
 
 ghost use Rattle.std.specs.Prelude.{◌≡◌, ◌≤◌, ◌<◌, ◌++◌, ℕ, not, All, AllPairs, IfOk, OnOk, IsTrue, ◌⊎◌, ◌&&◌, IsNone, IfSome, nat_le, length, slice_index_or, if◌then◌else◌};
 ghost use Rattle.std.specs.List.{IsAmong};
-ghost use Rattle.im_versions.specs.Versions.{all_versions, versions_of, last_version, is_live, is_written, number_of, last_number, begins_with, IsBelow, IsScan};
+ghost use Rattle.im_versions.specs.Versions.{all_versions, versions_of, last_version, is_live, is_written, version_number, last_number, begins_with, IsBelow, IsScan};
 ghost use Rattle.im_versions.specs.declared.versions.Version.{Version as TheVersion};
 ghost use Rattle.im_versions.specs.Admits.{holds, refusal_of, first_refusal, place_refusal};
 
@@ -68,8 +68,8 @@ fn is_written(version: &Option<Version>) -> bool
 }
 
 // The number of a version, 0 where there is none.
-fn number_of(version: &Option<Version>) -> u64
-    ensures { result ≡ number_of version.now }
+fn version_number(version: &Option<Version>) -> u64
+    ensures { result ≡ version_number version.now }
 {
     match version {
         Some(version) => version.tx,
@@ -183,7 +183,7 @@ fn existing(
         return Ok(None);
     }
     let key = Octets::from_slice(alloc, key)?;
-    let tx = number_of(&last);
+    let tx = version_number(&last);
     Ok(Some(PlaceError::Exists { key, tx }))
 }
 
@@ -196,7 +196,7 @@ fn modified(
 ) -> Result<Option<PlaceError>, AllocError>
     ensures { IfOk result (λ refusal. refusal ≡ (if nat_le (last_number history.now key.now) n then None else Some (PlaceError.Modified key.now (last_number history.now key.now)))) }
 {
-    let tx = number_of(&last_version(alloc, history, key)?);
+    let tx = version_number(&last_version(alloc, history, key)?);
     if tx <= n {
         return Ok(None);
     }

@@ -1,6 +1,6 @@
 use Rattle.std.proofs.Common.{◌≡◌, ◌≤◌, ◌-◌, ◌*◌, length, Some}
 use Rattle.im_disk.specs.Disk.{Told, seen}
-use Rattle.im_opening.specs.Reach.{Fits, IsWhole, reached_of}
+use Rattle.im_opening.specs.Reach.{Fits, IsWholeProgress, reached_of}
 use Rattle.im_opening.proofs.BatchesLeft.{BatchesLeft}
 use Rattle.im_opening.proofs.reading.read_batches.Given as goal
 
@@ -14,7 +14,7 @@ invariant-batches g l = record {
   begun : l.batches ≡ 0 → length l.progress.alhs.items ≡ 0;
   place : l.progress.place ≤ length l.source.log.now;
   fits : Fits (g.H.Hash32.digest l.hash) l.progress;
-  whole : IsWhole (g.H.Hash32.digest l.hash) l.progress;
+  whole : IsWholeProgress (g.H.Hash32.digest l.hash) l.progress;
   left : (t : Told) → g.D.Disk.told l.initial.disk ≡ Some t
       → BatchesLeft (g.H.Hash32.digest l.hash) (seen t) l.gate l.batches l.progress.records.items (reached_of l.progress);
 }

@@ -1,5 +1,5 @@
 use Rattle.std.proofs.Common.{arith, ◌≡◌, ◌^◌, ◌≤◌, ◌∷◌, [], ℕ, List, length, sym, ◌∙◌, ap, subst, All, Some}
-use Rattle.im_clog.specs.Marks.{Lacks}
+use Rattle.im_clog.specs.Marks.{IsUncounted}
 use Rattle.im_disk.specs.Disk.{Told, seen}
 use Rattle.im_format.specs.Places.{log_end, refs_of}
 use Rattle.im_format.specs.Reading.{history_in}
@@ -52,8 +52,8 @@ returns-clause-given g c =
     let log = at-told (λ t. c.args.log.now ≡ seen t 0) was t c.requires.log is in
     let small_log : IsSmall c.args.log.now = record { small = λ i. omega (arith, (c.type_inv.log i).fits) } in
     let small_commits : IsSmall c.args.commits.now = record { small = λ i. omega (arith, (c.type_inv.commits i).fits) } in
-    let L : List ℕ → Type 0 = λ l. Lacks l read.gate read.behind in
-    let G : ℕ → Type 0 = λ k. Lacks (seen t 1) k read.behind in
+    let L : List ℕ → Type 0 = λ l. IsUncounted l read.gate read.behind in
+    let G : ℕ → Type 0 = λ k. IsUncounted (seen t 1) k read.behind in
     record {
       batches = batches;
       within = omega (arith, gate, ens.reaches, ap length commits);

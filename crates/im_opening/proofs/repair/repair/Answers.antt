@@ -10,10 +10,10 @@ use Rattle.im_digest.specs.Digests.{Hash}
 use Rattle.im_format.specs.Batches.{gate_of}
 use Rattle.im_format.specs.Reading.{history_in}
 use Rattle.im_format.specs.Standing.{Stands}
-use Rattle.im_clog.specs.Marks.{Lacks}
+use Rattle.im_clog.specs.Marks.{IsUncounted}
 use Rattle.im_clog.specs.declared.marks.Uncounted.{Uncounted}
 use Rattle.im_clog.specs.declared.marks.Uncounted.TheVariants.{Missing, Closed, Short}
-use Rattle.im_opening.specs.Cut.{IsCut, IsHalfRepaired, IsHalfShut, IsKept, IsShut, repaired, shut_at}
+use Rattle.im_opening.specs.Cut.{IsCutOff, IsHalfRepaired, IsHalfShut, IsHeldThroughout, IsShut, repaired, shut_at}
 use Rattle.im_opening.specs.Opening.{IsRead}
 use Rattle.im_opening.specs.declared.reading.Opened.{Opened}
 use Rattle.im_opening.proofs.GateLemmas.{batches-same, cut-kept, lacks-none, same-torn, shut-read, stands-same}
@@ -27,7 +27,7 @@ of-told : (P : Told → Type 0) (o : Option Told) (t : Told) → o ≡ Some t �
 of-told P o t is h = subst (λ (x : Option Told). IfSome x P) (sym is) h
 
 cut-of : (hash : Hash) (image : Files) (opened : Opened) (gate : ℕ) → IsRead hash image opened → gate ≡ gate_of opened.batches
-    → length (image 1) ≤ gate + 25 → IsCut hash (history_in image) gate image
+    → length (image 1) ≤ gate + 25 → IsCutOff hash (history_in image) gate image
 cut-of hash image opened gate read at short =
     let n = opened.batches in
     let same : n ≡ length read.stands.batches =
@@ -51,11 +51,11 @@ IsNotClosed (Short len) = Unit {0}
 -- where the commit log is cut short
 shut-leaves : (hash : Hash) (opened : Opened) (gate : ℕ) (o n : Option Told) (t : Told) → o ≡ Some t → IsDurable t → IsRead hash (seen t) opened
     → gate ≡ gate_of opened.batches → length (seen t 1) ≤ gate + 25
-    → (LeavesNow (IsCut hash (history_in (seen t)) gate) o → IfSome o (λ s. IsCut hash (history_in (seen t)) gate (seen s))
+    → (LeavesNow (IsCutOff hash (history_in (seen t)) gate) o → IfSome o (λ s. IsCutOff hash (history_in (seen t)) gate (seen s))
     → Leaves (λ image. Stands hash image (history_in (seen t))) o n)
     → Leaves (λ image. Stands hash image (history_in (seen t))) o n
 shut-leaves hash opened gate o n t is durable read at short leaves =
-    let P : Files → Type 0 = IsCut hash (history_in (seen t)) gate in
+    let P : Files → Type 0 = IsCutOff hash (history_in (seen t)) gate in
     let cut = cut-of hash (seen t) opened gate read at short in
     leaves
     (of-told (λ s. (image : Files) → Images s image → P image) o t is
@@ -63,7 +63,7 @@ shut-leaves hash opened gate o n t is durable read at short leaves =
     (of-told (λ s. P (seen s)) o t is cut)
 
 -- why it is short
-short-of : (log : List ℕ) (gate : ℕ) (reason : Uncounted) → Lacks log gate reason → IsNotClosed reason → length log ≤ gate + 25
+short-of : (log : List ℕ) (gate : ℕ) (reason : Uncounted) → IsUncounted log gate reason → IsNotClosed reason → length log ≤ gate + 25
 short-of log gate Missing h open_is = omega (arith, h)
 short-of log gate (Closed octet) h open_is = absurd open_is
 short-of log gate (Short len) h open_is = h.2
@@ -82,7 +82,7 @@ returns-in-Missing-clause-leaves g c hash t is durable read =
 pub returns-in-Closed-clause-shut : goal.returns-in-Closed-clause-shut
 returns-in-Closed-clause-shut g c hash t is read =
     let opened = c.args.opened.now in
-    let L : Uncounted → Type 0 = λ r. Lacks (seen t 1) (gate_of opened.batches) r in
+    let L : Uncounted → Type 0 = λ r. IsUncounted (seen t 1) (gate_of opened.batches) r in
     of-told (λ s. IsShut (seen s) (gate_of opened.batches)) (g.D.Disk.told c.args.disk.now) t is
     (shut-read (seen t) (gate_of opened.batches) _ (subst L c.in-Closed.is read.behind_is))
 
@@ -95,8 +95,8 @@ returns-in-Missing-clause-shut g c hash t is read =
 pub returns-in-Closed-clause-kept : goal.returns-in-Closed-clause-kept
 returns-in-Closed-clause-kept g c hash t is durable read there =
     let opened = c.args.opened.now in
-    let L : Uncounted → Type 0 = λ r. Lacks (seen t 1) (gate_of opened.batches) r in
-    of-told (IsKept (batches_in (seen t)) opened.ends) (g.D.Disk.told c.args.disk.now) t is
+    let L : Uncounted → Type 0 = λ r. IsUncounted (seen t 1) (gate_of opened.batches) r in
+    of-told (IsHeldThroughout (batches_in (seen t)) opened.ends) (g.D.Disk.told c.args.disk.now) t is
     (kept-closed opened t _ durable there read.batches.batches_are (subst L c.in-Closed.is read.behind_is))
 
 pub returns-in-Missing-clause-kept : goal.returns-in-Missing-clause-kept

@@ -8,7 +8,7 @@ use Rattle.im_disk.proofs.Growing.{grows_both, grows_by_answer}
 use Rattle.im_disk.proofs.Leaving.{if_told, leaves_both, leaves_weaker, on_ok_after}
 use Rattle.im_format.specs.Standing.{Stands}
 use Rattle.im_alog.proofs.Outcomes.{HasAnswer, if_mapped, leaves_of_sync, leaves_of_write, reads_of_write, seen_of_write}
-use Rattle.im_opening.specs.Cut.{IsCut, IsHalfShut, IsShut, shut_at}
+use Rattle.im_opening.specs.Cut.{IsCutOff, IsHalfShut, IsShut, shut_at}
 use Rattle.im_opening.proofs.GateLemmas.{cut-kept, same-torn}
 use Rattle.im_octet.proofs.Common.{if-err}
 use Rattle.im_opening.proofs.OpenLemmas.{failed-sync, failed-write}
@@ -16,7 +16,7 @@ use Rattle.im_opening.proofs.repair.shut_gate.Goals as goal
 
 pub returns-in_err-write_at-clause-leaves : goal.returns-in_err-write_at-clause-leaves
 returns-in_err-write_at-clause-leaves g c hash history before here =
-    let P = IsCut hash history c.args.gate in
+    let P = IsCutOff hash history c.args.gate in
     leaves_weaker P (λ image. Stands hash image history) (λ image cut. cut.stands) _ _
     (leaves_of_write P 1 c.args.gate (0 ∷ []) _ _ c.write_at.result
     (record { ok = c.write_at.ensures.ok; failed = c.write_at.ensures.failed; memory = c.write_at.ensures.memory })
@@ -24,7 +24,7 @@ returns-in_err-write_at-clause-leaves g c hash history before here =
 
 pub returns-clause-leaves : goal.returns-clause-leaves
 returns-clause-leaves g c hash history before here =
-    let P = IsCut hash history c.args.gate in
+    let P = IsCutOff hash history c.args.gate in
     let a : HasAnswer (Wrote 1 c.args.gate (0 ∷ [])) (Tore 1 c.args.gate 1) _ _ c.write_at.result =
     record { ok = c.write_at.ensures.ok; failed = c.write_at.ensures.failed; memory = c.write_at.ensures.memory } in
     let one = leaves_of_write P 1 c.args.gate (0 ∷ []) _ _ c.write_at.result a (cut-kept hash history c.args.gate) before in
