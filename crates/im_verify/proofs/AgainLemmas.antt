@@ -15,7 +15,7 @@ use Rattle.im_client.specs.Folds.{IsFold, IsRefused, kept_texts, state_after, st
 use Rattle.im_client.specs.declared.outcomes.Outcome.{Outcome}
 use Rattle.im_client.specs.declared.outcomes.Outcome.TheVariants.{Passed, Accepted, Refused}
 use Rattle.im_verify.specs.Judged.{AreJudged, AreTaken, NoneRefused}
-use Rattle.im_verify.proofs.FitLemmas.{said-fits}
+use Rattle.im_wire.proofs.FitLemmas.{said-fits}
 use Rattle.im_verify.proofs.PrintLemmas.{text-again}
 
 -- a session's name begins with no brace

@@ -1,10 +1,7 @@
 pub mod AgainLemmas
 pub mod FateLemmas
-pub mod FitLemmas
 pub mod FoldLemmas
 pub mod KeepLemmas
-pub mod KnownLemmas
-pub mod OptionLemmas
 pub mod PrintLemmas
 pub mod RunLemmas
 pub mod TakenOrStopped

@@ -1,8 +1,11 @@
 pub mod FieldAgain
+pub mod FitLemmas
 pub mod HeaderText
+pub mod KnownLemmas
 pub mod LineLemmas
 pub mod Loops
 pub mod MessageAgain
+pub mod OptionLemmas
 pub mod ReadAgain
 pub mod RecordAgain
 pub mod TokenLemmas

@@ -1,10 +1,10 @@
-ghost use Rattle.std.specs.Prelude.{◌≡◌, ℕ, List, ◌++◌, codes, Option};
+ghost use Rattle.std.specs.Prelude.{◌≡◌, ℕ, List, ◌++◌, codes, Option, Some};
 ghost use Rattle.serde_json.specs.Written.{compact_text};
 ghost use Rattle.im_model.specs.declared.headers.Header.{Header};
 ghost use Rattle.im_wire.specs.Headers.{header_text};
 ghost use Rattle.im_wire.specs.declared.messages.Message.{Message};
 ghost use Rattle.im_wire.specs.declared.messages.Message.TheVariants.{State};
-ghost use Rattle.im_wire.specs.Fits.{IsHeader};
+ghost use Rattle.im_wire.specs.Fits.{IsHeader, IsMessage};
 ghost use Rattle.im_wire.specs.Lines.{IsLine};
 ghost use Rattle.im_wire.specs.Messages.{HasMessage};
 ghost use Rattle.im_wire.specs.Texts.{header_data, text};
@@ -24,4 +24,9 @@ pub fn one_header_text()
     ensures inside { (header : Header) → IsHeader header → compact_text (header_data header) ≡ header_text header }
     ensures state { (header : Header) → IsHeader header
         → text (State header) ≡ codes "{\"header\":" ++ header_text header ++ codes ",\"type\":\"state\"}" }
+{}
+
+/// A message that a line says has the ranges of its types.
+pub fn a_message_of_a_line_fits()
+    ensures { (line : List ℕ) (message : Message) → IsLine line (Some message) → IsMessage message }
 {}

@@ -3,6 +3,7 @@
 #![tactic(auto)]
 
 pub mod errors;
+pub mod fits;
 pub mod laws;
 pub mod lines;
 pub mod messages;

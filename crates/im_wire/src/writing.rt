@@ -7,13 +7,12 @@ ghost use Rattle.im_wire.specs.Tokens.{tokens_of, item_tokens};
 
 mod duals;
 mod fields;
-mod fits;
 mod records;
 
+use crate::fits::{header_fits, message_fits};
 use crate::messages::Message;
 use crate::writing::duals::{put_anchor_field, put_dual_proof_field};
 use crate::writing::fields::{put_digests_field, put_number_field, put_text_field};
-use crate::writing::fits::{header_fits, message_fits};
 use crate::writing::records::{put_entry_field, put_header, put_header_field};
 use im_model::entries::Entry;
 use im_model::headers::Header;

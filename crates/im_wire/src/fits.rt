@@ -118,8 +118,9 @@ fn anchor_fits(anchor: &Option<DualProof>)
     }
 }
 
-// What the types say of a message.
-pub(crate) fn message_fits(message: &Message)
+/// What the types say of a message: its numbers are in range, its octets are octets, its digests have 32. It does
+/// nothing, but walks over the message's lists of digests to say so.
+pub fn message_fits(message: &Message)
     ensures { IsMessage message.now }
 {
     match message {

@@ -12,7 +12,8 @@ use Rattle.serde_json.specs.Data.{Num, unsigned, negative, float, Data, null, bo
 use Rattle.serde_json.specs.Read.{float_of, is_integer, number_from, number_of, of_json, of_items, of_members, max_depth, read}
 use Rattle.serde_json.specs.Find.{get, get_member}
 use Rattle.im_wire.specs.Fits.{IsSigned}
-use Rattle.im_verify.proofs.OptionLemmas.{if-some, map-some, some-is, then-some}
+use Rattle.im_octet.proofs.Common.{some-is}
+use Rattle.im_wire.proofs.OptionLemmas.{if-some, map-some, then-some}
 
 -- a negative integer has 64 bits with a sign
 abbrev pub IsKnown : Num → Type 0

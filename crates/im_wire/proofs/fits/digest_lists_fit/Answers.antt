@@ -3,7 +3,7 @@ use Rattle.std.specs.List.{All}
 use Rattle.std.proofs.lemmas.List.{take_all}
 use Rattle.std.proofs.lemmas.List.Elements.{All-more}
 use Rattle.im_wire.specs.Fits.{AreDigests}
-use Rattle.im_wire.proofs.writing.fits.digest_lists_fit.Goals as goal
+use Rattle.im_wire.proofs.fits.digest_lists_fit.Goals as goal
 
 pub loop-digests-preserved : goal.loop-digests-preserved
 loop-digests-preserved c =

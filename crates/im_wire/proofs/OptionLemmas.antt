@@ -1,10 +1,8 @@
 -- What a step that gave something says of the steps before it.
 use Rattle.std.proofs.Common.{◌≡◌, Bool, true, false, if◌then◌else◌, Option, Some, None, option_map, option_and_then, Result, Ok, Err, refl, ap}
 use Rattle.std.specs.Result.{result_ok}
+use Rattle.im_octet.proofs.Common.{some-is}
 use Rattle.im_wire.specs.Gives.{◌>>=◌}
-
-pub some-is : {A : Type 0} (x y : A) → Some x ≡ Some y → x ≡ y
-some-is x y e = cc
 
 pub bind-some : {A B : Type 0} (o : Option A) (f : A → Option B) (y : B) → (o >>= f) ≡ Some y → (x : A) × (o ≡ Some x) × (f x ≡ Some y)
 bind-some (Some x) f y e = (x, refl, e)

@@ -18,8 +18,9 @@ use Rattle.im_wire.specs.Fields.{number_of, signed_of, octets_of, digest_of, dig
 use Rattle.im_wire.specs.Fits.{IsDigest, AreDigests, AreDigestLists, IsBounded, IsSigned, IsHeader, IsEntry, IsAdvanceProof, IsDualProof, IsAnchor, IsMessage}
 use Rattle.im_wire.specs.Gives.{◌>>=◌}
 use Rattle.im_wire.specs.Messages.{header_of, entry_of, advance_proof_of, dual_proof_of, anchor_of, state_of, dual_of, advance_of, item_of, message_as, message_of, HasMessage}
-use Rattle.im_verify.proofs.KnownLemmas.{AllKnown, ItemsKnown, get-known, read-known}
-use Rattle.im_verify.proofs.OptionLemmas.{bind-some, if-some, ok-some, some-is}
+use Rattle.im_wire.proofs.KnownLemmas.{AllKnown, ItemsKnown, get-known, read-known}
+use Rattle.im_octet.proofs.Common.{some-is}
+use Rattle.im_wire.proofs.OptionLemmas.{bind-some, if-some, ok-some}
 
 -- what is read of a value has the property
 abbrev Finds : {A : Type 0} → (Data → Option A) → (A → Type 0) → Type 0

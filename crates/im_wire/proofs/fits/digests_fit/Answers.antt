@@ -3,7 +3,7 @@ use Rattle.std.specs.List.{All}
 use Rattle.std.proofs.lemmas.List.{take_all}
 use Rattle.std.proofs.lemmas.List.Elements.{All-more}
 use Rattle.im_wire.specs.Fits.{IsDigest, AreDigests}
-use Rattle.im_wire.proofs.writing.fits.digests_fit.Goals as goal
+use Rattle.im_wire.proofs.fits.digests_fit.Goals as goal
 
 pub loop-digest-preserved : goal.loop-digest-preserved
 loop-digest-preserved c =
