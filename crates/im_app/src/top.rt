@@ -11,7 +11,7 @@ ghost use Rattle.im_format.specs.declared.damages.Damage.{Damage};
 ghost use Rattle.im_model.specs.declared.transactions.Transaction.{Transaction};
 ghost use Rattle.im_mtree.specs.Checks.{first_fail};
 ghost use Rattle.im_script.specs.Script.{StopsAfter};
-ghost use Rattle.im_verify.specs.Judged.{StopsKept};
+ghost use Rattle.im_verify.specs.Judged.{StopsHeld};
 ghost use Rattle.im_verify.specs.Runs.{BreaksAt, BreaksInto, BreaksOff, Verifies};
 ghost use Rattle.im_verify.specs.declared.ended.Ended.TheVariants as ended;
 ghost use Rattle.im_words.specs.Command.{IsRefused};
@@ -115,33 +115,31 @@ pub fn top<
         (length script ≤ 67108864) × ((n : ℕ) × (k ≡ n + 1) × StopsAfter script n)) }
 
     // `verify`, done: the octets written tell what became of each line of the stream, behind the kept lines,
-    // and the text of each accepted message is kept. Some line was refused exactly at `Refused`.
-    ensures accepted { AsksVerify (map string_bytes words.now) → result.status ≡ Status.Ok → IfSome (S.left source.old) (λ stream. IfSome (P.kept keeper.old) (λ kept.
-        Verifies (H.digest hash.now) stream kept ended.Ok (K.written sink.old) (K.written sink.new) (P.kept keeper.new))) }
-    ensures some_refused { AsksVerify (map string_bytes words.now) → result.status ≡ Status.Refused → IfSome (S.left source.old) (λ stream. IfSome (P.kept keeper.old) (λ kept.
-        Verifies (H.digest hash.now) stream kept ended.Refused (K.written sink.old) (K.written sink.new) (P.kept keeper.new))) }
+    // and the text of each accepted message is kept. Some line was refused exactly at `Refused`. Of a source or a keeper
+    // that doesn't tell what it holds this is said of some stream and some lines.
+    ensures accepted { AsksVerify (map string_bytes words.now) → result.status ≡ Status.Ok →
+        Verifies (H.digest hash.now) ended.Ok (S.left source.old) (K.written sink.old) (K.written sink.new) (P.kept keeper.old) (P.kept keeper.new) }
+    ensures some_refused { AsksVerify (map string_bytes words.now) → result.status ≡ Status.Refused →
+        Verifies (H.digest hash.now) ended.Refused (S.left source.old) (K.written sink.old) (K.written sink.new) (P.kept keeper.old) (P.kept keeper.new) }
 
     // Where the sink failed, the first lines were told, and the next one in part, never whole; the accepted messages of
     // them all are kept. Where memory ran out, nothing was done, or the first lines were told and kept. Where the keeper
     // failed, nothing was done, or they were, before one that is accepted, of which nothing was told or kept. Else nothing
     // was done, nor with a stream past the limit, at any end.
-    ensures into { AsksVerify (map string_bytes words.now) → result.status ≡ Status.WriteFault → IfSome (S.left source.old) (λ stream. IfSome (P.kept keeper.old) (λ kept.
-        BreaksInto (H.digest hash.now) stream kept (K.written sink.old) (K.written sink.new) (P.kept keeper.new))) }
+    ensures into { AsksVerify (map string_bytes words.now) → result.status ≡ Status.WriteFault →
+        BreaksInto (H.digest hash.now) (S.left source.old) (K.written sink.old) (K.written sink.new) (P.kept keeper.old) (P.kept keeper.new) }
     ensures off { AsksVerify (map string_bytes words.now) → result.status ≡ Status.Memory →
         ((K.written sink.new ≡ K.written sink.old) × (P.kept keeper.new ≡ P.kept keeper.old))
-        ⊎ IfSome (S.left source.old) (λ stream. IfSome (P.kept keeper.old) (λ kept.
-        BreaksOff (H.digest hash.now) stream kept (K.written sink.old) (K.written sink.new) (P.kept keeper.new))) }
+        ⊎ BreaksOff (H.digest hash.now) (S.left source.old) (K.written sink.old) (K.written sink.new) (P.kept keeper.old) (P.kept keeper.new) }
     ensures fault { AsksVerify (map string_bytes words.now) → result.status ≡ Status.KeeperFault →
         ((K.written sink.new ≡ K.written sink.old) × (P.kept keeper.new ≡ P.kept keeper.old))
-        ⊎ IfSome (S.left source.old) (λ stream. IfSome (P.kept keeper.old) (λ kept.
-        BreaksAt (H.digest hash.now) stream kept (K.written sink.old) (K.written sink.new) (P.kept keeper.new))) }
+        ⊎ BreaksAt (H.digest hash.now) (S.left source.old) (K.written sink.old) (K.written sink.new) (P.kept keeper.old) (P.kept keeper.new) }
     ensures too_long { AsksVerify (map string_bytes words.now) → IfSome (S.left source.old) (λ stream. 67108864 < length stream → (sink.new ≡ sink.old) × (keeper.new ≡ keeper.old)) }
     ensures no_verdict { AsksVerify (map string_bytes words.now) → (result.status ≡ Status.ReadFault) ⊎ ((result.status ≡ Status.Long) ⊎ ((k : ℕ) × (result.status ≡ Status.Kept k))) →
         (sink.new ≡ sink.old) × (P.kept keeper.new ≡ P.kept keeper.old) }
 
     // The first kept line that fails a check.
-    ensures kept { (k : ℕ) → result.status ≡ Status.Kept k → IfSome (P.kept keeper.old) (λ kept.
-        (n : ℕ) × (k ≡ n + 1) × StopsKept (H.digest hash.now) kept n) }
+    ensures kept { (k : ℕ) → result.status ≡ Status.Kept k → StopsHeld (H.digest hash.now) (P.kept keeper.old) k }
 
     // At these ends, and at those of `given`, the source was read to its end.
     ensures emptied { (result.status ≡ Status.Ok) ⊎ ((result.status ≡ Status.WriteFault) ⊎ ((result.status ≡ Status.KeeperFault) ⊎ ((result.status ≡ Status.Refused) ⊎ ((k : ℕ) × (result.status ≡ Status.Kept k))))) →

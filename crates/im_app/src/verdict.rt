@@ -1,7 +1,7 @@
 ghost use Rattle.std.specs.Prelude.{◌≡◌, ◌⊎◌, ℕ, ◌+◌, ◌<◌, ◌≤◌, [], length, IfSome, Some};
 ghost use Rattle.im_edge.specs.Counts.{Rose};
 ghost use Rattle.im_edge.specs.Sources.{TakesAtMost};
-ghost use Rattle.im_verify.specs.Judged.{StopsKept};
+ghost use Rattle.im_verify.specs.Judged.{StopsHeld};
 ghost use Rattle.im_verify.specs.Runs.{BreaksAt, BreaksInto, BreaksOff, Verifies};
 ghost use Rattle.im_verify.specs.declared.ended.Ended.TheVariants as ended;
 ghost use Rattle.im_app.specs.Fates.{HasVerdict};
@@ -25,24 +25,21 @@ pub(crate) fn verdict<H: Hash32, S: Source, K: Sink, P: Keeper>(
     sink: &mut K,
     keeper: &mut P,
 ) -> Status
-    ensures accepted { result ≡ Status.Ok → IfSome (S.left source.old) (λ stream. IfSome (P.kept keeper.old) (λ kept.
-        Verifies (H.digest hash.now) stream kept ended.Ok (K.written sink.old) (K.written sink.new) (P.kept keeper.new))) }
-    ensures refused { result ≡ Status.Refused → IfSome (S.left source.old) (λ stream. IfSome (P.kept keeper.old) (λ kept.
-        Verifies (H.digest hash.now) stream kept ended.Refused (K.written sink.old) (K.written sink.new) (P.kept keeper.new))) }
-    ensures into { result ≡ Status.WriteFault → IfSome (S.left source.old) (λ stream. IfSome (P.kept keeper.old) (λ kept.
-        BreaksInto (H.digest hash.now) stream kept (K.written sink.old) (K.written sink.new) (P.kept keeper.new))) }
+    ensures accepted { result ≡ Status.Ok →
+        Verifies (H.digest hash.now) ended.Ok (S.left source.old) (K.written sink.old) (K.written sink.new) (P.kept keeper.old) (P.kept keeper.new) }
+    ensures refused { result ≡ Status.Refused →
+        Verifies (H.digest hash.now) ended.Refused (S.left source.old) (K.written sink.old) (K.written sink.new) (P.kept keeper.old) (P.kept keeper.new) }
+    ensures into { result ≡ Status.WriteFault →
+        BreaksInto (H.digest hash.now) (S.left source.old) (K.written sink.old) (K.written sink.new) (P.kept keeper.old) (P.kept keeper.new) }
     ensures off { result ≡ Status.Memory →
         ((K.written sink.new ≡ K.written sink.old) × (P.kept keeper.new ≡ P.kept keeper.old))
-        ⊎ IfSome (S.left source.old) (λ stream. IfSome (P.kept keeper.old) (λ kept.
-        BreaksOff (H.digest hash.now) stream kept (K.written sink.old) (K.written sink.new) (P.kept keeper.new))) }
+        ⊎ BreaksOff (H.digest hash.now) (S.left source.old) (K.written sink.old) (K.written sink.new) (P.kept keeper.old) (P.kept keeper.new) }
     ensures fault { result ≡ Status.KeeperFault →
         ((K.written sink.new ≡ K.written sink.old) × (P.kept keeper.new ≡ P.kept keeper.old))
-        ⊎ IfSome (S.left source.old) (λ stream. IfSome (P.kept keeper.old) (λ kept.
-        BreaksAt (H.digest hash.now) stream kept (K.written sink.old) (K.written sink.new) (P.kept keeper.new))) }
+        ⊎ BreaksAt (H.digest hash.now) (S.left source.old) (K.written sink.old) (K.written sink.new) (P.kept keeper.old) (P.kept keeper.new) }
     ensures nothing { (result ≡ Status.ReadFault) ⊎ ((result ≡ Status.Long) ⊎ ((k : ℕ) × (result ≡ Status.Kept k))) →
         (sink.new ≡ sink.old) × (P.kept keeper.new ≡ P.kept keeper.old) }
-    ensures kept { (k : ℕ) → result ≡ Status.Kept k → IfSome (P.kept keeper.old) (λ kept.
-        (n : ℕ) × (k ≡ n + 1) × StopsKept (H.digest hash.now) kept n) }
+    ensures kept { (k : ℕ) → result ≡ Status.Kept k → StopsHeld (H.digest hash.now) (P.kept keeper.old) k }
     ensures ends { EndsVerify result }
     ensures never { result ≡ Status.Usage → ⊥ }
     ensures too_long { IfSome (S.left source.old) (λ stream. 67108864 < length stream → (sink.new ≡ sink.old) × (keeper.new ≡ keeper.old)) }

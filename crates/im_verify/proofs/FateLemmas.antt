@@ -10,7 +10,7 @@ use Rattle.im_client.specs.declared.faults.LineFault.{LineFault}
 use Rattle.im_client.specs.declared.outcomes.Outcome.{Outcome}
 use Rattle.im_client.specs.declared.outcomes.Outcome.TheVariants as line
 use Rattle.im_verify.specs.Ends.{HasFate}
-use Rattle.im_verify.specs.Judged.{AreTaken, IsVerified, NoneRefused, SomeRefused, StopsKept}
+use Rattle.im_verify.specs.Judged.{AreTaken, IsVerified, NoneRefused, SomeRefused, StopsHeld, StopsKept}
 use Rattle.im_verify.specs.Runs.{Verifies}
 use Rattle.im_verify.specs.declared.ended.Ended.{Ended}
 use Rattle.im_verify.specs.declared.ended.Ended.TheVariants as the
@@ -161,31 +161,37 @@ fate hash ended stream kept e = record {
   refuses = refuses-end hash ended stream kept e;
 }
 
+-- what was verified, of the kept lines where the keeper tells them
+verified-held : (hash : Hash) (ended : Ended) (stream : List ℕ) (before after : Option (List ℕ)) (lines : List (List ℕ)) (now : Option (List (List ℕ)))
+    (v : Verifies hash ended (Some stream) before after (Some lines) now) → IsVerified hash lines stream v.outcomes
+verified-held hash ended stream before after lines now v =
+    subst (λ (ks : List (List ℕ)). IsVerified hash ks stream v.outcomes) (sym v.kept_is) (subst (λ (s : List ℕ). IsVerified hash v.kept s v.outcomes) (sym v.stream_is) v.verified)
+
 -- the same where the keeper tells what it holds
-fate-kept : (hash : Hash) (ended : Ended) (stream : List ℕ) (before after : Option (List ℕ)) (kept now : Option (List (List ℕ)))
+fate-kept : (hash : Hash) (ended : Ended) (stream : List ℕ) (before after : Option (List ℕ)) (held now : Option (List (List ℕ)))
     → length stream ≤ 67108864
     → ((ended ≡ the.ReadFault) ⊎ (ended ≡ the.Long) → ⊥) → (ended ≡ the.WriteFault → ⊥) → (ended ≡ the.KeeperFault → ⊥)
-    → ((ended ≡ the.Ok) ⊎ (ended ≡ the.Refused) → IfSome kept (λ lines. Verifies hash stream lines ended before after now))
-    → ((k : ℕ) → ended ≡ the.Kept k → IfSome kept (λ lines. (n : ℕ) × (k ≡ n + 1) × StopsKept hash lines n))
-    → IfSome kept (HasFate hash ended stream)
+    → ((ended ≡ the.Ok) ⊎ (ended ≡ the.Refused) → Verifies hash ended (Some stream) before after held now)
+    → ((k : ℕ) → ended ≡ the.Kept k → StopsHeld hash held k)
+    → IfSome held (HasFate hash ended stream)
 fate-kept hash ended stream before after None now short never write keep done stop = tt
 fate-kept hash ended stream before after (Some lines) now short never write keep done stop = fate hash ended stream lines (record {
-  outcomes = λ e. let v = done e in (v.outcomes, v.verified, v.accepted, v.refused);
+  outcomes = λ e. let v = done e in (v.outcomes, verified-held hash ended stream before after lines now v, v.accepted, v.refused);
   no_read = λ e. never (inl e);
   no_write = write;
   no_keep = keep;
-  stop = stop;
+  stop = λ k e. let s = stop k e in (s.n, s.number, subst (λ (ks : List (List ℕ)). StopsKept hash ks s.n) (sym s.kept_is) s.stops);
   long = λ e. absurd (never (inr e));
   short = λ _ _. short;
 })
 
 -- the same where the source and the keeper tell what they hold, of the clauses of a run over what was read
-pub fate-told : (hash : Hash) (ended : Ended) (left : Option (List ℕ)) (stream slice : List ℕ) (before after : Option (List ℕ)) (kept now : Option (List (List ℕ)))
+pub fate-told : (hash : Hash) (ended : Ended) (left : Option (List ℕ)) (stream slice : List ℕ) (before after : Option (List ℕ)) (held now : Option (List (List ℕ)))
     → IfSome left (λ xs. stream ≡ xs) → slice ≡ stream → length stream ≤ 67108864
     → ((ended ≡ the.ReadFault) ⊎ (ended ≡ the.Long) → ⊥) → (ended ≡ the.WriteFault → ⊥) → (ended ≡ the.KeeperFault → ⊥)
-    → ((ended ≡ the.Ok) ⊎ (ended ≡ the.Refused) → IfSome kept (λ lines. Verifies hash slice lines ended before after now))
-    → ((k : ℕ) → ended ≡ the.Kept k → IfSome kept (λ lines. (n : ℕ) × (k ≡ n + 1) × StopsKept hash lines n))
-    → IfSome left (λ s. IfSome kept (HasFate hash ended s))
-fate-told hash ended left stream slice before after kept now read same short never write keep done stop =
-    told left stream slice (λ s. IfSome kept (HasFate hash ended s)) read same
-    (fate-kept hash ended slice before after kept now (subst (λ (s : List ℕ). length s ≤ 67108864) (sym same) short) never write keep done stop)
+    → ((ended ≡ the.Ok) ⊎ (ended ≡ the.Refused) → Verifies hash ended (Some slice) before after held now)
+    → ((k : ℕ) → ended ≡ the.Kept k → StopsHeld hash held k)
+    → IfSome left (λ s. IfSome held (HasFate hash ended s))
+fate-told hash ended left stream slice before after held now read same short never write keep done stop =
+    told left stream slice (λ s. IfSome held (HasFate hash ended s)) read same
+    (fate-kept hash ended slice before after held now (subst (λ (s : List ℕ). length s ≤ 67108864) (sym same) short) never write keep done stop)

@@ -1,5 +1,5 @@
 -- How far kept lines were taken, one line more, and the first that is refused.
-use Rattle.std.proofs.Common.{◌≡◌, ◌+◌, ◌<◌, ℕ, List, [], ◌∷◌, ◌++◌, length, take, get_or, Option, None, sym, ap, subst, ◌∙◌}
+use Rattle.std.proofs.Common.{◌≡◌, ◌+◌, ◌<◌, ℕ, List, [], ◌∷◌, ◌++◌, length, take, get_or, Option, Some, None, IfSome, sym, ap, subst, ◌∙◌}
 use Rattle.std.proofs.lemmas.List.{take_more, get_or_default}
 use Rattle.std.proofs.lemmas.List.Elements.{All-push}
 use Rattle.im_digest.specs.Digests.{Hash}
@@ -8,8 +8,8 @@ use Rattle.im_client.specs.Folds.{IsFold, IsOutcome, IsRefused, state_after, sta
 use Rattle.im_client.specs.declared.faults.LineFault.{LineFault}
 use Rattle.im_client.specs.declared.outcomes.Outcome.{Outcome}
 use Rattle.im_client.specs.declared.outcomes.Outcome.TheVariants.{Passed, Accepted, Refused}
-use Rattle.im_verify.specs.Judged.{StopsKept}
-use Rattle.im_verify.specs.Turns.{TakesKept}
+use Rattle.im_verify.specs.Judged.{StopsHeld, StopsKept}
+use Rattle.im_verify.specs.Turns.{TakesHeld, TakesKept}
 use Rattle.im_verify.proofs.FoldLemmas.{fold-push, state-push}
 
 -- one line more that isn't refused
@@ -46,3 +46,18 @@ kept-stops hash kept i line state o within at t is r =
       fault = found.0;
       refused = subst (λ (l : List ℕ). IsOutcome hash (state_after None t.outcomes) l (Refused found.0)) (at ∙ get_or_default kept i line [] within) here;
     }
+
+-- what a keeper held, where it tells it, is what was read
+held_is : (held : Option (List (List ℕ))) (lines slice : List (List ℕ)) → IfSome held (λ xs. lines ≡ xs) → slice ≡ lines → IfSome held (λ xs. xs ≡ slice)
+held_is None lines slice read same = tt
+held_is (Some xs) lines slice read same = sym (same ∙ read)
+
+-- it was taken
+pub takes_held : (hash : Hash) (held : Option (List (List ℕ))) (lines slice : List (List ℕ)) (state : Option Header) → IfSome held (λ xs. lines ≡ xs) → slice ≡ lines → TakesKept hash slice state
+    → TakesHeld hash held state
+takes_held hash held lines slice state read same t = record { kept = slice; kept_is = held_is held lines slice read same; takes = t }
+
+-- or one of its lines is the first that is refused
+pub stops_held : (hash : Hash) (held : Option (List (List ℕ))) (lines slice : List (List ℕ)) (k : ℕ) → IfSome held (λ xs. lines ≡ xs) → slice ≡ lines → (n : ℕ) × (k ≡ n + 1) × StopsKept hash slice n
+    → StopsHeld hash held k
+stops_held hash held lines slice k read same s = record { kept = slice; kept_is = held_is held lines slice read same; n = s.0; number = s.1; stops = s.2 }

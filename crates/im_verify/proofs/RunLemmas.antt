@@ -1,5 +1,6 @@
 -- From the lines of a stream to the whole run, and what was kept however it broke off.
 use Rattle.std.proofs.Common.{◌≡◌, ◌+◌, ◌≤◌, ℕ, zero, suc, List, [], ◌∷◌, ◌++◌, length, take, Bool, true, false, Option, Some, None, IfSome, sym, ap, subst, ◌∙◌, arith, length-append}
+use Rattle.std.specs.Option.{option_map}
 use Rattle.std.specs.Io.KnownBytes.{Appends}
 use Rattle.std.proofs.Math.Seq.{take-append-add}
 use Rattle.std.proofs.lemmas.List.{take_all}
@@ -12,7 +13,7 @@ use Rattle.im_client.specs.declared.outcomes.Outcome.{Outcome}
 use Rattle.im_client.specs.declared.outcomes.Outcome.TheVariants.{Accepted}
 use Rattle.im_verify.specs.Judged.{AreJudged}
 use Rattle.im_verify.specs.Runs.{BreaksAt, BreaksInto, BreaksOff, KeepsFirst, Verifies}
-use Rattle.im_verify.specs.Turns.{done, TakesAll, TakesAt, TakesInto, TakesKept, TakesSome}
+use Rattle.im_verify.specs.Turns.{done, TakesAll, TakesAt, TakesHeld, TakesInto, TakesKept, TakesSome}
 use Rattle.im_verify.specs.declared.ended.Ended.{Ended}
 use Rattle.im_verify.specs.declared.ended.Ended.TheVariants.{Ok, Refused}
 use Rattle.im_verify.proofs.FoldLemmas.{fold-before, lines-push}
@@ -29,89 +30,99 @@ pub told : (left : Option (List ℕ)) (stream slice : List ℕ) (P : List ℕ �
 told None stream slice P read same h = tt
 told (Some xs) stream slice P read same h = subst P (same ∙ read) h
 
--- what the keeper holds, where it tells it, is what was taken
-verifies-kept : (hash : Hash) (kept : Option (List (List ℕ))) (stream : List ℕ) (state : Option Header) (refused : Bool) (ended : Ended) (before after : Option (List ℕ)) (now : Option (List (List ℕ)))
-    → IfSome kept (λ ks. TakesKept hash ks state) → TakesAll hash state stream refused (done before kept) (done after now)
-    → (ended ≡ Ok → refused ≡ false) → (ended ≡ Refused → refused ≡ true) → IfSome kept (λ ks. Verifies hash stream ks ended before after now)
-verifies-kept hash None stream state refused ended before after now took t fine faulty = tt
-verifies-kept hash (Some ks) stream state refused ended before after now took t fine faulty = record {
-  outcomes = t.outcomes;
-  verified = record { texts = t.texts; are = t.are; judged = judged hash ks t.texts state t.outcomes took t.fold };
-  told = t.adds.told;
-  keeps = t.adds.keeps;
-  accepted = λ e. t.accepted (fine e);
-  refused = λ e. t.some (faulty e);
-}
+-- the taking of its lines left the keeper's lines as they were
+held-same : {held mid : Option (List (List ℕ))} → mid ≡ held → (more : List (List ℕ)) → option_map (λ (xs : List (List ℕ)). xs ++ more) mid ≡ option_map (λ (xs : List (List ℕ)). xs ++ more) held
+held-same still more = ap (option_map (λ (xs : List (List ℕ)). xs ++ more)) still
 
-into-kept : (hash : Hash) (kept : Option (List (List ℕ))) (stream : List ℕ) (state : Option Header) (before after : Option (List ℕ)) (now : Option (List (List ℕ)))
-    → IfSome kept (λ ks. TakesKept hash ks state) → TakesInto hash state stream (done before kept) (done after now) → IfSome kept (λ ks. BreaksInto hash stream ks before after now)
-into-kept hash None stream state before after now took t = tt
-into-kept hash (Some ks) stream state before after now took t = record {
-  texts = t.texts;
-  are = t.are;
-  count = t.count;
-  outcomes = t.outcomes;
-  last = t.last;
-  judged = judged hash ks (take t.count t.texts) state (t.outcomes ++ t.last ∷ []) took t.fold;
-  part = t.part;
-  unfinished = t.unfinished;
-  told = t.adds.told;
-  keeps = t.adds.keeps;
-}
+-- so it is as a slice lends it
+pub source_is : (left : Option (List ℕ)) (stream slice : List ℕ) → IfSome left (λ xs. stream ≡ xs) → slice ≡ stream → IfSome left (λ octets. octets ≡ slice)
+source_is None stream slice read same = tt
+source_is (Some xs) stream slice read same = sym (same ∙ read)
 
-off-kept : (hash : Hash) (kept : Option (List (List ℕ))) (stream : List ℕ) (state : Option Header) (before after : Option (List ℕ)) (now : Option (List (List ℕ)))
-    → IfSome kept (λ ks. TakesKept hash ks state) → TakesSome hash state stream (done before kept) (done after now) → IfSome kept (λ ks. BreaksOff hash stream ks before after now)
-off-kept hash None stream state before after now took t = tt
-off-kept hash (Some ks) stream state before after now took t = record {
-  texts = t.texts;
-  are = t.are;
-  count = t.count;
-  outcomes = t.outcomes;
-  judged = judged hash ks (take t.count t.texts) state t.outcomes took t.fold;
-  told = t.adds.told;
-  keeps = t.adds.keeps;
-}
+-- behind the lines that a keeper held: a run is done
+pub verifies : (hash own : Hash) (source : Option (List ℕ)) (held mid : Option (List (List ℕ))) (stream : List ℕ) (state : Option Header) (refused : Bool) (ended : Ended)
+    (before after : Option (List ℕ)) (now : Option (List (List ℕ)))
+    → own ≡ hash → IfSome source (λ octets. octets ≡ stream) → mid ≡ held → TakesHeld hash held state → TakesAll own state stream refused (done before mid) (done after now)
+    → (ended ≡ Ok → refused ≡ false) → (ended ≡ Refused → refused ≡ true) → Verifies hash ended source before after held now
+verifies hash own source held mid stream state refused ended before after now same is still took taken fine faulty =
+    let t : TakesAll hash state stream refused (done before mid) (done after now) = subst (λ (h : Hash). TakesAll h state stream refused (done before mid) (done after now)) same taken in
+    record {
+      stream = stream;
+      stream_is = is;
+      kept = took.kept;
+      kept_is = took.kept_is;
+      outcomes = t.outcomes;
+      verified = record { texts = t.texts; are = t.are; judged = judged hash took.kept t.texts state t.outcomes took.takes t.fold };
+      told = t.adds.told;
+      keeps = t.adds.keeps ∙ held-same still (kept_texts t.outcomes);
+      accepted = λ e. t.accepted (fine e);
+      refused = λ e. t.some (faulty e);
+    }
 
-at-kept : (hash : Hash) (kept : Option (List (List ℕ))) (stream : List ℕ) (state : Option Header) (before after : Option (List ℕ)) (now : Option (List (List ℕ)))
-    → IfSome kept (λ ks. TakesKept hash ks state) → TakesAt hash state stream (done before kept) (done after now) → IfSome kept (λ ks. BreaksAt hash stream ks before after now)
-at-kept hash None stream state before after now took t = tt
-at-kept hash (Some ks) stream state before after now took t = record {
-  texts = t.texts;
-  are = t.are;
-  count = t.count;
-  within = t.within;
-  outcomes = t.outcomes;
-  next = t.next;
-  judged = judged hash ks (take (t.count + 1) t.texts) state (t.outcomes ++ Accepted t.next ∷ []) took t.fold;
-  told = t.adds.told;
-  keeps = t.adds.keeps;
-}
+-- it broke off in what tells a line
+pub breaks-into : (hash own : Hash) (source : Option (List ℕ)) (held mid : Option (List (List ℕ))) (stream : List ℕ) (state : Option Header) (before after : Option (List ℕ)) (now : Option (List (List ℕ)))
+    → own ≡ hash → IfSome source (λ octets. octets ≡ stream) → mid ≡ held → TakesHeld hash held state → TakesInto own state stream (done before mid) (done after now)
+    → BreaksInto hash source before after held now
+breaks-into hash own source held mid stream state before after now same is still took taken =
+    let t : TakesInto hash state stream (done before mid) (done after now) = subst (λ (h : Hash). TakesInto h state stream (done before mid) (done after now)) same taken in
+    record {
+      stream = stream;
+      stream_is = is;
+      kept = took.kept;
+      kept_is = took.kept_is;
+      texts = t.texts;
+      are = t.are;
+      count = t.count;
+      outcomes = t.outcomes;
+      last = t.last;
+      judged = judged hash took.kept (take t.count t.texts) state (t.outcomes ++ t.last ∷ []) took.takes t.fold;
+      part = t.part;
+      unfinished = t.unfinished;
+      told = t.adds.told;
+      keeps = t.adds.keeps ∙ held-same still (kept_texts (t.outcomes ++ t.last ∷ []));
+    }
 
--- the same where the taking of its lines left the keeper's lines as they were
-pub verifies : (hash own : Hash) (kept mid : Option (List (List ℕ))) (stream : List ℕ) (state : Option Header) (refused : Bool) (ended : Ended) (before after : Option (List ℕ)) (now : Option (List (List ℕ)))
-    → own ≡ hash → mid ≡ kept → IfSome kept (λ ks. TakesKept hash ks state) → TakesAll own state stream refused (done before mid) (done after now)
-    → (ended ≡ Ok → refused ≡ false) → (ended ≡ Refused → refused ≡ true) → IfSome kept (λ ks. Verifies hash stream ks ended before after now)
-verifies hash own kept mid stream state refused ended before after now same still took t =
-    verifies-kept hash kept stream state refused ended before after now took (subst (λ (h : Hash). TakesAll h state stream refused (done before kept) (done after now)) same
-    (subst (λ (k : Option (List (List ℕ))). TakesAll own state stream refused (done before k) (done after now)) still t))
+-- it broke off behind the first lines
+pub breaks-off : (hash own : Hash) (source : Option (List ℕ)) (held mid : Option (List (List ℕ))) (stream : List ℕ) (state : Option Header) (before after : Option (List ℕ)) (now : Option (List (List ℕ)))
+    → own ≡ hash → IfSome source (λ octets. octets ≡ stream) → mid ≡ held → TakesHeld hash held state → TakesSome own state stream (done before mid) (done after now)
+    → BreaksOff hash source before after held now
+breaks-off hash own source held mid stream state before after now same is still took taken =
+    let t : TakesSome hash state stream (done before mid) (done after now) = subst (λ (h : Hash). TakesSome h state stream (done before mid) (done after now)) same taken in
+    record {
+      stream = stream;
+      stream_is = is;
+      kept = took.kept;
+      kept_is = took.kept_is;
+      texts = t.texts;
+      are = t.are;
+      count = t.count;
+      outcomes = t.outcomes;
+      judged = judged hash took.kept (take t.count t.texts) state t.outcomes took.takes t.fold;
+      told = t.adds.told;
+      keeps = t.adds.keeps ∙ held-same still (kept_texts t.outcomes);
+    }
 
-pub breaks-into : (hash own : Hash) (kept mid : Option (List (List ℕ))) (stream : List ℕ) (state : Option Header) (before after : Option (List ℕ)) (now : Option (List (List ℕ)))
-    → own ≡ hash → mid ≡ kept → IfSome kept (λ ks. TakesKept hash ks state) → TakesInto own state stream (done before mid) (done after now) → IfSome kept (λ ks. BreaksInto hash stream ks before after now)
-breaks-into hash own kept mid stream state before after now same still took t =
-    into-kept hash kept stream state before after now took (subst (λ (h : Hash). TakesInto h state stream (done before kept) (done after now)) same
-    (subst (λ (k : Option (List (List ℕ))). TakesInto own state stream (done before k) (done after now)) still t))
-
-pub breaks-off : (hash own : Hash) (kept mid : Option (List (List ℕ))) (stream : List ℕ) (state : Option Header) (before after : Option (List ℕ)) (now : Option (List (List ℕ)))
-    → own ≡ hash → mid ≡ kept → IfSome kept (λ ks. TakesKept hash ks state) → TakesSome own state stream (done before mid) (done after now) → IfSome kept (λ ks. BreaksOff hash stream ks before after now)
-breaks-off hash own kept mid stream state before after now same still took t =
-    off-kept hash kept stream state before after now took (subst (λ (h : Hash). TakesSome h state stream (done before kept) (done after now)) same
-    (subst (λ (k : Option (List (List ℕ))). TakesSome own state stream (done before k) (done after now)) still t))
-
-pub breaks-at : (hash own : Hash) (kept mid : Option (List (List ℕ))) (stream : List ℕ) (state : Option Header) (before after : Option (List ℕ)) (now : Option (List (List ℕ)))
-    → own ≡ hash → mid ≡ kept → IfSome kept (λ ks. TakesKept hash ks state) → TakesAt own state stream (done before mid) (done after now) → IfSome kept (λ ks. BreaksAt hash stream ks before after now)
-breaks-at hash own kept mid stream state before after now same still took t =
-    at-kept hash kept stream state before after now took (subst (λ (h : Hash). TakesAt h state stream (done before kept) (done after now)) same
-    (subst (λ (k : Option (List (List ℕ))). TakesAt own state stream (done before k) (done after now)) still t))
+-- it broke off before a line that is accepted
+pub breaks-at : (hash own : Hash) (source : Option (List ℕ)) (held mid : Option (List (List ℕ))) (stream : List ℕ) (state : Option Header) (before after : Option (List ℕ)) (now : Option (List (List ℕ)))
+    → own ≡ hash → IfSome source (λ octets. octets ≡ stream) → mid ≡ held → TakesHeld hash held state → TakesAt own state stream (done before mid) (done after now)
+    → BreaksAt hash source before after held now
+breaks-at hash own source held mid stream state before after now same is still took taken =
+    let t : TakesAt hash state stream (done before mid) (done after now) = subst (λ (h : Hash). TakesAt h state stream (done before mid) (done after now)) same taken in
+    record {
+      stream = stream;
+      stream_is = is;
+      kept = took.kept;
+      kept_is = took.kept_is;
+      texts = t.texts;
+      are = t.are;
+      count = t.count;
+      within = t.within;
+      outcomes = t.outcomes;
+      next = t.next;
+      judged = judged hash took.kept (take (t.count + 1) t.texts) state (t.outcomes ++ Accepted t.next ∷ []) took.takes t.fold;
+      told = t.adds.told;
+      keeps = t.adds.keeps ∙ held-same still (kept_texts t.outcomes);
+    }
 
 -- the two ends of a run that is done
 pub ok-not-refused : Ok ≡ Refused → ⊥
@@ -128,10 +139,15 @@ fewer-texts (suc i) (o ∷ os) =
     omega arith
 
 -- where all messages are kept, each of a written line is
-keeps-all : (hash : Hash) (stream : List ℕ) (kept texts : List (List ℕ)) (count : ℕ) (os : List Outcome) (octets : ℕ) (before after : Option (List ℕ)) (now : Option (List (List ℕ)))
-    → AreTexts stream texts → AreJudged hash kept (take count texts) os → Appends before after (take octets (outcome_lines 1 os)) → now ≡ Some (kept ++ kept_texts os)
-    → KeepsFirst hash stream kept before after now
-keeps-all hash stream kept texts count os octets before after now are is told keeps = record {
+keeps-all : (hash : Hash) (source before after : Option (List ℕ)) (held now : Option (List (List ℕ))) (stream : List ℕ) (kept texts : List (List ℕ)) (count : ℕ) (os : List Outcome) (octets : ℕ)
+    → IfSome source (λ xs. xs ≡ stream) → IfSome held (λ lines. lines ≡ kept)
+    → AreTexts stream texts → AreJudged hash kept (take count texts) os → Appends before after (take octets (outcome_lines 1 os)) → now ≡ option_map (λ (lines : List (List ℕ)). lines ++ kept_texts os) held
+    → KeepsFirst hash source before after held now
+keeps-all hash source before after held now stream kept texts count os octets stream_is kept_is are is told keeps = record {
+  stream = stream;
+  stream_is = stream_is;
+  kept = kept;
+  kept_is = kept_is;
   texts = texts;
   are = are;
   count = count;
@@ -140,33 +156,34 @@ keeps-all hash stream kept texts count os octets before after now are is told ke
   octets = octets;
   told = told;
   messages = length (kept_texts os);
-  keeps = keeps ∙ ap (λ (ts : List (List ℕ)). Some (kept ++ ts)) (sym (take_all (length (kept_texts os)) (kept_texts os) (omega arith)));
+  keeps = keeps ∙ ap (λ (ts : List (List ℕ)). option_map (λ (lines : List (List ℕ)). lines ++ ts) held) (sym (take_all (length (kept_texts os)) (kept_texts os) (omega arith)));
   each = λ i within written. fewer-texts i os;
 }
 
-pub off-keeps : (hash : Hash) (stream : List ℕ) (kept : List (List ℕ)) (before after : Option (List ℕ)) (now : Option (List (List ℕ)))
-    → BreaksOff hash stream kept before after now → KeepsFirst hash stream kept before after now
-off-keeps hash stream kept before after now b =
+pub off-keeps : (hash : Hash) (source before after : Option (List ℕ)) (held now : Option (List (List ℕ))) → BreaksOff hash source before after held now → KeepsFirst hash source before after held now
+off-keeps hash source before after held now b =
     let all : take (length (outcome_lines 1 b.outcomes)) (outcome_lines 1 b.outcomes) ≡ outcome_lines 1 b.outcomes = take_all _ (outcome_lines 1 b.outcomes) (omega arith) in
-    keeps-all hash stream kept b.texts b.count b.outcomes (length (outcome_lines 1 b.outcomes)) before after now b.are b.judged
+    keeps-all hash source before after held now b.stream b.kept b.texts b.count b.outcomes (length (outcome_lines 1 b.outcomes)) b.stream_is b.kept_is b.are b.judged
     (subst (λ (x : List ℕ). Appends before after x) (sym all) b.told) b.keeps
 
-pub into-keeps : (hash : Hash) (stream : List ℕ) (kept : List (List ℕ)) (before after : Option (List ℕ)) (now : Option (List (List ℕ)))
-    → BreaksInto hash stream kept before after now → KeepsFirst hash stream kept before after now
-into-keeps hash stream kept before after now b =
+pub into-keeps : (hash : Hash) (source before after : Option (List ℕ)) (held now : Option (List (List ℕ))) → BreaksInto hash source before after held now → KeepsFirst hash source before after held now
+into-keeps hash source before after held now b =
     let front : List ℕ = outcome_lines 1 b.outcomes in
     let next : List ℕ = outcome_line (length b.outcomes + 1) b.last in
     let n : 1 + length b.outcomes ≡ length b.outcomes + 1 = omega arith in
     let whole : outcome_lines 1 (b.outcomes ++ b.last ∷ []) ≡ front ++ next = lines-push 1 b.outcomes b.last ∙ ap (λ k. front ++ outcome_line k b.last) n in
     let part : take (length front + b.part) (outcome_lines 1 (b.outcomes ++ b.last ∷ [])) ≡ front ++ take b.part next =
     ap (take (length front + b.part)) whole ∙ take-append-add front next b.part in
-    keeps-all hash stream kept b.texts b.count (b.outcomes ++ b.last ∷ []) (length front + b.part) before after now b.are b.judged
+    keeps-all hash source before after held now b.stream b.kept b.texts b.count (b.outcomes ++ b.last ∷ []) (length front + b.part) b.stream_is b.kept_is b.are b.judged
     (subst (λ (x : List ℕ). Appends before after x) (sym part) b.told) b.keeps
 
 -- a run that broke off before an accepted line broke off
-at-off : (hash : Hash) (stream : List ℕ) (kept : List (List ℕ)) (before after : Option (List ℕ)) (now : Option (List (List ℕ)))
-    → BreaksAt hash stream kept before after now → BreaksOff hash stream kept before after now
-at-off hash stream kept before after now b = record {
+at-off : (hash : Hash) (source before after : Option (List ℕ)) (held now : Option (List (List ℕ))) → BreaksAt hash source before after held now → BreaksOff hash source before after held now
+at-off hash source before after held now b = record {
+  stream = b.stream;
+  stream_is = b.stream_is;
+  kept = b.kept;
+  kept_is = b.kept_is;
   texts = b.texts;
   are = b.are;
   count = b.count;
@@ -180,6 +197,5 @@ at-off hash stream kept before after now b = record {
   keeps = b.keeps;
 }
 
-pub at-keeps : (hash : Hash) (stream : List ℕ) (kept : List (List ℕ)) (before after : Option (List ℕ)) (now : Option (List (List ℕ)))
-    → BreaksAt hash stream kept before after now → KeepsFirst hash stream kept before after now
-at-keeps hash stream kept before after now b = off-keeps hash stream kept before after now (at-off hash stream kept before after now b)
+pub at-keeps : (hash : Hash) (source before after : Option (List ℕ)) (held now : Option (List (List ℕ))) → BreaksAt hash source before after held now → KeepsFirst hash source before after held now
+at-keeps hash source before after held now b = off-keeps hash source before after held now (at-off hash source before after held now b)

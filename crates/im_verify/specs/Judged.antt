@@ -1,5 +1,5 @@
 -- What becomes of a stream of lines, behind the lines that a keeper holds.
-use Rattle.std.specs.Prelude.{◌<◌, ℕ, List, [], length, take, get_or, All, Any, None}
+use Rattle.std.specs.Prelude.{◌≡◌, ◌+◌, ◌<◌, ℕ, List, [], length, take, get_or, All, Any, Option, None, IfSome}
 use Rattle.im_digest.specs.Digests.{Hash}
 use Rattle.im_text.specs.Lines.{AreTexts}
 use Rattle.im_client.specs.Folds.{IsFold, IsOutcome, IsRefused, state_after}
@@ -39,3 +39,11 @@ pub record StopsKept (hash : Hash) (kept : List (List ℕ)) (n : ℕ) : Type 0 w
   pub taken : AreTaken hash (take n kept) before
   pub fault : LineFault
   pub refused : IsOutcome hash (state_after None before) (get_or kept n []) (line.Refused fault)
+
+-- line k, from 1, of those that a keeper held, which are these where it tells them, is the first that is refused
+pub record StopsHeld (hash : Hash) (held : Option (List (List ℕ))) (k : ℕ) : Type 0 where
+  pub kept : List (List ℕ)
+  pub kept_is : IfSome held (λ lines. lines ≡ kept)
+  pub n : ℕ
+  pub number : k ≡ n + 1
+  pub stops : StopsKept hash kept n

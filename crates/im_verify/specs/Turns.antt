@@ -1,5 +1,5 @@
 -- What one line and several lines do to a sink and a keeper.
-use Rattle.std.specs.Prelude.{◌≡◌, ◌<◌, ◌+◌, ℕ, List, [], ◌∷◌, ◌++◌, length, take, Bool, true, false, Option, None}
+use Rattle.std.specs.Prelude.{◌≡◌, ◌<◌, ◌+◌, ℕ, List, [], ◌∷◌, ◌++◌, length, take, Bool, true, false, Option, None, IfSome}
 use Rattle.std.specs.Option.{option_map}
 use Rattle.std.specs.Io.KnownBytes.{Appends}
 use Rattle.im_digest.specs.Digests.{Hash}
@@ -98,3 +98,9 @@ pub record TakesKept (hash : Hash) (kept : List (List ℕ)) (state : Option Head
   pub outcomes : List Outcome
   pub taken : AreTaken hash kept outcomes
   pub follows : state ≡ state_after None outcomes
+
+-- it took the lines that a keeper held, which are these where the keeper tells them
+pub record TakesHeld (hash : Hash) (held : Option (List (List ℕ))) (state : Option Header) : Type 0 where
+  pub kept : List (List ℕ)
+  pub kept_is : IfSome held (λ lines. lines ≡ kept)
+  pub takes : TakesKept hash kept state

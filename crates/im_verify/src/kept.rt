@@ -1,8 +1,8 @@
-ghost use Rattle.std.specs.Prelude.{◌≡◌, ◌+◌, ◌≤◌, ℕ, Err, IfOk, IfSome, IsTrue, ◌↔◌};
+ghost use Rattle.std.specs.Prelude.{◌≡◌, ◌+◌, ◌≤◌, ℕ, Err, IfOk, IsTrue, ◌↔◌};
 ghost use Rattle.im_client.specs.Folds.{IsRefused};
 ghost use Rattle.im_edge.specs.Counts.{Rose};
-ghost use Rattle.im_verify.specs.Judged.{StopsKept};
-ghost use Rattle.im_verify.specs.Turns.{TakesKept};
+ghost use Rattle.im_verify.specs.Judged.{StopsHeld, StopsKept};
+ghost use Rattle.im_verify.specs.Turns.{TakesHeld, TakesKept};
 
 use im_client::clients::Client;
 use im_client::outcomes::Outcome;
@@ -76,15 +76,15 @@ fn follow_lines<'h, H: Hash32>(
 }
 
 /// The client behind the lines that a keeper holds, from no state on. The keeper's lines stay.
+#[tactic(auto, using(crate::proofs::KeepLemmas::takes_held, crate::proofs::KeepLemmas::stops_held))]
 pub(crate) fn take_kept<'h, H: Hash32, P: Keeper>(
     alloc: Global,
     hash: &'h H,
     keeper: &mut P,
 ) -> Result<Client<'h, H>, KeptError>
-    ensures ok { IfOk result (λ client. IfSome (P.kept keeper.old) (λ kept. TakesKept (H.digest hash.now) kept client.state)) }
+    ensures ok { IfOk result (λ client. TakesHeld (H.digest hash.now) (P.kept keeper.old) client.state) }
     ensures hash { IfOk result (λ client. client.hash ≡ hash.now) }
-    ensures line { (k : ℕ) → result ≡ Err (KeptError.Line k) → IfSome (P.kept keeper.old) (λ kept.
-        (n : ℕ) × (k ≡ n + 1) × StopsKept (H.digest hash.now) kept n) }
+    ensures line { (k : ℕ) → result ≡ Err (KeptError.Line k) → StopsHeld (H.digest hash.now) (P.kept keeper.old) k }
     ensures kept { P.kept keeper.new ≡ P.kept keeper.old }
     ensures fault { result ≡ Err KeptError.KeeperFault → Rose (P.faults keeper.old) (P.faults keeper.new) }
     ensures count { (result ≡ Err KeptError.KeeperFault → ⊥) → P.faults keeper.new ≡ P.faults keeper.old }

@@ -7,12 +7,12 @@ ghost use Rattle.im_verify.specs.Runs.{BreaksAt, BreaksInto, BreaksOff, KeepsFir
 
 /// However a run breaks off, each line that is written whole has its message kept.
 pub fn a_told_message_is_kept()
-    ensures into { (hash : Hash) (stream : List ℕ) (kept : List (List ℕ)) (before after : Option (List ℕ)) (now : Option (List (List ℕ)))
-        → BreaksInto hash stream kept before after now → KeepsFirst hash stream kept before after now }
-    ensures off { (hash : Hash) (stream : List ℕ) (kept : List (List ℕ)) (before after : Option (List ℕ)) (now : Option (List (List ℕ)))
-        → BreaksOff hash stream kept before after now → KeepsFirst hash stream kept before after now }
-    ensures at { (hash : Hash) (stream : List ℕ) (kept : List (List ℕ)) (before after : Option (List ℕ)) (now : Option (List (List ℕ)))
-        → BreaksAt hash stream kept before after now → KeepsFirst hash stream kept before after now }
+    ensures into { (hash : Hash) (source before after : Option (List ℕ)) (held now : Option (List (List ℕ)))
+        → BreaksInto hash source before after held now → KeepsFirst hash source before after held now }
+    ensures off { (hash : Hash) (source before after : Option (List ℕ)) (held now : Option (List (List ℕ)))
+        → BreaksOff hash source before after held now → KeepsFirst hash source before after held now }
+    ensures at { (hash : Hash) (source before after : Option (List ℕ)) (held now : Option (List (List ℕ)))
+        → BreaksAt hash source before after held now → KeepsFirst hash source before after held now }
 {}
 
 /// Kept lines are all taken, or they stop at one line, and not both.

@@ -1,8 +1,8 @@
-ghost use Rattle.std.specs.Prelude.{◌≡◌, ◌⊎◌, ℕ, ◌+◌, ◌<◌, ◌≤◌, [], length, IfSome, Some};
+ghost use Rattle.std.specs.Prelude.{◌≡◌, ◌⊎◌, ℕ, ◌+◌, ◌<◌, ◌≤◌, List, [], length, IfSome, Option, Some};
 ghost use Rattle.im_edge.specs.Counts.{Rose};
 ghost use Rattle.im_edge.specs.Sources.{TakesAtMost};
 ghost use Rattle.im_verify.specs.Ends.{HasFate};
-ghost use Rattle.im_verify.specs.Judged.{StopsKept};
+ghost use Rattle.im_verify.specs.Judged.{StopsHeld};
 ghost use Rattle.im_verify.specs.Runs.{BreaksAt, BreaksInto, BreaksOff, Verifies};
 
 use crate::ended::Ended;
@@ -26,20 +26,17 @@ fn verify_octets<H: Hash32, K: Sink, P: Keeper>(
     keeper: &mut P,
     stream: &[u8],
 ) -> Ended
-    ensures ok { (result ≡ Ended.Ok) ⊎ (result ≡ Ended.Refused) → IfSome (P.kept keeper.old) (λ kept.
-        Verifies (H.digest hash.now) stream.now kept result (K.written sink.old) (K.written sink.new) (P.kept keeper.new)) }
-    ensures into { result ≡ Ended.WriteFault → IfSome (P.kept keeper.old) (λ kept.
-        BreaksInto (H.digest hash.now) stream.now kept (K.written sink.old) (K.written sink.new) (P.kept keeper.new)) }
-    ensures off { result ≡ Ended.Memory →
+    ensures ok { (source : Option (List ℕ)) → IfSome source (λ octets. octets ≡ stream.now) → (result ≡ Ended.Ok) ⊎ (result ≡ Ended.Refused) →
+        Verifies (H.digest hash.now) result source (K.written sink.old) (K.written sink.new) (P.kept keeper.old) (P.kept keeper.new) }
+    ensures into { (source : Option (List ℕ)) → IfSome source (λ octets. octets ≡ stream.now) → result ≡ Ended.WriteFault →
+        BreaksInto (H.digest hash.now) source (K.written sink.old) (K.written sink.new) (P.kept keeper.old) (P.kept keeper.new) }
+    ensures off { (source : Option (List ℕ)) → IfSome source (λ octets. octets ≡ stream.now) → result ≡ Ended.Memory →
         ((K.written sink.new ≡ K.written sink.old) × (P.kept keeper.new ≡ P.kept keeper.old))
-        ⊎ IfSome (P.kept keeper.old) (λ kept.
-        BreaksOff (H.digest hash.now) stream.now kept (K.written sink.old) (K.written sink.new) (P.kept keeper.new)) }
-    ensures fault { result ≡ Ended.KeeperFault →
+        ⊎ BreaksOff (H.digest hash.now) source (K.written sink.old) (K.written sink.new) (P.kept keeper.old) (P.kept keeper.new) }
+    ensures fault { (source : Option (List ℕ)) → IfSome source (λ octets. octets ≡ stream.now) → result ≡ Ended.KeeperFault →
         ((K.written sink.new ≡ K.written sink.old) × (P.kept keeper.new ≡ P.kept keeper.old))
-        ⊎ IfSome (P.kept keeper.old) (λ kept.
-        BreaksAt (H.digest hash.now) stream.now kept (K.written sink.old) (K.written sink.new) (P.kept keeper.new)) }
-    ensures kept { (k : ℕ) → result ≡ Ended.Kept k → IfSome (P.kept keeper.old) (λ kept.
-        (n : ℕ) × (k ≡ n + 1) × StopsKept (H.digest hash.now) kept n) }
+        ⊎ BreaksAt (H.digest hash.now) source (K.written sink.old) (K.written sink.new) (P.kept keeper.old) (P.kept keeper.new) }
+    ensures kept { (k : ℕ) → result ≡ Ended.Kept k → StopsHeld (H.digest hash.now) (P.kept keeper.old) k }
     ensures nothing { (k : ℕ) → result ≡ Ended.Kept k → (sink.new ≡ sink.old) × (P.kept keeper.new ≡ P.kept keeper.old) }
     ensures never { (result ≡ Ended.ReadFault) ⊎ (result ≡ Ended.Long) → ⊥ }
     ensures write { result ≡ Ended.WriteFault → Rose (K.faults sink.old) (K.faults sink.new) }
@@ -81,25 +78,26 @@ pub fn verify<H: Hash32, S: Source, K: Sink, P: Keeper>(
     sink: &mut K,
     keeper: &mut P,
 ) -> Ended
+    // In these records the stream is what the source held and the kept lines are those that the keeper held, where they
+    // tell it, and else some.
+
     // Done: each line of the stream was told, and each accepted message kept.
-    ensures ok { (result ≡ Ended.Ok) ⊎ (result ≡ Ended.Refused) → IfSome (S.left source.old) (λ stream. IfSome (P.kept keeper.old) (λ kept.
-        Verifies (H.digest hash.now) stream kept result (K.written sink.old) (K.written sink.new) (P.kept keeper.new))) }
+    ensures ok { (result ≡ Ended.Ok) ⊎ (result ≡ Ended.Refused) →
+        Verifies (H.digest hash.now) result (S.left source.old) (K.written sink.old) (K.written sink.new) (P.kept keeper.old) (P.kept keeper.new) }
 
     // The sink failed: the first lines were told, and the next one in part, never whole; the messages of them all are kept.
-    ensures into { result ≡ Ended.WriteFault → IfSome (S.left source.old) (λ stream. IfSome (P.kept keeper.old) (λ kept.
-        BreaksInto (H.digest hash.now) stream kept (K.written sink.old) (K.written sink.new) (P.kept keeper.new))) }
+    ensures into { result ≡ Ended.WriteFault →
+        BreaksInto (H.digest hash.now) (S.left source.old) (K.written sink.old) (K.written sink.new) (P.kept keeper.old) (P.kept keeper.new) }
 
     // Memory ran out: nothing was done, or the first lines were told and kept.
     ensures off { result ≡ Ended.Memory →
         ((K.written sink.new ≡ K.written sink.old) × (P.kept keeper.new ≡ P.kept keeper.old))
-        ⊎ IfSome (S.left source.old) (λ stream. IfSome (P.kept keeper.old) (λ kept.
-        BreaksOff (H.digest hash.now) stream kept (K.written sink.old) (K.written sink.new) (P.kept keeper.new))) }
+        ⊎ BreaksOff (H.digest hash.now) (S.left source.old) (K.written sink.old) (K.written sink.new) (P.kept keeper.old) (P.kept keeper.new) }
 
     // The keeper failed: nothing was done, or the first lines were told and kept, before one that is accepted.
     ensures fault { result ≡ Ended.KeeperFault →
         ((K.written sink.new ≡ K.written sink.old) × (P.kept keeper.new ≡ P.kept keeper.old))
-        ⊎ IfSome (S.left source.old) (λ stream. IfSome (P.kept keeper.old) (λ kept.
-        BreaksAt (H.digest hash.now) stream kept (K.written sink.old) (K.written sink.new) (P.kept keeper.new))) }
+        ⊎ BreaksAt (H.digest hash.now) (S.left source.old) (K.written sink.old) (K.written sink.new) (P.kept keeper.old) (P.kept keeper.new) }
 
     // Else nothing was done.
     ensures nothing { (result ≡ Ended.ReadFault) ⊎ (result ≡ Ended.Long) ⊎ ((k : ℕ) × (result ≡ Ended.Kept k)) →
@@ -110,8 +108,7 @@ pub fn verify<H: Hash32, S: Source, K: Sink, P: Keeper>(
     ensures too_long { IfSome (S.left source.old) (λ stream. 67108864 < length stream → (sink.new ≡ sink.old) × (keeper.new ≡ keeper.old)) }
 
     // The first kept line that is refused.
-    ensures kept { (k : ℕ) → result ≡ Ended.Kept k → IfSome (P.kept keeper.old) (λ kept.
-        (n : ℕ) × (k ≡ n + 1) × StopsKept (H.digest hash.now) kept n) }
+    ensures kept { (k : ℕ) → result ≡ Ended.Kept k → StopsHeld (H.digest hash.now) (P.kept keeper.old) k }
 
     // The stream is read to its end, within its limit, before anything else is done.
     ensures long { result ≡ Ended.Long → IfSome (S.left source.old) (λ stream. 67108864 < length stream) }
