@@ -1,5 +1,5 @@
 -- What the types say of a message's parts is what the strings that are hashed for them rest on.
-use Rattle.std.proofs.Common.{◌≡◌, ◌<◌, ◌≤◌, ◌^◌, ℕ, ℤ, pos, negsuc, length, List, arith}
+use Rattle.std.proofs.Common.{◌≤◌, ℕ, ℤ, pos, negsuc, length, List, arith}
 use Rattle.std.specs.Prelude.{FitsSigned}
 use Rattle.std.specs.Int.{w64}
 use Rattle.std.specs.List.{All}
@@ -9,7 +9,7 @@ use Rattle.im_proof.specs.declared.proofs.DualProof.{DualProof}
 use Rattle.im_pairs.specs.Pairs as pairs
 use Rattle.im_pairs.specs.Ranges.{HeaderFits, EntryFits}
 use Rattle.im_carried.specs.Hashed.{DualFits}
-use Rattle.im_wire.specs.Fits.{IsDigest, AreDigests, AreDigestLists, IsSigned, IsHeader, IsEntry, IsDualProof}
+use Rattle.im_wire.specs.Fits.{AreDigests, AreDigestLists, IsSigned, IsHeader, IsEntry, IsDualProof}
 
 signed-fits : (z : ℤ) → IsSigned z → FitsSigned w64 z
 signed-fits (pos n) h = record { sfits = h }

@@ -1,1 +1,9 @@
+pub mod AddLemmas
+pub mod CountLemmas
+pub mod DualLemmas
 pub mod FitsLemmas
+pub mod ListLemmas
+pub mod MessageLemmas
+pub mod PathLemmas
+pub mod PlaceLemmas
+pub mod WalkLemmas

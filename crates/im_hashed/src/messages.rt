@@ -1,0 +1,109 @@
+ghost use Rattle.std.specs.Prelude.{◌≡◌, ◌++◌, ◌∷◌, [], All, IfOk, OnOk};
+ghost use Rattle.im_hashed.specs.Added.{Adds};
+ghost use Rattle.im_hashed.specs.Messages.{HoldSame, ProofsHold, AnchorHolds, anchor_strings, item_strings, message_strings, strings_of};
+
+use crate::duals::add_dual;
+use crate::parts::{add_entry, add_header, add_path};
+use im_digest::{D32, Hash32};
+use im_model::entries::Entry;
+use im_octet::octets::Octets;
+use im_proof::proofs::DualProof;
+use im_wire::messages::Message;
+use std::alloc::{AllocError, Global};
+
+/// The strings that are hashed in checking kept messages and one more, all of which pass the checks of their proofs: each at
+/// least once, and no others. Each is hashed once more where a later one is made of its digest. Its only error is want of
+/// memory.
+pub fn hashed<H: Hash32>(
+    alloc: Global,
+    hash: &H,
+    kept: &[Message],
+    message: &Message,
+) -> Result<Vec<Octets>, AllocError>
+    requires kept { All (ProofsHold (H.digest hash.now)) kept.now }
+    requires message { ProofsHold (H.digest hash.now) message.now }
+    ensures { IfOk result (λ strings. HoldSame strings.items (strings_of (H.digest hash.now) (kept.now ++ message.now ∷ []))) }
+{
+    let mut out = Vec::new(alloc);
+    for known in kept {
+        add_message(alloc, hash, &mut out, known)?;
+    }
+    add_message(alloc, hash, &mut out, message)?;
+    Ok(out)
+}
+
+// Adds the strings of a message.
+fn add_message<H: Hash32>(
+    alloc: Global,
+    hash: &H,
+    out: &mut Vec<Octets>,
+    message: &Message,
+) -> Result<(), AllocError>
+    requires { ProofsHold (H.digest hash.now) message.now }
+    ensures { OnOk result (Adds out.old.items out.new.items (message_strings (H.digest hash.now) message.now)) }
+{
+    match message {
+        Message::State { header } => {
+            add_header(alloc, hash, out, header)?;
+            Ok(())
+        }
+        Message::Dual { dual } => add_dual(alloc, hash, out, dual),
+        Message::Advance { dual, anchor } => {
+            add_dual(alloc, hash, out, dual)?;
+            add_anchor(alloc, hash, out, anchor)?;
+            Ok(())
+        }
+        Message::Item {
+            dual,
+            entry,
+            index,
+            path,
+        } => {
+            add_dual(alloc, hash, out, dual)?;
+            let width = dual.source.nentries;
+            add_item(alloc, hash, out, entry, *index, width, path.as_slice())?;
+            Ok(())
+        }
+    }
+}
+
+// Adds the strings of an anchor, if there is one.
+fn add_anchor<H: Hash32>(
+    alloc: Global,
+    hash: &H,
+    out: &mut Vec<Octets>,
+    anchor: &Option<DualProof>,
+) -> Result<(), AllocError>
+    requires { AnchorHolds (H.digest hash.now) anchor.now }
+    ensures { OnOk result (Adds out.old.items out.new.items (anchor_strings (H.digest hash.now) anchor.now)) }
+{
+    match anchor {
+        None => Ok(()),
+        Some(dual) => add_dual(alloc, hash, out, dual),
+    }
+}
+
+// Adds the strings of an entry of this index among so many, and of its path.
+fn add_item<H: Hash32>(
+    alloc: Global,
+    hash: &H,
+    out: &mut Vec<Octets>,
+    entry: &Entry,
+    index: u32,
+    width: u32,
+    path: &[D32],
+) -> Result<(), AllocError>
+    ensures { OnOk result (Adds out.old.items out.new.items (item_strings (H.digest hash.now) entry.now index width path.now)) }
+{
+    let digest = add_entry(alloc, hash, out, entry)?;
+    add_path(
+        alloc,
+        hash,
+        out,
+        width as usize,
+        index as usize,
+        &digest,
+        path,
+    )?;
+    Ok(())
+}
