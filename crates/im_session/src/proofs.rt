@@ -12,9 +12,9 @@ ghost use Rattle.im_wire.specs.Texts.{text};
 ghost use Rattle.im_wire.specs.declared.messages.Message.TheVariants.{Item};
 ghost use Rattle.im_ledger.specs.Ledgers.{IsLedger};
 
-use im_digest::{D32, Hash32};
+use im_digest::Hash32;
 use im_dual::build::build;
-use im_entry::digests::digest;
+use im_entry::digests::digests_of;
 use im_ledger::ledger::Ledger;
 use im_model::entries::Entry;
 use im_mtree::digests::Digests;
@@ -160,17 +160,6 @@ pub(crate) fn advance_text<H: Hash32>(
     let dual = dual_between(alloc, hash, ledger, s, t)?;
     let anchor = anchor(alloc, hash, ledger, s, t)?;
     message_text(alloc, Message::Advance { dual, anchor })
-}
-
-// The digests of some entries, in order.
-fn digests_of<H: Hash32>(alloc: Global, hash: &H, entries: &[Entry]) -> Result<Vec<D32>, AllocError>
-    ensures { IfOk result (λ digests. digests.items ≡ map (entry_digest (H.digest hash.now)) entries.now) }
-{
-    let mut digests = Vec::with_capacity(alloc, entries.len())?;
-    for entry in entries {
-        digests.push(digest(hash, entry))?;
-    }
-    Ok(digests)
 }
 
 // An entry of these, and its path among them.
