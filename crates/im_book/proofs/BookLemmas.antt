@@ -2,7 +2,7 @@
 use Rattle.std.proofs.Common.{◌≡◌, ◌<◌, ◌≤◌, length, ℕ, suc, ◌+◌, ◌-◌, List, [], ◌∷◌, ◌++◌, refl, arith, ap, subst, ◌∙◌, sym, length-append, get_or}
 use Rattle.im_digest.specs.Digests.{Hash}
 use Rattle.im_model.specs.Headers.{alh}
-use Rattle.im_model.specs.History.{header_of, next_header, Follow, IsHistory, IsTransaction}
+use Rattle.im_model.specs.History.{alhs_of, header_of, next_header, Follow, IsHistory, IsTransaction}
 use Rattle.im_model.specs.declared.headers.Header.{Header}
 use Rattle.im_model.specs.declared.transactions.Transaction.{Transaction}
 use Rattle.im_model.proofs.HistoryLemmas.{length-alhs_of}
@@ -40,13 +40,13 @@ pub last-bl-behind : (bl : ℕ) (history : List Transaction) (tx : Transaction) 
 last-bl-behind bl [] tx = refl
 last-bl-behind bl (t ∷ txs) tx = last-bl-behind t.bl txs tx
 
--- what is so of lists is so of equal ones
-pub book-same : (P : Booked → Type 0) (a b : Booked) → a.transactions ≡ b.transactions → a.headers ≡ b.headers → a.alhs ≡ b.alhs → P b → P a
-book-same P a b transactions headers alhs p =
-    let A : List Transaction → Type 0 = λ txs. P (record { transactions = txs; headers = a.headers; alhs = a.alhs }) in
-    let B : List Header → Type 0 = λ hs. P (record { transactions = b.transactions; headers = hs; alhs = a.alhs }) in
-    let C : List (List ℕ) → Type 0 = λ ds. P (record { transactions = b.transactions; headers = b.headers; alhs = ds }) in
-    subst A (sym transactions) (subst B (sym headers) (subst C (sym alhs) p))
+-- equal lists are those of the same history
+pub book-same : (hash : Hash) (a b : Booked) → a.transactions ≡ b.transactions → a.headers ≡ b.headers → a.alhs ≡ b.alhs → IsBook hash b → IsBook hash a
+book-same hash a b transactions headers alhs is = record {
+  history = subst IsHistory (sym transactions) is.history;
+  headers = headers ∙ is.headers ∙ ap (headers_of hash) (sym transactions);
+  alhs = alhs ∙ is.alhs ∙ ap (alhs_of hash) (sym transactions);
+}
 
 -- the lists with those of one transaction more
 abbrev pub grown_by : Hash → Booked → Transaction → Booked
@@ -54,6 +54,7 @@ grown_by hash book tx = record {
   transactions = book.transactions ++ tx ∷ [];
   headers = book.headers ++ next_header hash book.alhs tx ∷ [];
   alhs = book.alhs ++ alh hash (next_header hash book.alhs tx) ∷ [];
+  room = book.room;
 }
 
 -- a book grows by a transaction
@@ -72,7 +73,7 @@ pub book-placed : (hash : Hash) (before after : Booked) (tx : Transaction) (head
     → IsTransaction (length before.transactions) tx → last_bl before.transactions ≤ tx.bl → header ≡ next_header hash before.alhs tx → digest ≡ alh hash header
     → after.transactions ≡ before.transactions ++ tx ∷ [] → after.headers ≡ before.headers ++ header ∷ [] → after.alhs ≡ before.alhs ++ digest ∷ [] → IsBook hash after
 book-placed hash before after tx header digest b room is over header_is digest_is transactions headers alhs =
-    book-same (IsBook hash) after (grown_by hash before tx) transactions
+    book-same hash after (grown_by hash before tx) transactions
     (headers ∙ ap (λ (x : Header). before.headers ++ x ∷ []) header_is)
     (alhs ∙ ap (λ (x : List ℕ). before.alhs ++ x ∷ []) (digest_is ∙ ap (alh hash) header_is))
     (book-grown hash before tx b room is over)

@@ -1,5 +1,5 @@
 -- The leaves of a tree that is raised, and its root.
-use Rattle.std.proofs.Common.{◌≡◌, ◌<◌, ◌≤◌, ◌+◌, ◌-◌, ◌==◌, ℕ, List, [], ◌∷◌, ◌++◌, zero, suc, length, take, refl, arith, ap, subst, ◌∙◌, sym, get_or, if◌then◌else◌}
+use Rattle.std.proofs.Common.{◌≡◌, ◌<◌, ◌≤◌, ◌+◌, ◌==◌, ℕ, List, [], ◌∷◌, ◌++◌, zero, suc, length, take, refl, arith, ap, subst, ◌∙◌, sym, get_or, if◌then◌else◌}
 use Rattle.std.proofs.Math.Seq.{take-length}
 use Rattle.std.proofs.lemmas.List.{length-take-le, take-append-le}
 use Rattle.im_digest.specs.Digests.{Hash}

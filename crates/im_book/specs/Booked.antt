@@ -6,13 +6,14 @@ use Rattle.im_model.specs.declared.headers.Header.{Header}
 use Rattle.im_model.specs.declared.transactions.Transaction.{Transaction}
 use Rattle.im_proof.specs.Built.{headers_of}
 
--- the lists of a book
+-- the lists of a book, and how many transactions more they have room for
 pub record Booked : Type 0 where
   pub transactions : List Transaction
   pub headers : List Header
   pub alhs : List (List ℕ)
+  pub room : ℕ
 
--- they are those of one history
+-- the lists are those of one history
 pub record IsBook (hash : Hash) (book : Booked) : Type 0 where
   pub history : IsHistory book.transactions
   pub headers : book.headers ≡ headers_of hash book.transactions

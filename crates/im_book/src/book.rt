@@ -14,7 +14,8 @@ use im_versions::refusals::PlaceError;
 use std::alloc::{AllocError, Global};
 use std::marker::Model;
 
-/// Placed transactions, with the header and the Alh of each. A clause sees the three lists.
+/// Placed transactions, with the header and the Alh of each. A clause sees the three lists, and how many
+/// transactions more they have room for.
 ///
 /// # Thread safety
 ///
@@ -23,8 +24,8 @@ use std::marker::Model;
 /// # Invariants
 ///
 /// `IsBook`, for one hash: the three lists are those of one history. `empty` and `new` begin with it, `place` keeps
-/// it, and so does `push` of the next header and its Alh; an error of either leaves the book as it was. `of` takes
-/// the lists as they are.
+/// it, where its error leaves the book as it was, and so does `push` of the next header and its Alh. `of` takes the
+/// lists as they are.
 #[derive(Drop)]
 pub struct Book {
     transactions: Vec<Transaction>,
@@ -33,11 +34,18 @@ pub struct Book {
 }
 
 impl Model for Book {
+    ghost use Rattle.std.specs.Prelude.{◌-◌, min, vec_capacity, vec_len};
     ghost use Rattle.im_book.specs.Booked.{Booked};
 
     ghost Value = { Booked };
 
-    ghost view = { λ s. record { transactions = s.transactions.items; headers = s.headers.items; alhs = s.alhs.items } };
+    ghost view = { λ s. record {
+      transactions = s.transactions.items;
+      headers = s.headers.items;
+      alhs = s.alhs.items;
+      room = min (vec_capacity s.transactions - vec_len s.transactions)
+          (min (vec_capacity s.headers - vec_len s.headers) (vec_capacity s.alhs - vec_len s.alhs));
+    } };
 }
 
 impl Book {
@@ -45,7 +53,7 @@ impl Book {
     ghost use Rattle.im_digest.specs.Digests.{Hash};
     ghost use Rattle.im_mtree.specs.Kept.{IsFrontier};
     ghost use Rattle.im_model.specs.Headers.{alh};
-    ghost use Rattle.im_model.specs.History.{bl_root_of, header_of, next_header, transaction_of, IsHistory, IsTransaction};
+    ghost use Rattle.im_model.specs.History.{bl_root_of, entries_root, header_of, next_header, transaction_of, IsHistory, IsTransaction};
     ghost use Rattle.im_versions.specs.Admits.{place_refusal};
     ghost use Rattle.im_book.specs.Booked.{last_bl, IsBook};
 
@@ -83,7 +91,7 @@ impl Book {
     /// The book of these transactions, the header of each, and the Alh of each, 32 octets. They aren't copied,
     /// and nothing is hashed.
     pub fn of(transactions: Vec<Transaction>, headers: Vec<Header>, alhs: Vec<D32>) -> Self
-        ensures { result ≡ record { transactions = transactions.items; headers = headers.items; alhs = alhs.items } }
+        ensures { (result.transactions ≡ transactions.items) × (result.headers ≡ headers.items) × (result.alhs ≡ alhs.items) }
     {
         Book {
             transactions,
@@ -156,43 +164,52 @@ impl Book {
         judge_each(self.transactions.as_slice(), pres)
     }
 
-    /// The header that a transaction has behind the others, over a tree of this root. It hashes the entries,
-    /// and nothing of the tree. Its only error is want of memory.
+    /// The header that a transaction has behind the others, over a tree of this root, where its entries have the
+    /// root `eh`. It hashes the empty string where there are no others, else nothing, and takes no memory.
     pub fn header_for<H: Hash32>(
         &self,
         alloc: Global,
         hash: &H,
         tx: &Transaction,
         root: D32,
-    ) -> Result<Header, AllocError>
+        eh: D32,
+    ) -> Header
         requires book { IsBook (H.digest hash.now) self.now }
         requires room { length self.now.transactions < 1048576 }
         requires limits { IsTransaction (length self.now.transactions) tx.now }
         requires root { root ≡ bl_root_of (H.digest hash.now) self.now.alhs tx.now.bl }
-        ensures { IfOk result (λ header. header ≡ next_header (H.digest hash.now) self.now.alhs tx.now) }
+        requires eh { eh ≡ entries_root (H.digest hash.now) tx.now.entries }
+        ensures { result ≡ next_header (H.digest hash.now) self.now.alhs tx.now }
     {
         let alhs = self.alhs.as_slice();
-        let eh = entry_root(alloc, hash, tx.entries.as_slice())?;
-        Ok(next_header(alloc, hash, alhs, root, tx, eh))
+        next_header(alloc, hash, alhs, root, tx, eh)
     }
 
-    /// Takes a transaction behind the others, with its header and its Alh. It hashes nothing. Its only error is
-    /// want of memory.
-    pub fn push(&mut self, tx: Transaction, header: Header, digest: D32) -> Result<(), AllocError>
-        ensures grown { OnOk result (self.new.transactions ≡ self.old.transactions ++ tx ∷ []) }
-        ensures headers { OnOk result (self.new.headers ≡ self.old.headers ++ header ∷ []) }
-        ensures alhs { OnOk result (self.new.alhs ≡ self.old.alhs ++ digest ∷ []) }
-        ensures book { (hash : Hash) → IsBook hash self.old → length self.old.transactions < 1048576 → IsTransaction (length self.old.transactions) tx
-            → last_bl self.old.transactions ≤ tx.bl → header ≡ next_header hash self.old.alhs tx → digest ≡ alh hash header → OnOk result (IsBook hash self.new) }
+    /// Takes memory for one transaction more, where there is no room for it. Its only error is want of memory, and
+    /// the book is then as it was.
+    pub fn reserve(&mut self) -> Result<(), AllocError>
+        ensures room { OnOk result (1 ≤ self.new.room) }
+        ensures same { (self.new.transactions ≡ self.old.transactions) × (self.new.headers ≡ self.old.headers) × (self.new.alhs ≡ self.old.alhs) }
         ensures left { OnErr result (self.new ≡ self.old) }
     {
         self.transactions.reserve(1)?;
         self.headers.reserve(1)?;
-        self.alhs.reserve(1)?;
+        self.alhs.reserve(1)
+    }
+
+    /// Takes a transaction behind the others, with its header and its Alh, into the room that there is for it.
+    /// It hashes nothing and takes no memory.
+    pub fn push(&mut self, tx: Transaction, header: Header, digest: D32)
+        requires room { 1 ≤ self.old.room }
+        ensures grown { self.new.transactions ≡ self.old.transactions ++ tx ∷ [] }
+        ensures headers { self.new.headers ≡ self.old.headers ++ header ∷ [] }
+        ensures alhs { self.new.alhs ≡ self.old.alhs ++ digest ∷ [] }
+        ensures book { (hash : Hash) → IsBook hash self.old → length self.old.transactions < 1048576 → IsTransaction (length self.old.transactions) tx
+            → last_bl self.old.transactions ≤ tx.bl → header ≡ next_header hash self.old.alhs tx → digest ≡ alh hash header → IsBook hash self.new }
+    {
         self.transactions.push_reserved(tx);
         self.headers.push_reserved(header);
         self.alhs.push_reserved(digest);
-        Ok(())
     }
 
     // Takes a transaction behind the others, with the header and the Alh that it has over its tree. What is kept
@@ -217,9 +234,11 @@ impl Book {
     {
         extend_to(hash, frontier, self.alhs(), tx.bl as usize);
         let top = root_of(hash, frontier);
-        let next = self.header_for(alloc, hash, &tx, top)?;
+        let eh = entry_root(alloc, hash, tx.entries.as_slice())?;
+        let next = self.header_for(alloc, hash, &tx, top, eh);
         let digest = alh(hash, &next);
-        self.push(tx, next, digest)?;
+        self.reserve()?;
+        self.push(tx, next, digest);
         Ok(())
     }
 
@@ -253,10 +272,12 @@ impl Book {
         let (entries, pres) = prepared.into_parts();
         self.judge(pres)?;
         let tx = Transaction { ts, entries, bl };
-        let header = self.header_for(alloc, hash, &tx, root)?;
+        let eh = entry_root(alloc, hash, tx.entries.as_slice())?;
+        let header = self.header_for(alloc, hash, &tx, root, eh);
         let shown = header.try_clone(alloc)?;
         let digest = alh(hash, &header);
-        self.push(tx, header, digest)?;
+        self.reserve()?;
+        self.push(tx, header, digest);
         Ok(shown)
     }
 }

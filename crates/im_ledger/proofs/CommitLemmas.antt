@@ -1,11 +1,13 @@
 -- A transaction more, on the disk and in the ledger.
-use Rattle.std.proofs.Common.{◌≡◌, ◌<◌, ◌+◌, ◌-◌, ℕ, List, [], ◌∷◌, ◌++◌, length, get_or, arith, ap, subst, ◌∙◌, sym, length-append}
-use Rattle.std.specs.Prelude.{Option, Some}
+use Rattle.std.proofs.Common.{◌≡◌, ◌<◌, ◌+◌, ℕ, List, [], ◌∷◌, ◌++◌, length, take, arith, ap, subst, ◌∙◌, sym, length-append}
+use Rattle.std.proofs.lemmas.List.{take_at}
+use Rattle.std.specs.Prelude.{Option}
 use Rattle.im_digest.specs.Digests.{Hash}
 use Rattle.im_disk.specs.Disk.{Told}
 use Rattle.im_disk.specs.Moments.{Leaves}
 use Rattle.im_format.specs.Batches.{joined}
 use Rattle.im_format.specs.Places.{AreAppended, refs_of}
+use Rattle.im_format.specs.Standing.{Stands}
 use Rattle.im_format.specs.declared.records.Record.{Record}
 use Rattle.im_journal.specs.Holding.{AreNext}
 use Rattle.im_journal.specs.Kept.{IsAtRest, Kept, StandsBy}
@@ -14,10 +16,11 @@ use Rattle.im_model.specs.Headers.{alh}
 use Rattle.im_model.specs.History.{next_header, IsHistory, IsTransaction}
 use Rattle.im_model.specs.declared.headers.Header.{Header}
 use Rattle.im_model.specs.declared.transactions.Transaction.{Transaction}
+use Rattle.im_ledger.specs.Commits.{MayLeave}
 use Rattle.im_ledger.specs.Histories.{HasCommitted, IsKept, IsNextRecord, KeptHistory, StandsWithin}
 use Rattle.im_ledger.specs.Ledgers.{Held, IsLedger}
 use Rattle.im_ledger.proofs.GrowLemmas.{leaves-within, record-next, rest-longer}
-use Rattle.im_ledger.proofs.LedgerLemmas.{ledger-grown}
+use Rattle.im_ledger.proofs.LedgerLemmas.{ledger-grown, ledger-placed}
 
 -- the ledger can take this transaction
 pub record CanCommit {D : Type 0} (told : D → Option Told) (hash : Hash) (k : KeptHistory D) (tx : Transaction) : Type 0 where
@@ -54,6 +57,26 @@ module _ {D : Type 0} (told : D → Option Told) (hash : Hash) (k : KeptHistory 
       (leaves-within hash k.held.transactions tx j.durable (ap (λ (x : Kept D). x.durable) same ∙ can.kept.all) (told j.disk) b
       (subst (λ (n : ℕ). Leaves (StandsBy Gated hash (k.held.transactions ++ tx ∷ []) j.durable n) (told j.disk) b) (ap length is) l))
 
+  -- so do its calls from the journal at rest on
+  pub next-moments : (j : Kept D) → j ≡ k.journal → (rs : List Record) (r : Record) → rs ≡ r ∷ [] → IsNextRecord hash k tx r → (b : Option Told)
+      → ((h : Hash) (history : List Transaction) (batches : List (List Record)) → IsAtRest told h history batches j → AreNext h history batches j.durable rs
+      → Leaves (StandsBy Gated h history j.durable (length rs)) (told j.disk) b)
+      → Leaves (StandsWithin hash k.held.transactions tx) (told k.journal.disk) b
+  next-moments j same rs r is next b leaves =
+      next-leaves j same rs r is b
+      (leaves hash (k.held.transactions ++ tx ∷ []) can.kept.batches (next-rests can.kept.batches j same can.kept.rests) (next-follows can.kept.batches j same can.kept.rests rs r is next))
+
+  -- where it isn't durable the transaction may be lost
+  pub next-undone : (j : Kept D) → j ≡ k.journal → (rs : List Record) (r : Record) → rs ≡ r ∷ [] → IsNextRecord hash k tx r → (b : Option Told)
+      → ((h : Hash) (history : List Transaction) (batches : List (List Record)) → IsAtRest told h history batches j → AreNext h history batches j.durable rs
+      → MayLeave (λ image. Stands h image (take j.durable history)) b)
+      → MayLeave (λ image. Stands hash image k.held.transactions) b
+  next-undone j same rs r is next b undone =
+      let one : List Transaction = tx ∷ [] in
+      let all : length k.held.transactions ≡ j.durable = sym (ap (λ (x : Kept D). x.durable) same ∙ can.kept.all) in
+      subst (λ (l : List Transaction). MayLeave (λ image. Stands hash image l) b) (take_at k.held.transactions one j.durable all)
+      (undone hash (k.held.transactions ++ one) can.kept.batches (next-rests can.kept.batches j same can.kept.rests) (next-follows can.kept.batches j same can.kept.rests rs r is next))
+
   -- the ledger with the transaction is kept, behind the batch
   pub next-kept : (batches : List (List Record)) (j : Kept D) → j ≡ k.journal → (rs : List Record) (r : Record) → rs ≡ r ∷ [] → (after : KeptHistory D)
       → IsAtRest told hash (k.held.transactions ++ tx ∷ []) (batches ++ rs ∷ []) after.journal × (after.journal.durable ≡ j.durable + length rs)
@@ -85,25 +108,15 @@ module _ {D : Type 0} (told : D → Option Told) (hash : Hash) (k : KeptHistory 
         put = subst (λ (n : ℕ). AreAppended k.logs n 0 (refs_of (joined batches)) r.refs) size (next.put k.held.transactions batches rest.first);
       }
 
--- the only record of a batch
-pub only : (items : List Record) (n : ℕ) (r x : Record) (o : Option Record) → items ≡ r ∷ [] → n ≡ length items → o ≡ Some (get_or items (n - 1) r) → o ≡ Some x → x ≡ r
-only items n r x o is size value some =
-    let first : n - 1 ≡ 0 = omega (arith, size, ap length is) in
-    let same : get_or items (n - 1) r ≡ r = ap (λ (l : List Record). get_or l (n - 1) r) is ∙ ap (λ (m : ℕ). get_or (r ∷ []) m r) first in
-    let e : Some x ≡ Some r = sym some ∙ value ∙ ap (λ (y : Record). Some y) same in
-    cc
-
 -- the ledger takes it
-pub taken : (hash : Hash) (held before after : Held) (tx x : Transaction) (header : Header) (digest own : List ℕ) → before ≡ held
+pub taken : (hash : Hash) (held after : Held) (tx x : Transaction) (header : Header) (digest own : List ℕ)
     → IsLedger hash held → length held.transactions < 1048576 → IsTransaction (length held.transactions) tx → tx.bl ≡ length held.tree
     → header ≡ next_header hash held.alhs tx → x ≡ tx → digest ≡ own → own ≡ alh hash (next_header hash held.alhs tx)
-    → (IsLedger hash before → length before.transactions < 1048576 → IsTransaction (length before.transactions) x → x.bl ≡ length before.tree → header ≡ next_header hash before.alhs x
-    → digest ≡ alh hash header → IsLedger hash after) → IsLedger hash after
-taken hash held before after tx x header digest own same ledger room limits over header_is tx_is digest_is own_is push =
-    let P : Held → Type 0 = λ h. (IsLedger hash h → length h.transactions < 1048576 → IsTransaction (length h.transactions) tx → tx.bl ≡ length h.tree → header ≡ next_header hash h.alhs tx
-    → digest ≡ alh hash header → IsLedger hash after) in
-    let Q : Transaction → Type 0 = λ y. (IsLedger hash before → length before.transactions < 1048576 → IsTransaction (length before.transactions) y → y.bl ≡ length before.tree → header ≡ next_header hash before.alhs y
-    → digest ≡ alh hash header → IsLedger hash after) in
-    let on_tx : Q tx = subst Q tx_is push in
-    let on_held : P held = subst P same on_tx in
-    on_held ledger room limits over header_is (digest_is ∙ own_is ∙ ap (alh hash) (sym header_is))
+    → after.transactions ≡ held.transactions ++ x ∷ [] → after.headers ≡ held.headers ++ header ∷ [] → after.alhs ≡ held.alhs ++ digest ∷ [] → after.tree ≡ held.tree
+    → after.frontier ≡ held.frontier → after.root ≡ held.root → IsLedger hash after
+taken hash held after tx x header digest own ledger room limits over header_is tx_is digest_is own_is transactions headers alhs tree frontier root =
+    ledger-placed hash held after tx ledger room limits over
+    (transactions ∙ ap (λ (t : Transaction). held.transactions ++ t ∷ []) tx_is)
+    (headers ∙ ap (λ (x : Header). held.headers ++ x ∷ []) header_is)
+    (alhs ∙ ap (λ (x : List ℕ). held.alhs ++ x ∷ []) (digest_is ∙ own_is))
+    tree frontier root

@@ -8,3 +8,4 @@ pub mod OpenLemmas
 pub mod PlaceLemmas
 pub mod ReadLemmas
 pub mod RootLemmas
+pub mod UndoneLemmas

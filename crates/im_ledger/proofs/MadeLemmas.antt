@@ -2,6 +2,7 @@
 use Rattle.std.proofs.Common.{◌≡◌, ◌+◌, ℕ, List, [], ◌∷◌, ◌++◌, refl, sym, ap, subst, inr, append-nil}
 use Rattle.std.specs.Prelude.{Option, Result, Ok, Err, IsErrAnd, IsErrOf}
 use Rattle.std.specs.Option.{option_map}
+use Rattle.im_octet.proofs.Common.{ok-isnt}
 use Rattle.im_digest.specs.Digests.{Hash}
 use Rattle.im_disk.specs.Disk.{Told}
 use Rattle.im_disk.specs.Grown.{after_all}
@@ -28,9 +29,6 @@ fault-isnt-memory T is = cc
 
 memory-isnt-fault : (T : Type 0) → IsErrOf {T = T} (Err Memory) DiskFault → ⊥
 memory-isnt-fault T is = cc
-
-ok-isnt : {T : Type 0} (x : T) (e : CommitError) → IsErrOf {T = T} {E = CommitError} (Ok x) e → ⊥
-ok-isnt x e is = cc
 
 -- an error of the journal is one of the commit, and the calls are the same
 err-makes : (T U : Type 0) (calls left : List Call) (o n : Option Told) (e : JournalError) → ((faults : ℕ) → IsErrOf {T = T} (Err e) (Journal.Stopped faults) → ⊥)
@@ -126,7 +124,7 @@ module _ {D : Type 0} (told : D → Option Told) (old : Kept D) (records : List 
   settles T U x y staged sealed new left all synced step ends m =
       (left, ok-makes {U = U} (calls_of old records) left (told old.disk) (told new.disk) x y (settling {T = T} staged sealed left (told new.disk) (Ok x) all synced step ends m))
 
--- where the ledger has no memory for the transaction, all calls were made
+-- where memory ran out behind a batch that is durable, all calls were made
 front-all : {D T : Type 0} (told : D → Option Told) (records : List Record) (old new : Kept D) (x : T) → MakesDurable told records old new (Ok x)
     → MadeUpTo (calls_of old records) [] (told old.disk) (told new.disk)
 front-all told records old new x m = record { made = calls_of old records; split = sym (append-nil (calls_of old records)); told = m.1.ok }

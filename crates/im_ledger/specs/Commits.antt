@@ -1,7 +1,7 @@
--- Which changing calls of the disk a commit makes.
-use Rattle.std.specs.Prelude.{◌≡◌, ◌⊎◌, ◌+◌, List, [], ◌∷◌, ◌++◌, Option, Result, IsErrOf}
+-- Which changing calls of the disk a commit makes, and what a crash may leave where it isn't made.
+use Rattle.std.specs.Prelude.{◌≡◌, ◌⊎◌, ◌+◌, List, [], ◌∷◌, ◌++◌, Option, IfSome, Result, IsErrOf}
 use Rattle.im_digest.specs.Digests.{Hash}
-use Rattle.im_disk.specs.Disk.{Told}
+use Rattle.im_disk.specs.Disk.{Files, Told, Images}
 use Rattle.im_disk.specs.declared.calls.Call.{Call}
 use Rattle.im_disk.specs.declared.calls.Call.TheVariants.{Wrote, Synced}
 use Rattle.im_model.specs.declared.transactions.Transaction.{Transaction}
@@ -33,3 +33,7 @@ abbrev pub CommitMakes : {D T : Type 0} → (D → Option Told) → Hash → Tra
 CommitMakes told hash tx old journal result =
     (IsErrOf result Memory × (journal ≡ old.journal))
     ⊎ ((written : Record) × IsNextRecord hash old tx written × MakesDurable told (written ∷ []) old.journal journal result)
+
+-- a crash may leave an image that has P, where the disk tells
+abbrev pub MayLeave : (Files → Type 0) → Option Told → Type 0
+MayLeave P now = IfSome now (λ t. (image : Files) × Images t image × P image)

@@ -3,7 +3,7 @@ ghost use Rattle.std.specs.Prelude.{◌≡◌};
 use crate::durable::make_durable;
 use crate::errors::CommitError;
 use crate::ledger::Ledger;
-use crate::records::record_behind;
+use crate::records::{references_behind, root_of_entries};
 use im_digest::Hash32;
 use im_disk::disk::Disk;
 use im_format::records::Record;
@@ -13,6 +13,7 @@ use im_model::headers::Header;
 use im_model::transactions::Transaction;
 use std::alloc::{AllocError, Global};
 use std::marker::Model;
+use std::slice;
 
 /// A ledger that is kept on a disk: each transaction is durable before the ledger takes it. A clause sees the
 /// journal, the ledger's lists, and the number of value logs.
@@ -42,7 +43,7 @@ impl<D: Disk> Model for KeptLedger<D> {
 }
 
 impl<D: Disk> KeptLedger<D> {
-    ghost use Rattle.std.specs.Prelude.{◌≡◌, ◌<◌, ◌≤◌, ◌+◌, [], ◌∷◌, ◌++◌, List, length, min, IfOk, OnErr, OnOk};
+    ghost use Rattle.std.specs.Prelude.{◌≡◌, ◌<◌, ◌≤◌, ◌+◌, [], ◌∷◌, ◌++◌, List, length, min, IfOk, IsErrOf, OnErr, OnOk};
     ghost use Rattle.im_digest.specs.Digests.{Hash};
     ghost use Rattle.im_disk.specs.Grown.{Grows};
     ghost use Rattle.im_disk.specs.Moments.{Leaves, LeavesNow};
@@ -51,7 +52,7 @@ impl<D: Disk> KeptLedger<D> {
     ghost use Rattle.im_journal.specs.Kept.{IsAtRest};
     ghost use Rattle.im_model.specs.History.{next_header, IsTransaction};
     ghost use Rattle.im_ledger.specs.Causes.{HasCommitCause};
-    ghost use Rattle.im_ledger.specs.Commits.{CommitMakes};
+    ghost use Rattle.im_ledger.specs.Commits.{CommitMakes, MayLeave};
     ghost use Rattle.im_ledger.specs.Histories.{HasCommitted, IsKept, IsNextRecord, StandsWithin};
     ghost use Rattle.im_ledger.specs.Ledgers.{IsLedger};
 
@@ -76,15 +77,16 @@ impl<D: Disk> KeptLedger<D> {
         &self.ledger
     }
 
-    /// Places a transaction behind the others: writes its record as a batch of its own, makes it durable, and
-    /// only then takes it into the ledger. It hashes the entries and the header once, and each value twice: for
-    /// the header, and for where it is put. The disk gets a write for each value log that gets octets, two more, a
-    /// sync, the write of the gate, and a sync.
+    /// Places a transaction behind the others: makes room for it, writes its record as a batch of its own, makes
+    /// that durable, and only then takes it into the ledger, which can't be refused. It hashes each value, each entry
+    /// and the header once. The disk gets a write for each value log that gets octets, two more, a sync, the write
+    /// of the gate, and a sync.
     ///
     /// # Errors
     ///
-    /// After an error the ledger's lists are as they were, and it isn't used again; the disk then holds the
-    /// history with the transaction or without it.
+    /// After an error the ledger's lists are as they were, and it isn't used again. After `Memory` the transaction
+    /// isn't durable: a crash may leave the history without it. After `DiskFault` the disk holds the history with
+    /// the transaction or without it.
     pub fn commit<H: Hash32>(
         &mut self,
         alloc: Global,
@@ -100,6 +102,7 @@ impl<D: Disk> KeptLedger<D> {
         ensures kept { OnOk result (IsKept D.told (H.digest hash.now) self.new) }
         ensures logs { self.new.logs ≡ self.old.logs }
         ensures left { OnErr result (self.new.held ≡ self.old.held) }
+        ensures undone { IsErrOf result CommitError.Memory → MayLeave (λ image. Stands (H.digest hash.now) image self.old.held.transactions) (D.told self.new.journal.disk) }
         ensures put { (batches : List (List Record)) → IsAtRest D.told (H.digest hash.now) self.old.held.transactions batches self.old.journal
             → OnOk result (HasCommitted D.told (H.digest hash.now) self.new.held.transactions batches self.old.logs tx self.new.journal) }
         ensures any_moment { Leaves (StandsWithin (H.digest hash.now) self.old.held.transactions tx) (D.told self.old.journal.disk) (D.told self.new.journal.disk) }
@@ -108,33 +111,41 @@ impl<D: Disk> KeptLedger<D> {
         ensures durable { OnOk result (LeavesNow (λ image. Stands (H.digest hash.now) image self.new.held.transactions) (D.told self.new.journal.disk)) }
         ensures cause { HasCommitCause (D.faults self.old.journal.disk) (D.faults self.new.journal.disk) result }
     {
-        let (header, mut batch) = self.next_batch(alloc, hash, tx)?;
-        make_durable(&mut self.journal, alloc, batch.as_slice())?;
-        let Record { tx, refs: _, alh } = batch.pop().unwrap();
-        self.ledger.push(tx, header, alh)?;
+        let (header, record) = self.next_record(alloc, hash, tx)?;
+        self.ledger.book.reserve()?;
+        make_durable(&mut self.journal, alloc, slice::from_ref(&record))?;
+        let Record { tx, refs: _, alh } = record;
+        self.ledger.book.push(tx, header, alh);
         Ok(())
     }
 
-    // The header of a transaction that is placed next, and the batch of its record.
-    fn next_batch<H: Hash32>(
+    // The header of a transaction that is placed next, and its record.
+    fn next_record<H: Hash32>(
         &self,
         alloc: Global,
         hash: &H,
         tx: Transaction,
-    ) -> Result<(Header, Vec<Record>), AllocError>
+    ) -> Result<(Header, Record), AllocError>
         requires kept { IsKept D.told (H.digest hash.now) self.now }
         requires room { length self.now.held.transactions < 1048576 }
         requires limits { IsTransaction (length self.now.held.transactions) tx }
         requires over { tx.bl ≡ length self.now.held.tree }
         ensures header { IfOk result (λ next. next.0 ≡ next_header (H.digest hash.now) self.now.held.alhs tx) }
-        ensures batch { IfOk result (λ next. (r : Record) × (next.1.items ≡ r ∷ []) × IsNextRecord (H.digest hash.now) self.now tx r) }
+        ensures behind { IfOk result (λ next. IsNextRecord (H.digest hash.now) self.now tx next.1) }
     {
-        let header = self.ledger.header_for(alloc, hash, &tx)?;
-        let digest = alh(hash, &header);
+        let entries = tx.entries.as_slice();
         let durable = self.journal.durable();
         let ends = self.journal.ends();
-        let record = record_behind(alloc, hash, self.logs, ends, durable, tx, digest)?;
-        Ok((header, vec![in alloc; record]?))
+        let refs = references_behind(alloc, hash, self.logs, ends, durable, entries)?;
+        let eh = root_of_entries(alloc, hash, entries, refs.as_slice())?;
+        let header = self.ledger.header_for(alloc, hash, &tx, eh);
+        let digest = alh(hash, &header);
+        let record = Record {
+            tx,
+            refs,
+            alh: digest,
+        };
+        Ok((header, record))
     }
 
     /// Raises the tree by so many transactions, at most to the last one, and leaves the disk as it is. It hashes

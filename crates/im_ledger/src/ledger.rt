@@ -27,10 +27,10 @@ use std::marker::Model;
 ///
 /// `IsLedger`, for one hash: the lists are those of one history, the tree has the first Alh, at least as many as
 /// the tree of any transaction, and the subtrees and the root are those of this tree. `new` begins with it, and so
-/// does `from_found` over a history that was found; `push` and `link` keep it where they succeed.
+/// does `from_found` over a history that was found; `link` keeps it where it succeeds.
 #[derive(Drop)]
 pub struct Ledger {
-    book: Book,
+    pub(crate) book: Book,
     tree: Tree,
     frontier: Frontier,
     root: D32,
@@ -48,7 +48,7 @@ impl Ledger {
     ghost use Rattle.std.specs.Prelude.{◌≡◌, ◌+◌, ◌<◌, ◌≤◌, [], ◌∷◌, ◌++◌, length, map, min, IfErr, IfOk, None, OnErr, OnOk, Some};
     ghost use Rattle.im_digest.specs.Digests.{Hash};
     ghost use Rattle.im_model.specs.Headers.{alh};
-    ghost use Rattle.im_model.specs.History.{header_of, next_header, transaction_of, IsTransaction};
+    ghost use Rattle.im_model.specs.History.{entries_root, header_of, next_header, transaction_of, IsTransaction};
     ghost use Rattle.im_opening.specs.Opening.{IsOneHistory};
     ghost use Rattle.im_opening.specs.Reach.{txs_of};
     ghost use Rattle.im_versions.specs.Admits.{place_refusal};
@@ -161,34 +161,23 @@ impl Ledger {
         self.book.judge(pres)
     }
 
-    /// The header that a transaction over the whole tree has behind the others. It hashes its entries, and
-    /// nothing of the tree. Its only error is want of memory.
+    /// The header that a transaction over the whole tree has behind the others, where its entries have the root
+    /// `eh`. It hashes nothing of the tree, and takes no memory.
     pub fn header_for<H: Hash32>(
         &self,
         alloc: Global,
         hash: &H,
         tx: &Transaction,
-    ) -> Result<Header, AllocError>
+        eh: D32,
+    ) -> Header
         requires ledger { IsLedger (H.digest hash.now) self.now }
         requires room { length self.now.transactions < 1048576 }
         requires limits { IsTransaction (length self.now.transactions) tx.now }
         requires over { tx.now.bl ≡ length self.now.tree }
-        ensures { IfOk result (λ header. header ≡ next_header (H.digest hash.now) self.now.alhs tx.now) }
+        requires eh { eh ≡ entries_root (H.digest hash.now) tx.now.entries }
+        ensures { result ≡ next_header (H.digest hash.now) self.now.alhs tx.now }
     {
-        self.book.header_for(alloc, hash, tx, self.root)
-    }
-
-    /// Takes a transaction behind the others, with its header and its Alh. It hashes nothing. Its only error is
-    /// want of memory, and the ledger is then as it was.
-    pub fn push(&mut self, tx: Transaction, header: Header, digest: D32) -> Result<(), AllocError>
-        ensures grown { OnOk result (self.new.transactions ≡ self.old.transactions ++ tx ∷ []) }
-        ensures tree { OnOk result (self.new.tree ≡ self.old.tree) }
-        ensures ledger { (hash : Hash) → IsLedger hash self.old → length self.old.transactions < 1048576 → IsTransaction (length self.old.transactions) tx
-            → tx.bl ≡ length self.old.tree → header ≡ next_header hash self.old.alhs tx → digest ≡ alh hash header → OnOk result (IsLedger hash self.new) }
-        ensures left { OnErr result (self.new ≡ self.old) }
-    {
-        self.book.push(tx, header, digest)?;
-        Ok(())
+        self.book.header_for(alloc, hash, tx, self.root, eh)
     }
 
     /// Raises the tree by so many transactions, at most to the last one, and takes its root. It hashes the

@@ -3,6 +3,7 @@ use Rattle.std.proofs.Common.{◌≡◌, ◌∙◌, ◌+◌, ℕ, ℤ, List, [],
 use Rattle.std.proofs.Math.Seq.{take-length}
 use Rattle.std.specs.Prelude.{Option, Result, Ok, Err, OnOk, IsErrOf, IsErrAnd}
 use Rattle.std.specs.Option.{option_map}
+use Rattle.im_octet.proofs.Common.{ok-isnt}
 use Rattle.im_digest.specs.Digests.{Hash}
 use Rattle.im_disk.specs.Disk.{Told}
 use Rattle.im_disk.specs.Grown.{after_all}
@@ -36,7 +37,7 @@ use Rattle.im_session.specs.Made.{IsLeftRecord, MakesCalls, MakesLast}
 use Rattle.im_script.specs.declared.commands.Command.{Command}
 use Rattle.im_session.specs.Moves.{MayPlace, PlaceMakes}
 use Rattle.im_session.specs.Put.{IsKeptPut}
-use Rattle.im_session.proofs.KeptLemmas.{memory-alone, never-err}
+use Rattle.im_session.proofs.KeptLemmas.{memory-alone}
 
 -- an error is one alone
 memory-no-fault : (why : CommitError) → IsErrOf {T = Unit {0}} (Err why) Memory → IsErrOf {T = Unit {0}} (Err why) DiskFault → ⊥
@@ -176,7 +177,7 @@ module _ {D : Type 0} (told : D → Option Told) (hash : Hash) (k : KeptHistory 
   pub calls-grown : {T : Type 0} (now : KeptHistory D) (tx : Transaction) (x : T) → now.held.transactions ≡ k.held.transactions ++ tx ∷ []
       → (c : HasCommitted told hash now.held.transactions p.batches k.logs tx now.journal) → CommitMakes told hash tx k now.journal (Ok x)
       → told now.journal.disk ≡ option_map (after_all (calls_of_each p.put.first (p.put.rest ++ c.written ∷ []))) first
-  calls-grown now tx x grown c (inl (memory, same)) = absurd (never-err x Memory memory)
+  calls-grown now tx x grown c (inl (memory, same)) = absurd (ok-isnt x Memory memory)
   calls-grown now tx x grown c (inr (r, next, (calls, makes))) =
       let own : List Call = calls_of_batch p.batches (c.written ∷ []) in
       let ones : List (List Record) = map (λ y. y ∷ []) p.put.rest in
@@ -223,14 +224,14 @@ module _ {D : Type 0} (told : D → Option Told) (hash : Hash) (tx : Transaction
 
   -- a commit was made, and memory ran out behind it
   pub commit-short : {T U : Type 0} (x : T) (result : Result U CommitError) → IsErrAnd result (λ e. e ≡ Memory) → CommitMakes told hash tx k journal (Ok x) → CommitMakes told hash tx k journal result
-  commit-short x result is (inl (memory, same)) = absurd (never-err x Memory memory)
+  commit-short x result is (inl (memory, same)) = absurd (ok-isnt x Memory memory)
   commit-short x result is (inr (r, next, makes)) = inr (r, next, unplaced-makes told (r ∷ []) k.journal journal x result is makes)
 
   -- or all went well
   pub commit-done : {T U : Type 0} (x : T) (y : U) → CommitMakes told hash tx k journal (Ok x) → CommitMakes told hash tx k journal (Ok y)
-  commit-done x y (inl (memory, same)) = absurd (never-err x Memory memory)
+  commit-done x y (inl (memory, same)) = absurd (ok-isnt x Memory memory)
   commit-done x y (inr (r, next, (calls, makes))) =
-      inr (r, next, (calls, record { ok = makes.ok; failed = λ fault. absurd (never-err y DiskFault fault); ran_out = λ memory. absurd (never-err y Memory memory) }))
+      inr (r, next, (calls, record { ok = makes.ok; failed = λ fault. absurd (ok-isnt y DiskFault fault); ran_out = λ memory. absurd (ok-isnt y Memory memory) }))
 
 module _ {D : Type 0} (told : D → Option Told) (hash : Hash) (constant : Option ℤ) (command : Command) (k : KeptHistory D) (journal : Kept D) (times_before times_now : Option (List ℤ)) where
   -- what was placed stays where another result is answered that the same calls fit
@@ -262,4 +263,4 @@ module _ {D : Type 0} (told : D → Option Told) (hash : Hash) (constant : Optio
 
   -- or all went well
   pub placed-done : {T U : Type 0} (x : T) (y : U) → MayPlace told hash constant command k journal times_before times_now (Ok x) → MayPlace told hash constant command k journal times_before times_now (Ok y)
-  placed-done x y m = moved (Ok x) (Ok y) (λ never. never-err y DiskFault) (λ tx calls. commit-done told hash tx k journal x y calls) m
+  placed-done x y m = moved (Ok x) (Ok y) (λ never. ok-isnt y DiskFault) (λ tx calls. commit-done told hash tx k journal x y calls) m

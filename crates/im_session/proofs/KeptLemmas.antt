@@ -95,10 +95,6 @@ ok-cause n x = no-fault n n (Ok x) (λ fault. cc) refl
 pub memory-cause : {T : Type 0} (n : ℕ) (result : Result T CommitError) → result ≡ Err Memory → HasCommitCause n n result
 memory-cause n result is = no-fault n n result (λ fault. cc) refl
 
--- an answer is no error
-pub never-err : {T : Type 0} (x : T) (why : CommitError) → IsErrOf {T = T} {E = CommitError} (Ok x) why → ⊥
-never-err x why is = cc
-
 -- where memory ran out the disk didn't fail
 pub never-fault : {T : Type 0} (result : Result T CommitError) → result ≡ Err Memory → IsErrOf result DiskFault → ⊥
 never-fault result is fault = cc

@@ -24,7 +24,7 @@ ghost use Rattle.im_session.specs.Turns.{Answers, AskedFor, HasTime, Placed};
 use im_digest::Hash32;
 use im_disk::disk::Disk;
 use im_draft::drafts::Draft;
-use im_draft::preconditions::Pre;
+use im_draft::preconditions::Pres;
 use im_edge::clock::Clock;
 use im_ledger::errors::CommitError;
 use im_ledger::kept::KeptLedger;
@@ -113,19 +113,19 @@ pub(crate) fn answer_set<D: Disk, H: Hash32, C: Clock>(
     hash: &H,
     clock: &mut C,
     kept: &mut KeptLedger<D>,
-    pres: Vec<Pre>,
+    pres: Pres,
     drafts: Vec<Draft>,
 ) -> Result<Vec<u8>, CommitError>
     requires { IsKept D.told (H.digest hash.now) kept.old }
-    ensures answers { IfOk result (λ reply. Answers (H.digest hash.now) (C.constant clock.old) (Set pres.items drafts.items) kept.old.held kept.new.held reply.items) }
+    ensures answers { IfOk result (λ reply. Answers (H.digest hash.now) (C.constant clock.old) (Set pres drafts.items) kept.old.held kept.new.held reply.items) }
     ensures kept { OnOk result (IsKept D.told (H.digest hash.now) kept.new) }
     ensures times { OnOk result (AskedFor (drop (length kept.old.held.transactions) kept.new.held.transactions) (C.given clock.old) (C.given clock.new)) }
     ensures put { (w n : ℕ) (first : Option Told) → IsKeptPut D.told (H.digest hash.now) w n first kept.old → OnOk result (IsKeptPut D.told (H.digest hash.now) w n first kept.new) }
     ensures moments { OnOk result (Leaves (StandsBetween (H.digest hash.now) kept.old.held.transactions kept.new.held.transactions) (D.told kept.old.journal.disk) (D.told kept.new.journal.disk)) }
-    ensures left { MayPlace D.told (H.digest hash.now) (C.constant clock.old) (Set pres.items drafts.items) kept.old kept.new.journal (C.given clock.old) (C.given clock.new) result }
+    ensures left { MayPlace D.told (H.digest hash.now) (C.constant clock.old) (Set pres drafts.items) kept.old kept.new.journal (C.given clock.old) (C.given clock.new) result }
     ensures grows { Grows (D.told kept.old.journal.disk) (D.told kept.new.journal.disk) }
     ensures cause { HasCommitCause (D.faults kept.old.journal.disk) (D.faults kept.new.journal.disk) result }
-    ensures why { IsErrOf result DiskFault → ReachesDisk kept.old.held.transactions (Set pres.items drafts.items) }
+    ensures why { IsErrOf result DiskFault → ReachesDisk kept.old.held.transactions (Set pres drafts.items) }
     ensures same { C.constant clock.new ≡ C.constant clock.old }
 {
     if let Some(i) = first_reserved(&drafts) {

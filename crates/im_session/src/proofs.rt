@@ -12,11 +12,12 @@ ghost use Rattle.im_wire.specs.Texts.{text};
 ghost use Rattle.im_wire.specs.declared.messages.Message.TheVariants.{Item};
 ghost use Rattle.im_ledger.specs.Ledgers.{IsLedger};
 
-use im_digest::{D32, Hash32};
+use im_digest::Hash32;
 use im_dual::build::build;
-use im_entry::digests::digest;
+use im_entry::digests::digests_of;
 use im_ledger::ledger::Ledger;
 use im_model::entries::Entry;
+use im_mtree::digests::Digests;
 use im_mtree::paths::path;
 use im_proof::proofs::DualProof;
 use im_report::replies::{beyond_text, no_entry_text, order_text};
@@ -161,15 +162,21 @@ pub(crate) fn advance_text<H: Hash32>(
     message_text(alloc, Message::Advance { dual, anchor })
 }
 
-// The digests of some entries, in order.
-fn digests_of<H: Hash32>(alloc: Global, hash: &H, entries: &[Entry]) -> Result<Vec<D32>, AllocError>
-    ensures { IfOk result (λ digests. digests.items ≡ map (entry_digest (H.digest hash.now)) entries.now) }
+// An entry of these, and its path among them.
+fn entry_and_path<H: Hash32>(
+    alloc: Global,
+    hash: &H,
+    entries: &[Entry],
+    index: u32,
+) -> Result<(Entry, Digests), AllocError>
+    requires { index < length entries.now }
+    ensures entry { IfOk result (λ shown. shown.0 ≡ slice_index_or entries.now index no_entry) }
+    ensures path { IfOk result (λ shown. shown.1 ≡ path_of (H.digest hash.now) (map (entry_digest (H.digest hash.now)) entries.now) index) }
 {
-    let mut digests = Vec::with_capacity(alloc, entries.len())?;
-    for entry in entries {
-        digests.push(digest(hash, entry))?;
-    }
-    Ok(digests)
+    let digests = digests_of(alloc, hash, entries)?;
+    let path = path(alloc, hash, digests.as_slice(), index as usize)?;
+    let entry = entries[index as usize].try_clone(alloc)?;
+    Ok((entry, path))
 }
 
 // An entry of these and its path among them, with the dual proof from their transaction.
@@ -185,18 +192,21 @@ fn item<H: Hash32>(
     ensures reply { IfOk result (λ reply. reply.items ≡ item_shown (H.digest hash.now) dual entries.now index) }
     ensures again { IfOk result (λ reply. HasMessage reply.items (Item dual (slice_index_or entries.now index no_entry) index (path_of (H.digest hash.now) (map (entry_digest (H.digest hash.now)) entries.now) index))) }
 {
-    let entry = entries[index as usize].try_clone(alloc)?;
-    let digests = digests_of(alloc, hash, entries)?;
-    let path = path(alloc, hash, digests.as_slice(), index as usize)?;
-    message_text(
-        alloc,
-        Message::Item {
-            dual,
-            entry,
-            index,
-            path,
-        },
-    )
+    match entry_and_path(alloc, hash, entries, index) {
+        Ok((entry, path)) => message_text(
+            alloc,
+            Message::Item {
+                dual,
+                entry,
+                index,
+                path,
+            },
+        ),
+        Err(error) => {
+            drop(dual);
+            Err(error)
+        }
+    }
 }
 
 /// The reply to `item`: an entry of a transaction by its index, proved under the named state, or under the

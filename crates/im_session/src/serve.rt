@@ -114,7 +114,7 @@ fn answer<D: Disk, H: Hash32, C: Clock>(
 {
     match command {
         Command::Set { pres, drafts } => {
-            answer_set(alloc, hash, clock, kept, pres.into_vec(), drafts.into_vec())
+            answer_set(alloc, hash, clock, kept, pres, drafts.into_vec())
         }
         Command::Link { count } => Ok(answer_link(alloc, hash, kept, count)?),
         command @ (Command::Get { .. } | Command::Scan { .. } | Command::History { .. }) => {

@@ -11,6 +11,7 @@ use im_digest::{Hash32, Sum};
 use im_disk::disk::{Disk, DiskError};
 use im_disk::memory::MemDisk;
 use im_draft::drafts::{Attrs, Draft};
+use im_draft::preconditions::Pres;
 use im_journal::batches::Step;
 use im_journal::errors::JournalError;
 use im_journal::journal::Journal;
@@ -49,7 +50,7 @@ fn entries(alloc: Global) -> Result<Entries, Fail>
     let key = Octets::from_slice(alloc, b"k")?;
     let value = Octets::from_slice(alloc, b"abc")?;
     let drafts = vec![in alloc; Draft { attrs, key, value }]?;
-    let (entries, pres) = prepare(alloc, drafts, Vec::new(alloc))?.into_parts();
+    let (entries, pres) = prepare(alloc, drafts, Pres::from_vec(Vec::new(alloc)))?.into_parts();
     drop(pres);
     Ok(entries)
 }

@@ -4,7 +4,7 @@ ghost use Rattle.std.specs.Prelude.{◌<◌};
 
 use im_digest::D32;
 use im_draft::drafts::{Attrs, Draft};
-use im_draft::preconditions::Pre;
+use im_draft::preconditions::{Pre, Pres};
 use im_model::entries::{Entries, Entry};
 use im_model::limits::{EntryValue, Key, Metadata};
 use im_model::transactions::Transaction;
@@ -115,5 +115,5 @@ pub(crate) fn setting(
     for (key, value) in pairs {
         drafts.push(draft_of(alloc, key, value)?)?;
     }
-    Ok(prepare(alloc, drafts, pres)?)
+    Ok(prepare(alloc, drafts, Pres::from_vec(pres))?)
 }

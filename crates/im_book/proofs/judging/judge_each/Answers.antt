@@ -2,10 +2,10 @@ use Rattle.std.proofs.Common.{ℕ, ◌≡◌, ◌∙◌, ap, sym, List, take, le
 use Rattle.std.proofs.lemmas.Iterator.Adapters.{YieldsList-from_vec}
 use Rattle.std.proofs.lemmas.Iterator.Consumers.{YieldsList-so_far, YieldsList-turn}
 use Rattle.std.proofs.lemmas.List.{map-id}
+use Rattle.im_octet.proofs.Common.{if-err}
 use Rattle.im_draft.specs.declared.preconditions.Pre.{Pre}
 use Rattle.im_versions.specs.Admits.{first_refusal, refusal_of}
 use Rattle.im_versions.specs.declared.refusals.PlaceError.{PlaceError}
-use Rattle.im_octet.proofs.Common.{if-err}
 use Rattle.im_book.proofs.JudgeLemmas.{held-more, refused-at}
 use Rattle.im_book.proofs.judging.judge_each.Goals as goal
 

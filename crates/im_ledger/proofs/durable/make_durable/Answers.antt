@@ -1,10 +1,17 @@
-use Rattle.std.proofs.Common.{arith, ◌≡◌, ◌∙◌, ◌+◌, ℕ, length, refl, ap, subst, inl}
+use Rattle.std.proofs.Common.{arith, ◌≡◌, ◌∙◌, ◌+◌, ℕ, length, take, refl, ap, subst, inl, Err}
+use Rattle.std.specs.Prelude.{IsErrOf}
+use Rattle.im_disk.specs.Moments.{Leaves}
 use Rattle.im_disk.proofs.Growing.{grows_both}
-use Rattle.im_journal.specs.Kept.{HasStaged}
+use Rattle.im_format.specs.Standing.{Stands}
+use Rattle.im_journal.specs.Kept.{HasStaged, StandsBy}
 use Rattle.im_journal.specs.declared.batches.Step.TheVariants.{Idle, Staged, Gated}
+use Rattle.im_journal.specs.Pieces.{end_of}
+use Rattle.im_journal.specs.declared.errors.JournalError.{JournalError}
+use Rattle.im_journal.specs.declared.errors.JournalError.TheVariants.{Memory}
 use Rattle.im_ledger.proofs.DurableLemmas.{at-last, one-more}
 use Rattle.im_ledger.proofs.GrownLemmas.{step-grows}
 use Rattle.im_ledger.proofs.MadeLemmas.{sealed-all, settles, staged-all, stops-sealing, stops-settling, stops-staging}
+use Rattle.im_ledger.proofs.UndoneLemmas.{memory-of, unsettled, without-idle, without-staged}
 use Rattle.im_ledger.proofs.durable.make_durable.Goals as goal
 
 pub returns-in_err-stage-clause-any_moment : goal.returns-in_err-stage-clause-any_moment
@@ -85,6 +92,38 @@ returns-clause-any_moment g c hash history batches rest next =
     (c.stage.ensures.any_moment hash history batches rs (inl (rest, next, refl))))
     (c.seal.ensures.any_moment hash history batches rs batch.0))
     (c.settle.ensures.any_moment hash history batches rs safe.0)
+
+pub returns-in_err-stage-clause-undone : goal.returns-in_err-stage-clause-undone
+returns-in_err-stage-clause-undone g c hash history batches rest next out =
+    let old = c.args.journal.now in
+    let rs = c.args.records.now in
+    without-idle old.batch.step hash history old.durable (length rs) (g.D.Disk.told c.stage.new.self.disk) rest.idle
+    (c.stage.ensures.any_moment hash history batches rs (inl (rest, next, refl))).1
+
+pub returns-in_err-seal-clause-undone : goal.returns-in_err-seal-clause-undone
+returns-in_err-seal-clause-undone g c hash history batches rest next out =
+    let staged = c.stage.new.self in
+    let rs = c.args.records.now in
+    let batch = c.in_ok-stage.ensures.staged hash history batches rs (inl (rest, next, refl)) in
+    without-staged staged.batch.step hash history c.args.journal.now.durable staged.durable (length rs) (g.D.Disk.told c.seal.new.self.disk)
+    (c.in_ok-stage.ensures.step (λ has. subst HasStaged rest.idle has)) c.stage.ensures.kept.1 (c.seal.ensures.any_moment hash history batches rs batch.0).1
+
+pub returns-in_err-settle-clause-undone : goal.returns-in_err-settle-clause-undone
+returns-in_err-settle-clause-undone g c hash history batches rest next out =
+    let told = g.D.Disk.told in
+    let old = c.args.journal.now in
+    let staged = c.stage.new.self in
+    let sealed = c.seal.new.self in
+    let rs = c.args.records.now in
+    let batch = c.in_ok-stage.ensures.staged hash history batches rs (inl (rest, next, refl)) in
+    let safe = c.in_ok-seal.ensures.sealed hash history batches rs batch.0 in
+    let step : staged.batch.step ≡ Staged = c.in_ok-stage.ensures.step (λ has. subst HasStaged rest.idle has) in
+    let error = memory-of c.from_residual-in_err-settle.result c.in_err-settle.field-0.0 c.from_residual-in_err-settle.ensures.1 out in
+    let short : IsErrOf {T = Unit {0}} (Err c.in_err-settle.field-0.0) Memory = ap (λ (e : JournalError). Err e) error in
+    unsettled (λ image. Stands hash image (take old.durable history)) sealed.batch.step c.settle.new.self.batch.step (end_of sealed.ends 1) (end_of c.settle.new.self.ends 1)
+    (told sealed.disk) (told c.settle.new.self.disk) (Err c.in_err-settle.field-0.0) (c.in_ok-seal.ensures.step step)
+    (c.in_err-settle.ensures.again hash history batches rs safe.0 short).1 short c.in_err-settle.ensures.calls
+    (without-staged staged.batch.step hash history old.durable staged.durable (length rs) (told sealed.disk) step c.stage.ensures.kept.1 (c.seal.ensures.any_moment hash history batches rs batch.0).1)
 
 pub returns-in_err-stage-clause-grows : goal.returns-in_err-stage-clause-grows
 returns-in_err-stage-clause-grows g c =

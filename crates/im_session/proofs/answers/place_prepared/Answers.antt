@@ -1,5 +1,6 @@
 use Rattle.std.proofs.Common.{◌≡◌, ◌∙◌, List, None, Some, Ok, refl, subst}
 use Rattle.std.proofs.lemmas.Result.{IfOk-weaker}
+use Rattle.im_octet.proofs.Common.{ok-isnt}
 use Rattle.im_draft.specs.declared.preconditions.Pre.{Pre}
 use Rattle.im_model.specs.declared.entries.Entry.{Entry}
 use Rattle.im_versions.specs.Admits.{place_refusal}
@@ -8,7 +9,7 @@ use Rattle.im_ledger.specs.Histories.{KeptHistory}
 use Rattle.im_ledger.specs.Ledgers.{Held}
 use Rattle.im_ledger.specs.declared.errors.CommitError.TheVariants.{DiskFault}
 use Rattle.im_session.specs.Turns.{Placed}
-use Rattle.im_session.proofs.KeptLemmas.{between-same, memory-alone, never-err, nothing-placed, one-placed}
+use Rattle.im_session.proofs.KeptLemmas.{between-same, memory-alone, nothing-placed, one-placed}
 use Rattle.im_session.proofs.TimeLemmas.{asked-same}
 use Rattle.im_session.proofs.TurnLemmas.{placed-answers, unplaced-answers}
 use Rattle.im_session.proofs.answers.place_prepared.Goals as goal
@@ -38,7 +39,7 @@ pub returns-in_ok-place_text-in-Err-clause-left : goal.returns-in_ok-place_text-
 returns-in_ok-place_text-in-Err-clause-left g c drafts free are same =
     let kept : KeptHistory g.row.D.Denot = c.args.kept.now in
     nothing-placed g.D.Disk.told (g.H.Hash32.digest c.args.hash.now) kept c.requires (g.C.Clock.constant c.args.clock.now) (g.C.Clock.given c.args.clock.now) (Set c.args.prepared.pres drafts) kept.journal
-    (Ok c.in_ok-place_text-in-Err.field-0) refl (never-err c.in_ok-place_text-in-Err.field-0 DiskFault)
+    (Ok c.in_ok-place_text-in-Err.field-0) refl (ok-isnt c.in_ok-place_text-in-Err.field-0 DiskFault)
 
 pub returns-in-Ok-clause-answers : goal.returns-in-Ok-clause-answers
 returns-in-Ok-clause-answers g c =

@@ -1,5 +1,6 @@
 use Rattle.std.proofs.Common.{ℤ, ℕ, List, Option, Err, Ok, length, ap, inl, inr, refl, subst, sym, ◌∙◌}
 use Rattle.std.proofs.lemmas.Result.{err_from_is_err_and}
+use Rattle.im_octet.proofs.Common.{ok-isnt}
 use Rattle.im_accept.specs.Messages.{IsReadBack}
 use Rattle.im_digest.specs.Digests.{Hash}
 use Rattle.im_disk.proofs.Growing.{grows_none}
@@ -9,7 +10,7 @@ use Rattle.im_ledger.specs.declared.errors.CommitError.TheVariants.{DiskFault}
 use Rattle.im_report.specs.Report.{IsAnswer}
 use Rattle.im_script.specs.declared.commands.Command.{Command}
 use Rattle.im_session.specs.Turns.{Answers, IsLooking}
-use Rattle.im_session.proofs.KeptLemmas.{between-same, memory-alone, memory-cause, never-err, never-fault, never-ok, nothing-placed, ok-cause}
+use Rattle.im_session.proofs.KeptLemmas.{between-same, memory-alone, memory-cause, never-fault, never-ok, nothing-placed, ok-cause}
 use Rattle.im_session.proofs.PutLemmas.{put-same}
 use Rattle.im_session.proofs.TimeLemmas.{asked-same}
 use Rattle.im_session.proofs.TurnLemmas.{looked-answers}
@@ -27,7 +28,7 @@ returns-in_ok-answer_link-in-Link-clause-moments g c =
 pub returns-in_ok-answer_link-in-Link-clause-left : goal.returns-in_ok-answer_link-in-Link-clause-left
 returns-in_ok-answer_link-in-Link-clause-left g c =
     nothing-placed g.D.Disk.told (g.H.Hash32.digest c.args.hash.now) c.args.kept.now c.requires.kept (g.C.Clock.constant c.args.clock.now) (g.C.Clock.given c.args.clock.now) c.args.command c.answer_link.new.kept.journal
-    (Ok c.in_ok-answer_link-in-Link.field-0) c.answer_link.ensures.journal (never-err c.in_ok-answer_link-in-Link.field-0 DiskFault)
+    (Ok c.in_ok-answer_link-in-Link.field-0) c.answer_link.ensures.journal (ok-isnt c.in_ok-answer_link-in-Link.field-0 DiskFault)
 
 pub returns-in_ok-answer_link-in-Link-clause-put : goal.returns-in_ok-answer_link-in-Link-clause-put
 returns-in_ok-answer_link-in-Link-clause-put g c w n first p =
@@ -63,7 +64,7 @@ pub returns-in_ok-look-in-Get-clause-left : goal.returns-in_ok-look-in-Get-claus
 returns-in_ok-look-in-Get-clause-left g c =
     let kept : KeptHistory g.row.D.Denot = c.args.kept.now in
     nothing-placed g.D.Disk.told (g.H.Hash32.digest c.args.hash.now) kept c.requires.kept (g.C.Clock.constant c.args.clock.now) (g.C.Clock.given c.args.clock.now) c.args.command kept.journal
-    (Ok c.in_ok-look-in-Get.field-0) refl (never-err c.in_ok-look-in-Get.field-0 DiskFault)
+    (Ok c.in_ok-look-in-Get.field-0) refl (ok-isnt c.in_ok-look-in-Get.field-0 DiskFault)
 
 pub returns-in_err-read-in_default : goal.returns-in_err-read-in_default
 returns-in_err-read-in_default g c =
@@ -103,10 +104,10 @@ returns-in_ok-read-in_default g c =
       within = c.requires.within;
       put = λ w n first p. p;
       moments = between-same g.D.Disk.told hash kept c.requires.kept kept refl refl;
-      left = nothing-placed g.D.Disk.told hash kept c.requires.kept constant (g.C.Clock.given c.args.clock.now) c.args.command kept.journal (Ok done.field-0) refl (never-err done.field-0 DiskFault);
+      left = nothing-placed g.D.Disk.told hash kept c.requires.kept constant (g.C.Clock.given c.args.clock.now) c.args.command kept.journal (Ok done.field-0) refl (ok-isnt done.field-0 DiskFault);
       grows = grows_none (g.D.Disk.told kept.journal.disk);
       cause = ok-cause (g.D.Disk.faults kept.journal.disk) _;
-      why = λ fault. absurd (never-err done.field-0 DiskFault fault);
+      why = λ fault. absurd (ok-isnt done.field-0 DiskFault fault);
       same = refl;
     }
 

@@ -3,6 +3,7 @@ use Rattle.std.proofs.Math.Seq.{drop-length}
 use Rattle.std.proofs.lemmas.Iterator.Adapters.{YieldsList-from_vec}
 use Rattle.std.proofs.lemmas.Iterator.Consumers.{YieldsList-end, YieldsList-so_far, YieldsList-turn}
 use Rattle.std.proofs.lemmas.List.{map-id}
+use Rattle.im_octet.proofs.Common.{ok-isnt}
 use Rattle.im_digest.specs.Digests.{Hash}
 use Rattle.im_disk.specs.Disk.{Told as DiskTold}
 use Rattle.im_disk.specs.Grown.{Grows}
@@ -21,7 +22,7 @@ use Rattle.im_session.specs.Served.{ReachesDisk, ServesAll, ServesFront}
 use Rattle.im_session.specs.Turns.{HasTime, Turn}
 use Rattle.im_session.proofs.AgainLemmas.{Told, Told-first, turn-told}
 use Rattle.im_session.proofs.CallLemmas.{last-makes, makes-calls}
-use Rattle.im_session.proofs.KeptLemmas.{error-is, error-same, never-err, ok-cause}
+use Rattle.im_session.proofs.KeptLemmas.{error-is, error-same, ok-cause}
 use Rattle.im_session.proofs.PutLemmas.{put-first, put-shown}
 use Rattle.im_session.proofs.ReadLemmas.{within-none}
 use Rattle.im_session.proofs.ServedLemmas.{found-standing, found-within, front-stopped, is-why, moments-first, moments-next, serves-ended, timed-next}
@@ -153,7 +154,7 @@ returns-clause-all g c =
     let whole : c.loop-line.yielded ≡ lines = sym (map-id c.loop-line.yielded) ∙ end.0 in
     let logs : ℕ = c.args.kept.logs in
     let put = c.loop-line.invariant.put in
-    let last : MakesLast hash logs kept.held.transactions [] put.batches now now (Ok tt) = inl (refl, inl refl, λ fault. never-err tt DiskFault fault) in
+    let last : MakesLast hash logs kept.held.transactions [] put.batches now now (Ok tt) = inl (refl, inl refl, λ fault. ok-isnt tt DiskFault fault) in
     let calls = makes-calls g.D.Disk.told hash kept c.loop-line.invariant.kept logs (length found) start put [] now (Ok tt) last refl in
     let E : g.row.D.Denot → Type 0 = λ d. ServesAll hash first c.args.kept.logs found lines start (g.D.Disk.told d) times_before times_now c.loop-line.out.items in
     subst E (sym c.into_disk-2.ensures)
@@ -162,7 +163,7 @@ returns-clause-all g c =
     (kept-images g.D.Disk.told hash kept c.loop-line.invariant.kept) (put-shown g.D.Disk.told hash kept c.loop-line.invariant.kept logs (length found) start put) calls)
 
 pub returns-clause-front : goal.returns-clause-front
-returns-clause-front g c why is = absurd (never-err tt why is)
+returns-clause-front g c why is = absurd (ok-isnt tt why is)
 
 pub returns-clause-some : goal.returns-clause-some
 returns-clause-some g c = let all = returns-clause-all g c in all.serves

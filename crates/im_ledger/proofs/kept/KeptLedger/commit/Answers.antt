@@ -1,16 +1,45 @@
-use Rattle.std.proofs.Common.{◌≡◌, ◌∙◌, List, [], ◌∷◌, ◌++◌, length, arith, refl, ap, inl}
+use Rattle.std.proofs.Common.{◌≡◌, ◌∙◌, List, ℕ, [], ◌∷◌, ◌++◌, refl, ap, inl, subst, sym}
+use Rattle.im_disk.specs.Moments.{Leaves}
+use Rattle.im_format.specs.Standing.{Stands}
 use Rattle.im_format.specs.declared.records.Record.{Record}
+use Rattle.im_journal.specs.Kept.{Kept}
+use Rattle.im_model.specs.declared.headers.Header.{Header}
 use Rattle.im_model.specs.declared.transactions.Transaction.{Transaction}
-use Rattle.im_ledger.specs.Histories.{KeptHistory}
+use Rattle.im_ledger.specs.Commits.{MayLeave}
+use Rattle.im_ledger.specs.Histories.{KeptHistory, StandsWithin}
 use Rattle.im_ledger.specs.Ledgers.{Held}
 use Rattle.im_ledger.specs.declared.errors.CommitError.TheVariants.{Memory}
-use Rattle.im_ledger.proofs.CommitLemmas.{CanCommit, next-committed, next-follows, next-kept, next-leaves, next-rests, only, taken}
+use Rattle.im_ledger.proofs.CommitLemmas.{CanCommit, next-committed, next-follows, next-kept, next-moments, next-rests, next-undone, taken}
 use Rattle.im_ledger.proofs.GrowLemmas.{kept-images, kept-stays}
-use Rattle.im_ledger.proofs.MadeLemmas.{committed-makes, err-is, same-error, unplaced-makes}
+use Rattle.im_ledger.proofs.MadeLemmas.{committed-makes, err-is, same-error}
+use Rattle.im_ledger.proofs.UndoneLemmas.{may-leave, same-cause}
 use Rattle.im_ledger.proofs.kept.KeptLedger.commit.Goals as goal
 
 pub returns-in_err-header-clause-any_moment : goal.returns-in_err-header-clause-any_moment
 returns-in_err-header-clause-any_moment g c = kept-stays g.D.Disk.told (g.H.Hash32.digest c.args.hash.now) c.args.self.now c.requires.kept c.args.tx
+
+pub returns-in_err-header-clause-undone : goal.returns-in_err-header-clause-undone
+returns-in_err-header-clause-undone g c out =
+    may-leave (λ image. Stands (g.H.Hash32.digest c.args.hash.now) image c.args.self.now.held.transactions) _ (kept-images g.D.Disk.told (g.H.Hash32.digest c.args.hash.now) c.args.self.now c.requires.kept)
+
+pub returns-in_err-reserve-clause-any_moment : goal.returns-in_err-reserve-clause-any_moment
+returns-in_err-reserve-clause-any_moment g c =
+    let told = g.D.Disk.told in
+    let hash = g.H.Hash32.digest c.args.hash.now in
+    let k = c.args.self.now in
+    let view = c.self-inside.view_is in
+    let same : c.self-inside.inside.0.0 ≡ c.args.self.now.journal = ap (λ x. x.journal) view ∙ ap (λ (x : KeptHistory g.row.D.Denot). x.journal) c.self.view_is in
+    subst (λ (j : Kept g.row.D.Denot). Leaves (StandsWithin hash k.held.transactions c.args.tx) (told k.journal.disk) (told j.disk)) (sym same) (kept-stays told hash k c.requires.kept c.args.tx)
+
+pub returns-in_err-reserve-clause-undone : goal.returns-in_err-reserve-clause-undone
+returns-in_err-reserve-clause-undone g c out =
+    let told = g.D.Disk.told in
+    let hash = g.H.Hash32.digest c.args.hash.now in
+    let k = c.args.self.now in
+    let view = c.self-inside.view_is in
+    let same : c.self-inside.inside.0.0 ≡ c.args.self.now.journal = ap (λ x. x.journal) view ∙ ap (λ (x : KeptHistory g.row.D.Denot). x.journal) c.self.view_is in
+    subst (λ (j : Kept g.row.D.Denot). MayLeave (λ image. Stands hash image k.held.transactions) (told j.disk)) (sym same)
+    (may-leave (λ image. Stands hash image k.held.transactions) (told k.journal.disk) (kept-images told hash k c.requires.kept))
 
 pub make_durable-requires-clause-next : goal.make_durable-requires-clause-next
 make_durable-requires-clause-next g c =
@@ -18,14 +47,17 @@ make_durable-requires-clause-next g c =
     let hash = g.H.Hash32.digest c.args.hash.now in
     let k = c.args.self.now in
     let can : CanCommit told hash k c.args.tx = record { kept = c.requires.kept; room = c.requires.room; limits = c.requires.limits; over = c.requires.over } in
-    let same = ap (λ (x : KeptHistory g.row.D.Denot). x.journal) c.self.view_is in
-    let batch = c.in_ok-header.ensures.batch in
-    let r : Record = batch.0 in
-    let rs : List Record = c.as_slice.result.now in
-    let is : rs ≡ r ∷ [] = c.as_slice.ensures.value ∙ batch.1 in
-    let rests = next-rests told hash k c.args.tx can c.requires.kept.batches c.self.inside.journal same c.requires.kept.rests in
-    let follows = next-follows told hash k c.args.tx can c.requires.kept.batches c.self.inside.journal same c.requires.kept.rests rs r is batch.2 in
-    (hash, k.held.transactions ++ c.args.tx ∷ [], c.requires.kept.batches, rests, follows)
+    let view = c.self-inside.view_is in
+    let same : c.self-inside.inside.0.0 ≡ c.args.self.now.journal = ap (λ x. x.journal) view ∙ ap (λ (x : KeptHistory g.row.D.Denot). x.journal) c.self.view_is in
+    let next = c.in_ok-header.ensures.behind in
+    let batches = c.requires.kept.batches in
+    let rests = c.requires.kept.rests in (
+      hash,
+      k.held.transactions ++ c.args.tx ∷ [],
+      batches,
+      next-rests told hash k c.args.tx can batches c.self-inside.inside.0.0 same rests,
+      next-follows told hash k c.args.tx can batches c.self-inside.inside.0.0 same rests c.from_ref.result.now c.in_ok-header.record c.from_ref.ensures.value next,
+    )
 
 pub returns-in_err-make_durable-clause-any_moment : goal.returns-in_err-make_durable-clause-any_moment
 returns-in_err-make_durable-clause-any_moment g c =
@@ -33,31 +65,24 @@ returns-in_err-make_durable-clause-any_moment g c =
     let hash = g.H.Hash32.digest c.args.hash.now in
     let k = c.args.self.now in
     let can : CanCommit told hash k c.args.tx = record { kept = c.requires.kept; room = c.requires.room; limits = c.requires.limits; over = c.requires.over } in
-    let same = ap (λ (x : KeptHistory g.row.D.Denot). x.journal) c.self.view_is in
-    let batch = c.in_ok-header.ensures.batch in
-    let r : Record = batch.0 in
-    let rs : List Record = c.as_slice.result.now in
-    let is : rs ≡ r ∷ [] = c.as_slice.ensures.value ∙ batch.1 in
-    let rests = next-rests told hash k c.args.tx can c.requires.kept.batches c.self.inside.journal same c.requires.kept.rests in
-    let follows = next-follows told hash k c.args.tx can c.requires.kept.batches c.self.inside.journal same c.requires.kept.rests rs r is batch.2 in
-    next-leaves told hash k c.args.tx can c.self.inside.journal same rs r is (told c.make_durable.new.journal.disk)
-    (c.make_durable.ensures.any_moment hash (k.held.transactions ++ c.args.tx ∷ []) c.requires.kept.batches rests follows)
+    let view = c.self-inside.view_is in
+    let same : c.self-inside.inside.0.0 ≡ c.args.self.now.journal = ap (λ x. x.journal) view ∙ ap (λ (x : KeptHistory g.row.D.Denot). x.journal) c.self.view_is in
+    let next = c.in_ok-header.ensures.behind in
+    next-moments told hash k c.args.tx can c.self-inside.inside.0.0 same c.from_ref.result.now c.in_ok-header.record c.from_ref.ensures.value next (told c.make_durable.new.journal.disk)
+    c.make_durable.ensures.any_moment
 
-pub returns-in_err-push-clause-any_moment : goal.returns-in_err-push-clause-any_moment
-returns-in_err-push-clause-any_moment g c =
+pub returns-in_err-make_durable-clause-undone : goal.returns-in_err-make_durable-clause-undone
+returns-in_err-make_durable-clause-undone g c out =
     let told = g.D.Disk.told in
     let hash = g.H.Hash32.digest c.args.hash.now in
     let k = c.args.self.now in
     let can : CanCommit told hash k c.args.tx = record { kept = c.requires.kept; room = c.requires.room; limits = c.requires.limits; over = c.requires.over } in
-    let same = ap (λ (x : KeptHistory g.row.D.Denot). x.journal) c.self.view_is in
-    let batch = c.in_ok-header.ensures.batch in
-    let r : Record = batch.0 in
-    let rs : List Record = c.as_slice.result.now in
-    let is : rs ≡ r ∷ [] = c.as_slice.ensures.value ∙ batch.1 in
-    let rests = next-rests told hash k c.args.tx can c.requires.kept.batches c.self.inside.journal same c.requires.kept.rests in
-    let follows = next-follows told hash k c.args.tx can c.requires.kept.batches c.self.inside.journal same c.requires.kept.rests rs r is batch.2 in
-    next-leaves told hash k c.args.tx can c.self.inside.journal same rs r is (told c.make_durable.new.journal.disk)
-    (c.make_durable.ensures.any_moment hash (k.held.transactions ++ c.args.tx ∷ []) c.requires.kept.batches rests follows)
+    let view = c.self-inside.view_is in
+    let same : c.self-inside.inside.0.0 ≡ c.args.self.now.journal = ap (λ x. x.journal) view ∙ ap (λ (x : KeptHistory g.row.D.Denot). x.journal) c.self.view_is in
+    let next = c.in_ok-header.ensures.behind in
+    next-undone told hash k c.args.tx can c.self-inside.inside.0.0 same c.from_ref.result.now c.in_ok-header.record c.from_ref.ensures.value next (told c.make_durable.new.journal.disk)
+    (λ h history batches rests follows. c.in_err-make_durable.ensures.undone h history batches rests follows
+    (same-cause c.from_residual-in_err-make_durable.result c.in_err-make_durable.field-0.0 Memory c.from_residual-in_err-make_durable.ensures.1 out))
 
 pub returns-clause-any_moment : goal.returns-clause-any_moment
 returns-clause-any_moment g c =
@@ -65,15 +90,11 @@ returns-clause-any_moment g c =
     let hash = g.H.Hash32.digest c.args.hash.now in
     let k = c.args.self.now in
     let can : CanCommit told hash k c.args.tx = record { kept = c.requires.kept; room = c.requires.room; limits = c.requires.limits; over = c.requires.over } in
-    let same = ap (λ (x : KeptHistory g.row.D.Denot). x.journal) c.self.view_is in
-    let batch = c.in_ok-header.ensures.batch in
-    let r : Record = batch.0 in
-    let rs : List Record = c.as_slice.result.now in
-    let is : rs ≡ r ∷ [] = c.as_slice.ensures.value ∙ batch.1 in
-    let rests = next-rests told hash k c.args.tx can c.requires.kept.batches c.self.inside.journal same c.requires.kept.rests in
-    let follows = next-follows told hash k c.args.tx can c.requires.kept.batches c.self.inside.journal same c.requires.kept.rests rs r is batch.2 in
-    next-leaves told hash k c.args.tx can c.self.inside.journal same rs r is (told c.make_durable.new.journal.disk)
-    (c.make_durable.ensures.any_moment hash (k.held.transactions ++ c.args.tx ∷ []) c.requires.kept.batches rests follows)
+    let view = c.self-inside.view_is in
+    let same : c.self-inside.inside.0.0 ≡ c.args.self.now.journal = ap (λ x. x.journal) view ∙ ap (λ (x : KeptHistory g.row.D.Denot). x.journal) c.self.view_is in
+    let next = c.in_ok-header.ensures.behind in
+    next-moments told hash k c.args.tx can c.self-inside.inside.0.0 same c.from_ref.result.now c.in_ok-header.record c.from_ref.ensures.value next (told c.make_durable.new.journal.disk)
+    c.make_durable.ensures.any_moment
 
 pub returns-clause-kept : goal.returns-clause-kept
 returns-clause-kept g c =
@@ -81,26 +102,26 @@ returns-clause-kept g c =
     let hash = g.H.Hash32.digest c.args.hash.now in
     let k = c.args.self.now in
     let can : CanCommit told hash k c.args.tx = record { kept = c.requires.kept; room = c.requires.room; limits = c.requires.limits; over = c.requires.over } in
-    let same = ap (λ (x : KeptHistory g.row.D.Denot). x.journal) c.self.view_is in
-    let batch = c.in_ok-header.ensures.batch in
-    let r : Record = batch.0 in
-    let rs : List Record = c.as_slice.result.now in
-    let is : rs ≡ r ∷ [] = c.as_slice.ensures.value ∙ batch.1 in
-    let rests = next-rests told hash k c.args.tx can c.requires.kept.batches c.self.inside.journal same c.requires.kept.rests in
-    let follows = next-follows told hash k c.args.tx can c.requires.kept.batches c.self.inside.journal same c.requires.kept.rests rs r is batch.2 in
+    let view = c.self-inside.view_is in
+    let same : c.self-inside.inside.0.0 ≡ c.args.self.now.journal = ap (λ x. x.journal) view ∙ ap (λ (x : KeptHistory g.row.D.Denot). x.journal) c.self.view_is in
+    let next = c.in_ok-header.ensures.behind in
+    let rests = next-rests told hash k c.args.tx can c.requires.kept.batches c.self-inside.inside.0.0 same c.requires.kept.rests in
+    let follows = next-follows told hash k c.args.tx can c.requires.kept.batches c.self-inside.inside.0.0 same c.requires.kept.rests c.from_ref.result.now c.in_ok-header.record c.from_ref.ensures.value next in
     let settled = c.in_ok-make_durable.ensures.settled hash (k.held.transactions ++ c.args.tx ∷ []) c.requires.kept.batches rests follows in
-    let count = c.in_ok-header.batch.ok.0 in
-    let popped : c.unwrap-tx.result ≡ r =
-    only c.in_ok-header.batch.items _ r c.unwrap-tx.result c.pop.result batch.1 count (c.pop.ensures.value r (omega (arith, count, ap length batch.1))) c.unwrap-tx.ensures in
-    let held = ap (λ (x : KeptHistory g.row.D.Denot). x.held) c.self.view_is in
-    let tx_is : c.unwrap-tx.result.tx ≡ c.args.tx = ap (λ (x : Record). x.tx) popped ∙ batch.2.tx_is in
-    let grown : c.push.new.self.transactions ≡ k.held.transactions ++ c.args.tx ∷ [] =
-    c.in_ok-push.ensures.grown ∙ ap (λ (h : Held). h.transactions ++ c.unwrap-tx.result.tx ∷ []) held ∙ ap (λ (t : Transaction). k.held.transactions ++ t ∷ []) tx_is in
-    let ledger = taken hash k.held c.self.inside.ledger c.push.new.self c.args.tx c.unwrap-tx.result.tx c.in_ok-header.header c.unwrap-tx.result.alh r.alh held
-    c.requires.kept.ledger c.requires.room c.requires.limits c.requires.over c.in_ok-header.ensures.header tx_is (ap (λ (x : Record). x.alh) popped) batch.2.alh_is (c.in_ok-push.ensures.ledger hash) in
-    let after : KeptHistory g.row.D.Denot = record { journal = c.make_durable.new.journal; held = c.push.new.self; logs = c.self.inside.logs } in
-    let kept = next-kept told hash k c.args.tx can c.requires.kept.batches c.self.inside.journal same rs r is after settled c.in_ok-make_durable.ensures.going grown ledger
-    (ap (λ (x : KeptHistory g.row.D.Denot). x.logs) c.self.view_is) in
+    let lists : record { transactions = c.self-inside.inside.0.1.0.book.transactions; headers = c.self-inside.inside.0.1.0.book.headers; alhs = c.self-inside.inside.0.1.0.book.alhs; tree = c.self-inside.inside.0.1.0.tree; frontier = c.self-inside.inside.0.1.0.frontier; root = c.self-inside.inside.0.1.0.root } ≡ k.held = ap (λ x. x.ledger) view ∙ ap (λ (x : KeptHistory g.row.D.Denot). x.held) c.self.view_is in
+    let record_is : c.in_ok-header.record.tx ≡ c.args.tx = next.tx_is in
+    let grown : c.push.new.self.transactions ≡ k.held.transactions ++ c.in_ok-header.record.tx ∷ [] =
+    c.push.ensures.grown ∙ ap (λ (l : List Transaction). l ++ c.in_ok-header.record.tx ∷ []) (c.reserve.ensures.same.0 ∙ ap (λ (h : Held). h.transactions) lists) in
+    let all : c.push.new.self.transactions ≡ k.held.transactions ++ c.args.tx ∷ [] = grown ∙ ap (λ (t : Transaction). k.held.transactions ++ t ∷ []) record_is in
+    let after : Held = record { transactions = c.push.new.self.transactions; headers = c.push.new.self.headers; alhs = c.push.new.self.alhs; tree = c.self-inside.inside.0.1.0.tree; frontier = c.self-inside.inside.0.1.0.frontier; root = c.self-inside.inside.0.1.0.root } in
+    let ledger = taken hash k.held after c.args.tx c.in_ok-header.record.tx c.in_ok-header.header c.in_ok-header.record.alh c.in_ok-header.record.alh
+    c.requires.kept.ledger c.requires.room c.requires.limits c.requires.over c.in_ok-header.ensures.header record_is refl next.alh_is grown
+    (c.push.ensures.headers ∙ ap (λ (l : List Header). l ++ c.in_ok-header.header ∷ []) (c.reserve.ensures.same.1 ∙ ap (λ (h : Held). h.headers) lists))
+    (c.push.ensures.alhs ∙ ap (λ (l : List (List ℕ)). l ++ c.in_ok-header.record.alh ∷ []) (c.reserve.ensures.same.2 ∙ ap (λ (h : Held). h.alhs) lists))
+    (ap (λ (h : Held). h.tree) lists) (ap (λ (h : Held). h.frontier) lists) (ap (λ (h : Held). h.root) lists) in
+    let behind : KeptHistory g.row.D.Denot = record { journal = c.make_durable.new.journal; held = after; logs = c.self-inside.inside.0.1.1.0 } in
+    let kept = next-kept told hash k c.args.tx can c.requires.kept.batches c.self-inside.inside.0.0 same c.from_ref.result.now c.in_ok-header.record c.from_ref.ensures.value behind settled c.in_ok-make_durable.ensures.going all ledger
+    (ap (λ x. x.logs) view ∙ ap (λ (x : KeptHistory g.row.D.Denot). x.logs) c.self.view_is) in
     kept
 
 pub returns-clause-durable : goal.returns-clause-durable
@@ -109,27 +130,28 @@ returns-clause-durable g c =
     let hash = g.H.Hash32.digest c.args.hash.now in
     let k = c.args.self.now in
     let can : CanCommit told hash k c.args.tx = record { kept = c.requires.kept; room = c.requires.room; limits = c.requires.limits; over = c.requires.over } in
-    let same = ap (λ (x : KeptHistory g.row.D.Denot). x.journal) c.self.view_is in
-    let batch = c.in_ok-header.ensures.batch in
-    let r : Record = batch.0 in
-    let rs : List Record = c.as_slice.result.now in
-    let is : rs ≡ r ∷ [] = c.as_slice.ensures.value ∙ batch.1 in
-    let rests = next-rests told hash k c.args.tx can c.requires.kept.batches c.self.inside.journal same c.requires.kept.rests in
-    let follows = next-follows told hash k c.args.tx can c.requires.kept.batches c.self.inside.journal same c.requires.kept.rests rs r is batch.2 in
+    let view = c.self-inside.view_is in
+    let same : c.self-inside.inside.0.0 ≡ c.args.self.now.journal = ap (λ x. x.journal) view ∙ ap (λ (x : KeptHistory g.row.D.Denot). x.journal) c.self.view_is in
+    let next = c.in_ok-header.ensures.behind in
+    let rests = next-rests told hash k c.args.tx can c.requires.kept.batches c.self-inside.inside.0.0 same c.requires.kept.rests in
+    let follows = next-follows told hash k c.args.tx can c.requires.kept.batches c.self-inside.inside.0.0 same c.requires.kept.rests c.from_ref.result.now c.in_ok-header.record c.from_ref.ensures.value next in
     let settled = c.in_ok-make_durable.ensures.settled hash (k.held.transactions ++ c.args.tx ∷ []) c.requires.kept.batches rests follows in
-    let count = c.in_ok-header.batch.ok.0 in
-    let popped : c.unwrap-tx.result ≡ r =
-    only c.in_ok-header.batch.items _ r c.unwrap-tx.result c.pop.result batch.1 count (c.pop.ensures.value r (omega (arith, count, ap length batch.1))) c.unwrap-tx.ensures in
-    let held = ap (λ (x : KeptHistory g.row.D.Denot). x.held) c.self.view_is in
-    let tx_is : c.unwrap-tx.result.tx ≡ c.args.tx = ap (λ (x : Record). x.tx) popped ∙ batch.2.tx_is in
-    let grown : c.push.new.self.transactions ≡ k.held.transactions ++ c.args.tx ∷ [] =
-    c.in_ok-push.ensures.grown ∙ ap (λ (h : Held). h.transactions ++ c.unwrap-tx.result.tx ∷ []) held ∙ ap (λ (t : Transaction). k.held.transactions ++ t ∷ []) tx_is in
-    let ledger = taken hash k.held c.self.inside.ledger c.push.new.self c.args.tx c.unwrap-tx.result.tx c.in_ok-header.header c.unwrap-tx.result.alh r.alh held
-    c.requires.kept.ledger c.requires.room c.requires.limits c.requires.over c.in_ok-header.ensures.header tx_is (ap (λ (x : Record). x.alh) popped) batch.2.alh_is (c.in_ok-push.ensures.ledger hash) in
-    let after : KeptHistory g.row.D.Denot = record { journal = c.make_durable.new.journal; held = c.push.new.self; logs = c.self.inside.logs } in
-    let kept = next-kept told hash k c.args.tx can c.requires.kept.batches c.self.inside.journal same rs r is after settled c.in_ok-make_durable.ensures.going grown ledger
-    (ap (λ (x : KeptHistory g.row.D.Denot). x.logs) c.self.view_is) in
-    kept-images told hash after kept
+    let lists : record { transactions = c.self-inside.inside.0.1.0.book.transactions; headers = c.self-inside.inside.0.1.0.book.headers; alhs = c.self-inside.inside.0.1.0.book.alhs; tree = c.self-inside.inside.0.1.0.tree; frontier = c.self-inside.inside.0.1.0.frontier; root = c.self-inside.inside.0.1.0.root } ≡ k.held = ap (λ x. x.ledger) view ∙ ap (λ (x : KeptHistory g.row.D.Denot). x.held) c.self.view_is in
+    let record_is : c.in_ok-header.record.tx ≡ c.args.tx = next.tx_is in
+    let grown : c.push.new.self.transactions ≡ k.held.transactions ++ c.in_ok-header.record.tx ∷ [] =
+    c.push.ensures.grown ∙ ap (λ (l : List Transaction). l ++ c.in_ok-header.record.tx ∷ []) (c.reserve.ensures.same.0 ∙ ap (λ (h : Held). h.transactions) lists) in
+    let all : c.push.new.self.transactions ≡ k.held.transactions ++ c.args.tx ∷ [] = grown ∙ ap (λ (t : Transaction). k.held.transactions ++ t ∷ []) record_is in
+    let after : Held = record { transactions = c.push.new.self.transactions; headers = c.push.new.self.headers; alhs = c.push.new.self.alhs; tree = c.self-inside.inside.0.1.0.tree; frontier = c.self-inside.inside.0.1.0.frontier; root = c.self-inside.inside.0.1.0.root } in
+    let ledger = taken hash k.held after c.args.tx c.in_ok-header.record.tx c.in_ok-header.header c.in_ok-header.record.alh c.in_ok-header.record.alh
+    c.requires.kept.ledger c.requires.room c.requires.limits c.requires.over c.in_ok-header.ensures.header record_is refl next.alh_is grown
+    (c.push.ensures.headers ∙ ap (λ (l : List Header). l ++ c.in_ok-header.header ∷ []) (c.reserve.ensures.same.1 ∙ ap (λ (h : Held). h.headers) lists))
+    (c.push.ensures.alhs ∙ ap (λ (l : List (List ℕ)). l ++ c.in_ok-header.record.alh ∷ []) (c.reserve.ensures.same.2 ∙ ap (λ (h : Held). h.alhs) lists))
+    (ap (λ (h : Held). h.tree) lists) (ap (λ (h : Held). h.frontier) lists) (ap (λ (h : Held). h.root) lists) in
+    let behind : KeptHistory g.row.D.Denot = record { journal = c.make_durable.new.journal; held = after; logs = c.self-inside.inside.0.1.1.0 } in
+    let logs_are : c.self-inside.inside.0.1.1.0 ≡ k.logs = ap (λ x. x.logs) view ∙ ap (λ (x : KeptHistory g.row.D.Denot). x.logs) c.self.view_is in
+    let kept = next-kept told hash k c.args.tx can c.requires.kept.batches c.self-inside.inside.0.0 same c.from_ref.result.now c.in_ok-header.record c.from_ref.ensures.value behind settled c.in_ok-make_durable.ensures.going all ledger
+    logs_are in
+    kept-images told hash behind kept
 
 pub returns-clause-put : goal.returns-clause-put
 returns-clause-put g c batches resting =
@@ -137,58 +159,42 @@ returns-clause-put g c batches resting =
     let hash = g.H.Hash32.digest c.args.hash.now in
     let k = c.args.self.now in
     let can : CanCommit told hash k c.args.tx = record { kept = c.requires.kept; room = c.requires.room; limits = c.requires.limits; over = c.requires.over } in
-    let same = ap (λ (x : KeptHistory g.row.D.Denot). x.journal) c.self.view_is in
-    let batch = c.in_ok-header.ensures.batch in
-    let r : Record = batch.0 in
-    let rs : List Record = c.as_slice.result.now in
-    let is : rs ≡ r ∷ [] = c.as_slice.ensures.value ∙ batch.1 in
-    let rests = next-rests told hash k c.args.tx can batches c.self.inside.journal same resting in
-    let follows = next-follows told hash k c.args.tx can batches c.self.inside.journal same resting rs r is batch.2 in
+    let view = c.self-inside.view_is in
+    let same : c.self-inside.inside.0.0 ≡ c.args.self.now.journal = ap (λ x. x.journal) view ∙ ap (λ (x : KeptHistory g.row.D.Denot). x.journal) c.self.view_is in
+    let next = c.in_ok-header.ensures.behind in
+    let rests = next-rests told hash k c.args.tx can batches c.self-inside.inside.0.0 same resting in
+    let follows = next-follows told hash k c.args.tx can batches c.self-inside.inside.0.0 same resting c.from_ref.result.now c.in_ok-header.record c.from_ref.ensures.value next in
     let settled = c.in_ok-make_durable.ensures.settled hash (k.held.transactions ++ c.args.tx ∷ []) batches rests follows in
-    let count = c.in_ok-header.batch.ok.0 in
-    let popped : c.unwrap-tx.result ≡ r =
-    only c.in_ok-header.batch.items _ r c.unwrap-tx.result c.pop.result batch.1 count (c.pop.ensures.value r (omega (arith, count, ap length batch.1))) c.unwrap-tx.ensures in
-    let held = ap (λ (x : KeptHistory g.row.D.Denot). x.held) c.self.view_is in
-    let tx_is : c.unwrap-tx.result.tx ≡ c.args.tx = ap (λ (x : Record). x.tx) popped ∙ batch.2.tx_is in
-    let grown : c.push.new.self.transactions ≡ k.held.transactions ++ c.args.tx ∷ [] =
-    c.in_ok-push.ensures.grown ∙ ap (λ (h : Held). h.transactions ++ c.unwrap-tx.result.tx ∷ []) held ∙ ap (λ (t : Transaction). k.held.transactions ++ t ∷ []) tx_is in
-    next-committed told hash k c.args.tx can batches resting rs r is batch.2 c.push.new.self.transactions grown c.make_durable.new.journal settled.0
+    let lists : record { transactions = c.self-inside.inside.0.1.0.book.transactions; headers = c.self-inside.inside.0.1.0.book.headers; alhs = c.self-inside.inside.0.1.0.book.alhs; tree = c.self-inside.inside.0.1.0.tree; frontier = c.self-inside.inside.0.1.0.frontier; root = c.self-inside.inside.0.1.0.root } ≡ k.held = ap (λ x. x.ledger) view ∙ ap (λ (x : KeptHistory g.row.D.Denot). x.held) c.self.view_is in
+    let record_is : c.in_ok-header.record.tx ≡ c.args.tx = next.tx_is in
+    let grown : c.push.new.self.transactions ≡ k.held.transactions ++ c.in_ok-header.record.tx ∷ [] =
+    c.push.ensures.grown ∙ ap (λ (l : List Transaction). l ++ c.in_ok-header.record.tx ∷ []) (c.reserve.ensures.same.0 ∙ ap (λ (h : Held). h.transactions) lists) in
+    let all : c.push.new.self.transactions ≡ k.held.transactions ++ c.args.tx ∷ [] = grown ∙ ap (λ (t : Transaction). k.held.transactions ++ t ∷ []) record_is in
+    next-committed told hash k c.args.tx can batches resting c.from_ref.result.now c.in_ok-header.record c.from_ref.ensures.value next c.push.new.self.transactions all c.make_durable.new.journal settled.0
 
 pub returns-in_err-header-clause-calls : goal.returns-in_err-header-clause-calls
 returns-in_err-header-clause-calls g c = inl (err-is c.from_residual.result Memory c.from_residual.ensures.1, refl)
 
+pub returns-in_err-reserve-clause-calls : goal.returns-in_err-reserve-clause-calls
+returns-in_err-reserve-clause-calls g c =
+    let view = c.self-inside.view_is in
+    let same : c.self-inside.inside.0.0 ≡ c.args.self.now.journal = ap (λ x. x.journal) view ∙ ap (λ (x : KeptHistory g.row.D.Denot). x.journal) c.self.view_is in
+    inl (err-is c.from_residual-in_err-reserve.result Memory c.from_residual-in_err-reserve.ensures.1, same)
+
 pub returns-in_err-make_durable-clause-calls : goal.returns-in_err-make_durable-clause-calls
 returns-in_err-make_durable-clause-calls g c =
     let told = g.D.Disk.told in
-    let same = ap (λ (x : KeptHistory g.row.D.Denot). x.journal) c.self.view_is in
-    let batch = c.in_ok-header.ensures.batch in
-    let r : Record = batch.0 in
-    let rs : List Record = c.as_slice.result.now in
-    let is : rs ≡ r ∷ [] = c.as_slice.ensures.value ∙ batch.1 in
+    let view = c.self-inside.view_is in
+    let same : c.self-inside.inside.0.0 ≡ c.args.self.now.journal = ap (λ x. x.journal) view ∙ ap (λ (x : KeptHistory g.row.D.Denot). x.journal) c.self.view_is in
     let result = c.from_residual-in_err-make_durable.result in
-    let made = same-error told rs c.self.inside.journal c.make_durable.new.journal c.in_err-make_durable.field-0.0 result
+    let made = same-error told c.from_ref.result.now c.self-inside.inside.0.0 c.make_durable.new.journal c.in_err-make_durable.field-0.0 result
     c.from_residual-in_err-make_durable.ensures.1 c.in_err-make_durable.ensures.calls in
-    committed-makes told (g.H.Hash32.digest c.args.hash.now) c.args.tx c.args.self.now c.make_durable.new.journal c.self.inside.journal same rs r is batch.2 result made
-
-pub returns-in_err-push-clause-calls : goal.returns-in_err-push-clause-calls
-returns-in_err-push-clause-calls g c =
-    let told = g.D.Disk.told in
-    let same = ap (λ (x : KeptHistory g.row.D.Denot). x.journal) c.self.view_is in
-    let batch = c.in_ok-header.ensures.batch in
-    let r : Record = batch.0 in
-    let rs : List Record = c.as_slice.result.now in
-    let is : rs ≡ r ∷ [] = c.as_slice.ensures.value ∙ batch.1 in
-    let result = c.from_residual-in_err-push.result in
-    let made = unplaced-makes told rs c.self.inside.journal c.make_durable.new.journal _ result c.from_residual-in_err-push.ensures.1 c.in_ok-make_durable.ensures.calls in
-    committed-makes told (g.H.Hash32.digest c.args.hash.now) c.args.tx c.args.self.now c.make_durable.new.journal c.self.inside.journal same rs r is batch.2 result made
+    committed-makes told (g.H.Hash32.digest c.args.hash.now) c.args.tx c.args.self.now c.make_durable.new.journal c.self-inside.inside.0.0 same c.from_ref.result.now c.in_ok-header.record c.from_ref.ensures.value c.in_ok-header.ensures.behind result made
 
 pub returns-clause-calls : goal.returns-clause-calls
 returns-clause-calls g c =
     let told = g.D.Disk.told in
-    let same = ap (λ (x : KeptHistory g.row.D.Denot). x.journal) c.self.view_is in
-    let batch = c.in_ok-header.ensures.batch in
-    let r : Record = batch.0 in
-    let rs : List Record = c.as_slice.result.now in
-    let is : rs ≡ r ∷ [] = c.as_slice.ensures.value ∙ batch.1 in
-    committed-makes told (g.H.Hash32.digest c.args.hash.now) c.args.tx c.args.self.now c.make_durable.new.journal c.self.inside.journal same rs r is batch.2 _
+    let view = c.self-inside.view_is in
+    let same : c.self-inside.inside.0.0 ≡ c.args.self.now.journal = ap (λ x. x.journal) view ∙ ap (λ (x : KeptHistory g.row.D.Denot). x.journal) c.self.view_is in
+    committed-makes told (g.H.Hash32.digest c.args.hash.now) c.args.tx c.args.self.now c.make_durable.new.journal c.self-inside.inside.0.0 same c.from_ref.result.now c.in_ok-header.record c.from_ref.ensures.value c.in_ok-header.ensures.behind _
     c.in_ok-make_durable.ensures.calls

@@ -1,7 +1,6 @@
 use Rattle.std.proofs.Common.{◌≡◌, ◌∙◌, ℕ, List, length, take, ap, subst, sym, arith}
 use Rattle.std.proofs.Math.Seq.{take-length}
 use Rattle.im_digest.specs.Digests.{Hash}
-use Rattle.im_book.specs.Booked.{Booked}
 use Rattle.im_mtree.specs.Kept.{IsFrontier}
 use Rattle.im_ledger.specs.Ledgers.{Held}
 use Rattle.im_ledger.proofs.ReadLemmas.{ledger-found}
@@ -42,9 +41,8 @@ returns-clause-ledger g c =
     let M : List (List ℕ) → Type 0 = λ l. IsFrontier hash l c.extend_to.new.frontier in
     let kept : IsFrontier hash alhs c.extend_to.new.frontier =
     subst M (ap (λ (l : List (List ℕ)). take c.len-2.result l) second ∙ subst N (sym all) (take-length alhs)) c.extend_to.ensures in
-    let listed : c.of.result ≡ record { transactions = c.in_ok-transactions.transactions.items; headers = found.headers.items; alhs = alhs } = c.of.ensures in
     ledger-found hash found held c.requires.found
-    (ap (λ (b : Booked). b.transactions) listed ∙ c.in_ok-transactions.ensures)
-    (ap (λ (b : Booked). b.headers) listed)
-    (ap (λ (b : Booked). b.alhs) listed)
+    (c.of.ensures.0 ∙ c.in_ok-transactions.ensures)
+    c.of.ensures.1
+    c.of.ensures.2
     tree kept (c.root_of-root.ensures alhs kept)

@@ -1,5 +1,5 @@
 use Rattle.im_ledger.proofs.PlaceLemmas.{ends-behind, room-behind}
-use Rattle.im_ledger.proofs.records.record_behind.Goals as goal
+use Rattle.im_ledger.proofs.records.references_behind.Goals as goal
 
 pub append_values-requires-clause-room : goal.append_values-requires-clause-room
 append_values-requires-clause-room g c =
@@ -8,4 +8,4 @@ append_values-requires-clause-room g c =
 
 pub returns-clause-put : goal.returns-clause-put
 returns-clause-put g c history batches first =
-    c.in_ok-refs.ensures.appended _ (ends-behind (g.H.Hash32.digest c.args.hash.now) history batches c.args.durable c.args.ends.now first)
+    c.append_values.ensures.appended _ (ends-behind (g.H.Hash32.digest c.args.hash.now) history batches c.args.durable c.args.ends.now first)
