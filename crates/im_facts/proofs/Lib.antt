@@ -11,3 +11,5 @@ pub mod FoldLemmas
 pub mod ForkLemmas
 pub mod HoldLemmas
 pub mod ShowLemmas
+pub mod PassLemmas
+pub mod VerdictSome

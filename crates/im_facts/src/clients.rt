@@ -1,15 +1,27 @@
 ghost use Rattle.std.specs.Prelude.{◌≡◌, ◌⊎◌, ◌<◌, ◌∷◌, ◌++◌, [], IsTrue, IsFalse, IfOk, OnOk, OnErr, AllPairs, option_map};
 ghost use Rattle.im_digest.specs.Digests.{Hash};
 ghost use Rattle.im_model.specs.declared.headers.Header.{Header as TheHeader};
-ghost use Rattle.im_facts.specs.Accepted.{IsClient};
+ghost use Rattle.im_pairs.specs.Pairs.{IsPair};
+ghost use Rattle.im_hashed.specs.Messages.{strings_of};
+ghost use Rattle.im_wire.specs.Fits.{IsMessage};
+ghost use Rattle.im_facts.specs.Accepted.{IsClient, Passes};
+ghost use Rattle.im_facts.specs.Folds.{IsTakenAs, IsVerdict, known_behind, known_by};
 ghost use Rattle.im_facts.specs.Facts.{nothing, with_message, headers_shown, Agrees, Differs, IsBefore, IsRising};
-ghost use Rattle.im_facts.specs.Verdicts.{shown_of};
+ghost use Rattle.im_facts.specs.Verdicts.{Verdict, shown_of, taken_of};
 
 use crate::agree::{entries_agree, headers_agree};
 use crate::copies::{Copies, copies_of, follow, make_room, put_entries, put_headers, put_message};
 use crate::facts::EntryFact;
-use crate::taken::Shown;
+use crate::taken::{Shown, Taken};
+use im_client::checks::check_message;
+use im_client::faults::LineFault;
+use im_digest::Hash32;
+use im_hashed::messages::hashed;
+use im_hashed::pairs::{Pair, pair_of};
 use im_model::headers::Header;
+use im_wire::errors::WireError;
+use im_wire::fits::message_fits;
+use im_wire::lines::read_line;
 use im_wire::messages::Message;
 use std::alloc::{AllocError, Global};
 use std::marker::Model;
@@ -85,6 +97,64 @@ impl FactClient {
         self.messages.as_slice()
     }
 
+    /// Takes a message. Its checks cost what `check_message` says, and each fact that it shows is looked up by halving the
+    /// kept ones. Each fact of an accepted message is copied, and a new one is put at its place, one step for each kept fact
+    /// behind that place: none for the target of an advance. The message itself is moved in. At a fork all strings hashed for
+    /// the accepted messages and this one are made again, held at once, and hashed.
+    ///
+    /// The hash function is that of the calls before, as far as they accepted anything. Its only error is want of memory;
+    /// then nothing changed.
+    pub fn take<H: Hash32>(
+        &mut self,
+        alloc: Global,
+        hash: &H,
+        message: Message,
+    ) -> Result<Taken, AllocError>
+        requires { IsClient (H.digest hash.now) self.old }
+        ensures taken { IfOk result (IsTakenAs (H.digest hash.now) self.old message) }
+        ensures keeps { IfOk result (λ taken. self.new ≡ known_behind self.old message taken) }
+        ensures left { OnErr result (self.new ≡ self.old) }
+        ensures client { IsClient (H.digest hash.now) self.new }
+    {
+        message_fits(&message);
+        if let Err(fault) = check_message(hash, self.state.as_ref(), &message) {
+            drop(message);
+            return Ok(Taken::Refused { fault });
+        }
+        if self.agrees(&message) {
+            let shown = self.keep(alloc, message)?;
+            return Ok(Taken::Accepted { shown });
+        }
+        let pair = self.pair_with(alloc, hash, &message);
+        drop(message);
+        let Pair { x, y } = pair?;
+        Ok(Taken::Forked { x, y })
+    }
+
+    /// Takes a line of a stream, without its LF: reads it, and takes the message that it says, which costs what `take` says.
+    /// `None` for a line that is passed over. A line that says no message is refused. Its only error is want of memory;
+    /// then nothing changed.
+    pub fn take_line<H: Hash32>(
+        &mut self,
+        alloc: Global,
+        hash: &H,
+        line: &[u8],
+    ) -> Result<Option<Taken>, AllocError>
+        requires { IsClient (H.digest hash.now) self.old }
+        ensures told { IfOk result (λ taken. (verdict : Verdict) × IsVerdict (H.digest hash.now) self.old line.now verdict × (taken ≡ taken_of verdict) × (self.new ≡ known_by self.old verdict)) }
+        ensures left { OnErr result (self.new ≡ self.old) }
+        ensures client { IsClient (H.digest hash.now) self.new }
+    {
+        match read_line(alloc, line) {
+            Ok(None) => Ok(None),
+            Ok(Some(message)) => Ok(Some(self.take(alloc, hash, message)?)),
+            Err(WireError::Syntax) => Ok(Some(Taken::Refused {
+                fault: LineFault::Syntax,
+            })),
+            Err(WireError::Memory) => Err(AllocError),
+        }
+    }
+
     // Whether no fact of a message is unlike a kept one. It looks up each fact that the message shows.
     fn agrees(&self, message: &Message) -> bool
         requires { IsRising self.now }
@@ -126,6 +196,23 @@ impl FactClient {
                 Err(error)
             }
         }
+    }
+
+    // Two unequal strings of one digest among those hashed for the accepted messages and for this one.
+    fn pair_with<H: Hash32>(
+        &self,
+        alloc: Global,
+        hash: &H,
+        message: &Message,
+    ) -> Result<Pair, AllocError>
+        requires client { IsClient (H.digest hash.now) self.now }
+        requires fits { IsMessage message.now }
+        requires passes { Passes (H.digest hash.now) self.now message.now }
+        requires differs { Differs self.now message.now }
+        ensures { IfOk result (λ pair. IsPair (H.digest hash.now) pair.x pair.y (strings_of (H.digest hash.now) (self.now.messages ++ message.now ∷ []))) }
+    {
+        let strings = hashed(alloc, hash, self.messages.as_slice(), message)?;
+        pair_of(alloc, hash, strings.as_slice())
     }
 }
 

@@ -4,6 +4,7 @@ ghost use Rattle.std.specs.Prelude.{◌≡◌, ◌⊎◌, ◌++◌, ℕ, List, C
 ghost use Rattle.im_digest.specs.Digests.{Hash};
 ghost use Rattle.im_model.specs.declared.entries.Entry.{Entry};
 ghost use Rattle.im_model.specs.declared.headers.Header.{Header};
+ghost use Rattle.im_pairs.specs.Pairs.{GivesDigests};
 ghost use Rattle.im_wire.specs.declared.messages.Message.{Message};
 ghost use Rattle.im_facts.specs.Accepted.{IsClient};
 ghost use Rattle.im_facts.specs.Facts.{Known, Agrees, Differs, IsRising, with_message, header_at, entry_at, headers_shown, entries_shown};
@@ -16,8 +17,7 @@ pub fn kept_facts_rise()
     ensures { (hash : Hash) (known : Known) → IsClient hash known → IsRising known }
 {}
 
-/// The state is the kept header of its number, whatever the hash function: so a line that shows two unequal headers of
-/// one number shows one that is unlike the kept one, and which of several facts of one place is kept never matters.
+/// The state is the kept header of its number, whatever the hash function.
 pub fn the_state_is_kept()
     ensures { (hash : Hash) (known : Known) (state : Header) → IsClient hash known → known.state ≡ Some state → header_at known.headers state.id ≡ Some state }
 {}
@@ -71,4 +71,15 @@ pub fn one_list_of_verdicts_but_for_pairs()
 /// The messages that are known behind lines are those before, and then the accepted ones.
 pub fn accepted_messages_are_known()
     ensures { (known : Known) (verdicts : List Verdict) → (known_by_all known verdicts).messages ≡ known.messages ++ messages_of verdicts }
+{}
+
+/// Of each line something becomes, by what a client knows: for a message that forks comes with a pair.
+pub fn each_line_has_a_verdict()
+    ensures { (hash : Hash) (known : Known) (line : List ℕ) → GivesDigests hash → IsClient hash known → (verdict : Verdict) × IsVerdict hash known line verdict }
+{}
+
+/// Of lines, one after the other, too; and behind them it is still what a client knows.
+pub fn lines_have_verdicts()
+    ensures verdicts { (hash : Hash) (known : Known) (lines : List (List ℕ)) → GivesDigests hash → IsClient hash known → (verdicts : List Verdict) × AreVerdicts hash known lines verdicts }
+    ensures client { (hash : Hash) (known : Known) (lines : List (List ℕ)) (verdicts : List Verdict) → IsClient hash known → AreVerdicts hash known lines verdicts → IsClient hash (known_by_all known verdicts) }
 {}
