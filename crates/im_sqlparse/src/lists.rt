@@ -15,7 +15,7 @@ pub trait Listed: Sized + Drop {
     /// The rule by which one is read. The parameter says whether `_rev` may stand where a column may.
     ghost rule: { Bool → Reader Self };
 
-    /// ReadsTokens one.
+    /// Reads one.
     fn read(alloc: Global, tokens: &mut Tokens<'_>, rev: bool) -> Result<Self, ParseError>
         ensures { ReadsTokens (rule rev tokens.old) result tokens.new };
 }

@@ -102,7 +102,7 @@ impl ColumnType {
     ///
     /// # Errors
     ///
-    /// `ValueKind` where the value is of another kind; else `Long` where it has more octets than the limit.
+    /// `Kind` where the value is of another kind; else `Long` where it has more octets than the limit.
     pub fn judge(self, value: &Value) -> Result<(), Misfit>
         ensures fits { IsOk result ↔ FitsColumn self value.now }
         ensures kind { (result ≡ Err Misfit.Kind) ↔ ¬ IsOfKind (kind_of self) value.now }
