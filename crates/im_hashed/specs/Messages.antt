@@ -1,6 +1,7 @@
 -- The strings that are hashed in checking messages which pass every check: those of the headers that they show, of the
 -- paths, lists and chains of their proofs, and of an item's entry, its value and its path. In checking a message that
--- fails a check fewer are hashed: its later checks aren't made.
+-- fails a check fewer are hashed: its later checks aren't made. Of a first state the checks hash nothing: its header's
+-- strings are counted all the same.
 use Rattle.std.specs.Prelude.{◌≡◌, ◌++◌, ℕ, List, [], reverse, Option, Some, None, Ok, flat_map}
 use Rattle.im_digest.specs.Digests.{Hash}
 use Rattle.im_model.specs.Entries.{entry_digest, entry_strings}
@@ -49,7 +50,7 @@ AnchorHolds hash None = Unit {0}
 AnchorHolds hash (Some anchor) = first_fail (dual_checks hash anchor) ≡ Ok tt
 
 -- the checks of a message's proofs hold, whatever state it is shown under: then `message_strings` are just the strings
--- that are hashed for it
+-- that are hashed for it, and those of a first state's header
 abbrev pub ProofsHold : Hash → Message → Type 0
 ProofsHold hash (State header) = Unit {0}
 ProofsHold hash (Dual dual) = first_fail (dual_checks hash dual) ≡ Ok tt

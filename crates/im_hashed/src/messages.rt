@@ -11,9 +11,9 @@ use im_proof::proofs::DualProof;
 use im_wire::messages::Message;
 use std::alloc::{AllocError, Global};
 
-/// The strings that are hashed in checking kept messages and one more, all of which pass the checks of their proofs: each at
-/// least once, and no others. Each is hashed once more where a later one is made of its digest. Its only error is want of
-/// memory.
+/// The strings that are hashed in checking kept messages and one more, all of which pass the checks of their proofs, and those
+/// of the header of a first state, whose checks hash nothing: each at least once, and no others. Each is hashed once more where
+/// a later one is made of its digest. Its only error is want of memory.
 pub fn hashed<H: Hash32>(
     alloc: Global,
     hash: &H,
