@@ -13,7 +13,7 @@ use Rattle.im_model.specs.declared.transactions.Transaction.{Transaction}
 use Rattle.im_text.specs.Fields.{is_session_octet, IsSession}
 use Rattle.im_script.specs.Script.{IsScript, Say}
 use Rattle.im_script.specs.declared.commands.Line.{Line}
-use Rattle.im_report.specs.Report.{Answered, Report, reply_line, written}
+use Rattle.im_report.specs.Report.{Answered, Report, reply_line, answer_line}
 use Rattle.im_accept.specs.Taken.{line_text, HaveSessions}
 use Rattle.im_accept.proofs.DigitLemmas.{decimal-lacks}
 use Rattle.im_accept.proofs.LfLemmas.{digits-lack}
@@ -31,15 +31,15 @@ line-lacks a name h =
     (Lacks-append 10 session (codes " ") (Lacks-word 16 is_session_octet 10 session refl name) refl) (digits-lack a.number)) refl) h
 
 -- a line as it is written
-written-is : (a : Answered) (more : List ℕ) → written a ++ more ≡ line_text a ++ 10 ∷ more
+written-is : (a : Answered) (more : List ℕ) → answer_line a ++ more ≡ line_text a ++ 10 ∷ more
 unfolding reply_line
 written-is a more = append_assoc (line_text a) (10 ∷ []) more
 
 -- written lines are cut into their texts
-pub texts-of : (answers : List Answered) → All (λ a. Lacks 10 (line_text a)) answers → AreTexts (flat_map written answers) (map line_text answers)
+pub texts-of : (answers : List Answered) → All (λ a. Lacks 10 (line_text a)) answers → AreTexts (flat_map answer_line answers) (map line_text answers)
 texts-of [] each = refl
 texts-of (a ∷ answers) each =
-    (each 0 a (omega arith), inr (flat_map written answers, written-is a (flat_map written answers), texts-of answers (λ k d within. each (suc k) d (omega arith))))
+    (each 0 a (omega arith), inr (flat_map answer_line answers, written-is a (flat_map answer_line answers), texts-of answers (λ k d within. each (suc k) d (omega arith))))
 
 -- so is a report
 pub report-texts : (hash : Hash) (h0 h : List Transaction) (lines : List Line) (octets : List ℕ) (report : Report hash h0 h lines octets)

@@ -17,7 +17,7 @@ use Rattle.im_text.specs.Fields.{is_bare, is_bare_octet}
 use Rattle.im_wire.specs.Headers.{header_text, header_front, header_middle, header_back}
 use Rattle.im_wire.specs.Texts.{text, message_data}
 use Rattle.im_wire.specs.declared.messages.Message.{Message}
-use Rattle.im_report.specs.Reads.{octets_text}
+use Rattle.im_report.specs.Reads.{bare_or_hex}
 use Rattle.im_accept.proofs.DigitLemmas.{decimal-lacks}
 
 letter-other : (x : ℕ) → not (escape_letter x == 10) ≡ true
@@ -111,8 +111,8 @@ unfolding is_bare
 bare-lacks octets h = Lacks-of is_bare_octet 10 octets refl (and_parts _ _ (and_parts _ _ h).0).1
 
 -- octets as they are printed
-pub octets-lack : (octets : List ℕ) → Lacks 10 (octets_text octets)
-unfolding octets_text
+pub octets-lack : (octets : List ℕ) → Lacks 10 (bare_or_hex octets)
+unfolding bare_or_hex
 octets-lack octets =
     cond_both (is_bare octets) octets (codes "0x" ++ encode_lower octets) (λ t. Lacks 10 t) (bare-lacks octets) (λ e. hex-lacks octets)
 

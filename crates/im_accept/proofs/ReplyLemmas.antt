@@ -26,7 +26,7 @@ use Rattle.im_wire.specs.Texts.{text}
 use Rattle.im_wire.specs.declared.messages.Message.TheVariants as says
 use Rattle.im_script.specs.declared.commands.Command.{Command}
 use Rattle.im_script.specs.declared.commands.Command.TheVariants.{Set, Get, Scan, History, Header, State, Prove, Advance, Item, Link}
-use Rattle.im_report.specs.Reads.{history_reply, octets_text, place_reply, scan_reply, scanned_text, value_reply, version_text, IsGetAnswer, IsReadAt, IsScanAnswer}
+use Rattle.im_report.specs.Reads.{history_reply, bare_or_hex, place_reply, scan_reply, scanned_text, value_reply, version_text, IsGetAnswer, IsReadAt, IsScanAnswer}
 use Rattle.im_report.specs.Replies.{advance_reply, anchor_between, between_reply, beyond_reply, dual_between, header_reply, item_reply, item_shown, no_entry_reply, order_reply, prove_reply, refused_reply, reserved_reply, shown_header, state_reply, tx_reply}
 use Rattle.im_report.specs.Report.{IsAnswer, IsSetAnswer}
 use Rattle.im_accept.proofs.LfLemmas.{digits-lack, each-lacks, header-lacks, hex-lacks, octets-lack, text-lacks}
@@ -66,7 +66,7 @@ value-lacks : (version : Option Version) → Lacks 10 (value_reply version)
 unfolding value_reply
 value-lacks None = refl
 value-lacks (Some version) =
-    elim (version.deleted) as (λ b. Lacks 10 (if b then codes "absent" else codes "value " ++ octets_text version.value ++ codes " tx " ++ decimal version.tx)) [
+    elim (version.deleted) as (λ b. Lacks 10 (if b then codes "absent" else codes "value " ++ bare_or_hex version.value ++ codes " tx " ++ decimal version.tx)) [
       | true ↦ refl
       | false ↦ simp (list_all-append, octets-lack, digits-lack)
     ]
@@ -82,7 +82,7 @@ scan-lacks shown = Lacks-append 10 (decimal (length shown)) (flat_map scanned_te
 version-lacks : (version : Version) → Lacks 10 (version_text version)
 unfolding version_text
 version-lacks version =
-    elim (version.deleted) as (λ b. Lacks 10 (codes " " ++ (if b then codes "!" else octets_text version.value) ++ codes "@" ++ decimal version.tx)) [
+    elim (version.deleted) as (λ b. Lacks 10 (codes " " ++ (if b then codes "!" else bare_or_hex version.value) ++ codes "@" ++ decimal version.tx)) [
       | true ↦ digits-lack version.tx
       | false ↦ simp (list_all-append, octets-lack, digits-lack)
     ]

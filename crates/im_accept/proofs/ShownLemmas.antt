@@ -23,7 +23,7 @@ use Rattle.im_wire.specs.Lines.{is_open}
 use Rattle.im_wire.specs.Texts.{text}
 use Rattle.im_wire.specs.declared.messages.Message.{Message}
 use Rattle.im_wire.specs.declared.messages.Message.TheVariants as says
-use Rattle.im_report.specs.Reads.{history_reply, octets_text, place_reply, scan_reply, value_reply, IsGetAnswer, IsHistoryAnswer, IsReadAt, IsScanAnswer}
+use Rattle.im_report.specs.Reads.{history_reply, bare_or_hex, place_reply, scan_reply, value_reply, IsGetAnswer, IsHistoryAnswer, IsReadAt, IsScanAnswer}
 use Rattle.im_report.specs.Replies.{advance_reply, anchor_between, between_reply, beyond_reply, dual_between, header_reply, item_reply, item_shown, no_entry, no_entry_reply, order_reply, prove_reply, refused_reply, reserved_reply, shown_header, state_reply, tx_reply}
 use Rattle.im_report.specs.Report.{IsSetAnswer}
 use Rattle.im_accept.specs.Messages.{item_between}
@@ -67,7 +67,7 @@ value-closed : (version : Option Version) → is_open (value_reply version) ≡ 
 unfolding value_reply
 value-closed None = refl
 value-closed (Some version) =
-    elim (version.deleted) as (λ b. is_open (if b then codes "absent" else codes "value " ++ octets_text version.value ++ codes " tx " ++ decimal version.tx) ≡ false) [ true ↦ refl | false ↦ refl ]
+    elim (version.deleted) as (λ b. is_open (if b then codes "absent" else codes "value " ++ bare_or_hex version.value ++ codes " tx " ++ decimal version.tx) ≡ false) [ true ↦ refl | false ↦ refl ]
 
 scan-closed : (shown : List Version) → is_open (scan_reply shown) ≡ false
 unfolding scan_reply

@@ -24,7 +24,7 @@ use Rattle.im_report.specs.Report.{Answered, IsAnswer, Report}
 use Rattle.im_client.specs.Folds.{state_with}
 use Rattle.im_client.specs.LineChecks.{line_checks}
 use Rattle.im_accept.specs.Messages.{item_between, IsReadBack}
-use Rattle.im_accept.specs.Taken.{kept_number, next_number, line_text, AreReadBack, AreTaken, HaveSessions, IsFor, IsTaken}
+use Rattle.im_accept.specs.Taken.{kept_number, next_number, line_text, AreReadBack, AreAcceptedAnswers, HaveSessions, IsFor, IsAcceptedAnswer}
 use Rattle.im_accept.proofs.DigitLemmas.{decimal-word}
 use Rattle.im_accept.proofs.PassLemmas.{advance-passes, between-target, dual-passes, first-state-passes, item-passes, same-state-passes}
 use Rattle.im_accept.proofs.ShownLemmas.{advance-shown, get-closed, header-closed, item-shown, prove-shown, scanned-closed, set-closed, state-shown, versions-closed}
@@ -68,7 +68,7 @@ other-taken : (hash : Hash) (h : List Transaction) (a : Answered) (k : ℕ) (m :
     → (a.line.command ≡ State → ⊥) → kept_number a.line.command a.number ≡ Some k
     → 1 ≤ k → k ≤ next_number a.line.command k → next_number a.line.command k ≤ a.number
     → first_fail (line_checks hash (Some (header_of hash h k)) m) ≡ Ok tt
-    → state_with (Some (header_of hash h k)) m ≡ Some (header_of hash h (next_number a.line.command k)) → IsTaken hash h a
+    → state_with (Some (header_of hash h k)) m ≡ Some (header_of hash h (next_number a.line.command k)) → IsAcceptedAnswer hash h a
 other-taken hash h a k m replies is_now has told other e some rises within passes keeps = record {
   kept = k;
   is_kept = e;
@@ -102,7 +102,7 @@ answered session command n reply = record { line = record { session = session; c
 -- an item under state s
 item-taken : (hash : Hash) (h : List Transaction) (session : List ℕ) (c : Command) (n : ℕ) (reply : List ℕ) (t i s : ℕ) → IsHistory h → n ≤ length h
     → IsReply (line_text (answered session c n reply)) reply → (c ≡ State → ⊥) → kept_number c n ≡ Some s → next_number c s ≡ s
-    → reply ≡ item_reply hash (take n h) t i s → is_open reply ≡ true → HasMessage reply (item_between hash (take n h) t i s) → IsTaken hash h (answered session c n reply)
+    → reply ≡ item_reply hash (take n h) t i s → is_open reply ≡ true → HasMessage reply (item_between hash (take n h) t i s) → IsAcceptedAnswer hash h (answered session c n reply)
 item-taken hash h session c n reply t i s history within replies other kept next answer is_now has =
     let hs : List Transaction = take n h in
     let size : length hs ≡ n = length-take-le n h within in
@@ -118,7 +118,7 @@ item-taken hash h session c n reply t i s history within replies other kept next
 -- each line whose reply is open, by its command
 taken-by : (hash : Hash) (h : List Transaction) (session : List ℕ) (c : Command) (n : ℕ) (reply : List ℕ) → IsHistory h → n ≤ length h
     → IsReply (line_text (answered session c n reply)) reply → IsAnswer hash h c n reply → IsReadBack hash (take n h) c reply → is_open reply ≡ true
-    → IsTaken hash h (answered session c n reply)
+    → IsAcceptedAnswer hash h (answered session c n reply)
 taken-by hash h session (Set pres drafts) n reply history within replies answer read is_now = absurd (both_ways (is_open reply) (set-closed h pres drafts n reply answer) is_now)
 taken-by hash h session (Get key at) n reply history within replies answer read is_now = absurd (both_ways (is_open reply) (get-closed (take n h) key at reply answer) is_now)
 taken-by hash h session (Scan prefix at) n reply history within replies answer read is_now = absurd (both_ways (is_open reply) (scanned-closed (take n h) prefix at reply answer) is_now)
@@ -186,7 +186,7 @@ sessions-are answers names k d within =
 
 -- each of a report
 pub report-taken : (hash : Hash) (h0 h : List Transaction) (lines : List Line) (octets : List ℕ) (report : Report hash h0 h lines octets)
-    → HaveSessions lines → AreReadBack hash h report.answers → AreTaken hash h report.answers
+    → HaveSessions lines → AreReadBack hash h report.answers → AreAcceptedAnswers hash h report.answers
 report-taken hash h0 h lines octets report names read =
     let named : All (λ a. IsSession a.line.session) report.answers = sessions-are report.answers (subst (λ (ls : List Line). HaveSessions ls) (sym report.lines_are) names) in
     λ k d within.

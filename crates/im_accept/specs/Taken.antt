@@ -57,7 +57,7 @@ line_text a = a.line.session ++ codes " " ++ decimal a.number ++ codes " " ++ a.
 
 -- The reply is the text of a message, for a kept header and a next one whose numbers were there at its number, and
 -- each client that it is for accepts the line as that message, and keeps the next header behind it.
-pub record IsTaken (hash : Hash) (history : List Transaction) (a : Answered) : Type 0 where
+pub record IsAcceptedAnswer (hash : Hash) (history : List Transaction) (a : Answered) : Type 0 where
   pub kept : ℕ
   pub is_kept : kept_number a.line.command a.number ≡ Some kept
   pub some : 1 ≤ kept
@@ -72,9 +72,9 @@ pub record IsTaken (hash : Hash) (history : List Transaction) (a : Answered) : T
 
 -- Each line whose reply begins as an object does, as the text of each message does, is taken; and any client
 -- passes over every other one.
-abbrev pub AreTaken : Hash → List Transaction → List Answered → Type 0
-AreTaken hash history answers =
-    All (λ a. (is_open a.reply ≡ true → IsTaken hash history a) × (is_open a.reply ≡ false → IsLine (line_text a) None)) answers
+abbrev pub AreAcceptedAnswers : Hash → List Transaction → List Answered → Type 0
+AreAcceptedAnswers hash history answers =
+    All (λ a. (is_open a.reply ≡ true → IsAcceptedAnswer hash history a) × (is_open a.reply ≡ false → IsLine (line_text a) None)) answers
 
 -- each reply is read as the message that was asked for at its number, where it is one
 abbrev pub AreReadBack : Hash → List Transaction → List Answered → Type 0

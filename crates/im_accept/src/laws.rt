@@ -10,7 +10,7 @@ ghost use Rattle.im_script.specs.declared.commands.Line.{Line};
 ghost use Rattle.im_wire.specs.Lines.{is_open};
 ghost use Rattle.im_wire.specs.Texts.{text};
 ghost use Rattle.im_wire.specs.declared.messages.Message.{Message};
-ghost use Rattle.im_accept.specs.Taken.{line_text, AreReadBack, AreTaken, HaveSessions};
+ghost use Rattle.im_accept.specs.Taken.{line_text, AreReadBack, AreAcceptedAnswers, HaveSessions};
 
 /// The lines of a script have sessions' names.
 pub fn lines_of_a_script_have_sessions()
@@ -27,7 +27,7 @@ pub fn each_message_is_open()
 /// the session which writes them: digests of other lengths than 32 octets would be read by none.
 pub fn a_client_takes_each_message()
     ensures { (hash : Hash) (h0 h : List Transaction) (lines : List Line) (octets : List ℕ) (report : Report hash h0 h lines octets)
-        → HaveSessions lines → AreReadBack hash h report.answers → AreTaken hash h report.answers }
+        → HaveSessions lines → AreReadBack hash h report.answers → AreAcceptedAnswers hash h report.answers }
 {}
 
 /// The octets of a report, cut at each LF, are its answered lines, and a report is of one list of them.

@@ -11,7 +11,7 @@ use Rattle.im_script.specs.Script.{StopsAfter}
 use Rattle.im_script.specs.declared.commands.Line.{Line}
 use Rattle.im_script.proofs.Unique.{read-or-stop, one-stop}
 use Rattle.im_app.specs.Runs.{IsGiven}
-use Rattle.im_app.specs.Fates.{HasFate, IsDamaged}
+use Rattle.im_app.specs.Fates.{HasRunFate, IsDamaged}
 use Rattle.im_app.specs.Statuses.{EndsReading, EndsRun, EndsWriting}
 use Rattle.im_app.specs.declared.status.Status.{Status}
 use Rattle.im_app.specs.declared.status.Status.TheVariants as the
@@ -101,7 +101,7 @@ long-end hash disk the.Long script e long = inl refl
 long-end hash disk (the.Kept k) script e long = absurd e.ends
 
 -- so what the source and the disk hold decides
-pub fate : (hash : Hash) (disk : Option Told) (status : Status) (script : List ℕ) → Ends hash disk status script → HasFate hash disk status script
+pub fate : (hash : Hash) (disk : Option Told) (status : Status) (script : List ℕ) → Ends hash disk status script → HasRunFate hash disk status script
 fate hash disk status script e = record {
   runs = runs-end hash disk status script e;
   stands = λ lines g t found told stands. stands-end hash disk status script e t found told stands (runs-end hash disk status script e lines g);
@@ -163,6 +163,6 @@ unread hash disk status script ends no_read bad long = record {
 
 pub unread-told : (hash : Hash) (disk : Option Told) (status : Status) (left : Option (List ℕ)) → EndsReading status → (status ≡ the.ReadFault → ⊥)
     → ((k : ℕ) → status ≡ the.Script k → IfSome left (λ script. IsBad script k)) → (status ≡ the.Long → IfSome left (λ script. 67108864 < length script))
-    → IfSome left (HasFate hash disk status)
+    → IfSome left (HasRunFate hash disk status)
 unread-told hash disk status None ends no_read bad long = tt
 unread-told hash disk status (Some script) ends no_read bad long = fate hash disk status script (unread hash disk status script ends no_read bad long)

@@ -11,10 +11,10 @@ use Rattle.im_format.specs.Standing.{Stands}
 use Rattle.im_model.specs.declared.transactions.Transaction.{Transaction}
 use Rattle.im_opening.specs.Cut.{WasOpened}
 use Rattle.im_session.specs.Served.{StandsFrom}
-use Rattle.im_app.specs.Runs.{BeginsWith, KeepsFound}
+use Rattle.im_app.specs.Runs.{ContinuesHistory, KeepsFound}
 
 -- an image that stands for the history itself
-begins-itself : (hash : Hash) (found : List Transaction) (image : Files) → Stands hash image found → BeginsWith hash found image
+begins-itself : (hash : Hash) (found : List Transaction) (image : Files) → Stands hash image found → ContinuesHistory hash found image
 begins-itself hash found image s = record { history = found; stands = s; begins = take-length found }
 
 -- a disk that wasn't opened
@@ -22,10 +22,10 @@ pub opened-keeps : (hash : Hash) (found : List Transaction) (t : Told) (now : Op
 opened-keeps hash found t now (inl same) = inl same
 opened-keeps hash found t now (inr (inl missed)) = inr (inl missed)
 opened-keeps hash found t now (inr (inr leaves)) =
-    inr (inr (leaves_weaker (λ image. Stands hash image found) (BeginsWith hash found) (begins-itself hash found) (Some (after Synced t)) now leaves))
+    inr (inr (leaves_weaker (λ image. Stands hash image found) (ContinuesHistory hash found) (begins-itself hash found) (Some (after Synced t)) now leaves))
 
 -- an image that stands for the first of all transactions, those that were found among them
-from-begins : (hash : Hash) (found all : List Transaction) → take (length found) all ≡ found → (image : Files) → StandsFrom hash (length found) all image → BeginsWith hash found image
+from-begins : (hash : Hash) (found all : List Transaction) → take (length found) all ≡ found → (image : Files) → StandsFrom hash (length found) all image → ContinuesHistory hash found image
 from-begins hash found all begins image s = record {
   history = take s.count all;
   stands = s.stands;
@@ -36,4 +36,4 @@ from-begins hash found all begins image s = record {
 pub served-keeps : (hash : Hash) (found all : List Transaction) (t : Told) (now : Option Told) → take (length found) all ≡ found
     → Leaves (StandsFrom hash (length found) all) (Some (after Synced t)) now → KeepsFound hash found t now
 served-keeps hash found all t now begins leaves =
-    inr (inr (leaves_weaker (StandsFrom hash (length found) all) (BeginsWith hash found) (from-begins hash found all begins) (Some (after Synced t)) now leaves))
+    inr (inr (leaves_weaker (StandsFrom hash (length found) all) (ContinuesHistory hash found) (from-begins hash found all begins) (Some (after Synced t)) now leaves))

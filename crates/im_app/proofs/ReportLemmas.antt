@@ -19,7 +19,7 @@ use Rattle.im_accept.proofs.TakenLemmas.{report-taken}
 use Rattle.im_ledger.specs.declared.errors.CommitError.{CommitError}
 use Rattle.im_opening.specs.Cut.{IsOpenedBy}
 use Rattle.im_session.specs.Served.{Serves, ServesAll, ServesFront, StandsFrom, StopsAt}
-use Rattle.im_app.specs.Runs.{IsGiven, IsReport, IsWhole}
+use Rattle.im_app.specs.Runs.{IsGiven, IsReport, IsWholeReport}
 
 -- the first lines of a script have sessions' names too
 sessions-front : (lines : List Line) (n : ℕ) → HaveSessions lines → HaveSessions (take n lines)
@@ -88,7 +88,7 @@ is-report hash constant logs script octets lines found before mid now times_befo
     }
 
 pub is-whole : (hash : Hash) (constant : Option ℤ) (logs : ℕ) (script octets : List ℕ) (lines : List Line) (found : List Transaction) (before mid now : Option Told) (times_before times_now : Option (List ℤ))
-    → IsGiven script lines → Opens hash found before mid → ServesAll hash constant logs found lines mid now times_before times_now octets → IsWhole hash constant logs script octets before now times_before times_now
+    → IsGiven script lines → Opens hash found before mid → ServesAll hash constant logs found lines mid now times_before times_now octets → IsWholeReport hash constant logs script octets before now times_before times_now
 unfolding is-report
 is-whole hash constant logs script octets lines found before mid now times_before times_now given o s = record {
   report = is-report hash constant logs script octets lines found before mid now times_before times_now (Ok tt) given o s.serves;

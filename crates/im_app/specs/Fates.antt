@@ -24,7 +24,7 @@ pub record IsDamaged (hash : Hash) (disk : Option Told) (status : Status) : Type
 -- A run of a script over what a disk holds, with no fault, memory aside: a script of the grammar is run where the
 -- files stand for a history, and else their damage is told; a script with a bad line stops at the first one, and one
 -- too long is refused.
-pub record HasFate (hash : Hash) (disk : Option Told) (status : Status) (script : List ℕ) : Type 0 where
+pub record HasRunFate (hash : Hash) (disk : Option Told) (status : Status) (script : List ℕ) : Type 0 where
   pub runs : (lines : List Line) → IsGiven script lines → (status ≡ Ok) ⊎ ((status ≡ Memory) ⊎ IsDamaged hash disk status)
   pub stands : (lines : List Line) → IsGiven script lines → (t : Told) (found : List Transaction) → disk ≡ Some t → Stands hash (seen t) found
       → (status ≡ Ok) ⊎ (status ≡ Memory)

@@ -13,7 +13,7 @@ use Rattle.im_model.specs.declared.transactions.Transaction.{Transaction}
 use Rattle.im_report.specs.Report.{Report, floor_after}
 use Rattle.im_script.specs.Script.{IsScript}
 use Rattle.im_script.specs.declared.commands.Line.{Line}
-use Rattle.im_accept.specs.Taken.{line_text, AreTaken}
+use Rattle.im_accept.specs.Taken.{line_text, AreAcceptedAnswers}
 use Rattle.im_ledger.specs.declared.errors.CommitError.{CommitError}
 use Rattle.im_ledger.specs.declared.errors.CommitError.TheVariants as commit
 use Rattle.im_opening.specs.Cut.{IsOpenedBy, WasBegun, WasOpened}
@@ -63,7 +63,7 @@ pub record IsReport (hash : Hash) (constant : Option ℤ) (logs : ℕ) (script o
   pub report : Report hash found history (take count lines) octets
   pub timed : All (HasTime constant) (drop (length found) history)
   pub texts : AreTexts octets (map line_text report.answers)
-  pub taken : AreTaken hash history report.answers
+  pub taken : AreAcceptedAnswers hash history report.answers
   pub left : List Transaction
   pub left_is : IsLeft constant history (drop count lines) left
   pub over : All (λ tx. tx.bl ≡ floor_after (length found) report.answers) left
@@ -74,7 +74,7 @@ pub record IsReport (hash : Hash) (constant : Option ℤ) (logs : ℕ) (script o
 
 -- all lines were answered, so that no transaction is without a reply, and what reads give stands for the history,
 -- where each transaction that was placed stands in a batch of its own, its values put over so many value logs
-pub record IsWhole (hash : Hash) (constant : Option ℤ) (logs : ℕ) (script octets : List ℕ) (before now : Option Told) (times_before times_now : Option (List ℤ)) : Type 0 where
+pub record IsWholeReport (hash : Hash) (constant : Option ℤ) (logs : ℕ) (script octets : List ℕ) (before now : Option Told) (times_before times_now : Option (List ℤ)) : Type 0 where
   pub report : IsReport hash constant logs script octets before now times_before times_now (Ok tt)
   pub all : report.count ≡ length report.lines
   pub here : IfSome now (λ t. StandsPut hash logs (length report.found) report.history (seen t))
@@ -84,7 +84,7 @@ pub record WritesReport (hash : Hash) (constant : Option ℤ) (logs : ℕ) (sour
   pub script : List ℕ
   pub script_is : IfSome source (λ octets. octets ≡ script)
   pub octets : List ℕ
-  pub report : IsWhole hash constant logs script octets before now times_before times_now
+  pub report : IsWholeReport hash constant logs script octets before now times_before times_now
   pub whole : Appends sink_before sink_now octets
 
 -- a front part of a text was added, and not all of it
@@ -96,7 +96,7 @@ pub record WritesPart (hash : Hash) (constant : Option ℤ) (logs : ℕ) (source
   pub script : List ℕ
   pub script_is : IfSome source (λ octets. octets ≡ script)
   pub octets : List ℕ
-  pub report : IsWhole hash constant logs script octets before now times_before times_now
+  pub report : IsWholeReport hash constant logs script octets before now times_before times_now
   pub part : AddsLess octets sink_before sink_now
 
 -- The report of the lines before the first one without a reply was written, and nothing else; or a front part of it, not
@@ -133,7 +133,7 @@ LeavesFound hash why before now =
     → WasOpened hash found t now × WasBegun (opening_error why) (gate_of (length stands.batches)) t now
 
 -- the image stands for a history that begins with this one
-pub record BeginsWith (hash : Hash) (found : List Transaction) (image : Files) : Type 0 where
+pub record ContinuesHistory (hash : Hash) (found : List Transaction) (image : Files) : Type 0 where
   pub history : List Transaction
   pub stands : Stands hash image history
   pub begins : take (length found) history ≡ found
@@ -142,4 +142,4 @@ pub record BeginsWith (hash : Hash) (found : List Transaction) (image : Files) :
 -- nothing else; or, once a sync had succeeded, at every moment each image has stood for a history that begins with it.
 abbrev pub KeepsFound : Hash → List Transaction → Told → Option Told → Type 0
 KeepsFound hash found t now =
-    (now ≡ Some t) ⊎ ((now ≡ Some (after Missed t)) ⊎ Leaves (BeginsWith hash found) (Some (after Synced t)) now)
+    (now ≡ Some t) ⊎ ((now ≡ Some (after Missed t)) ⊎ Leaves (ContinuesHistory hash found) (Some (after Synced t)) now)

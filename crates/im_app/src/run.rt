@@ -10,7 +10,7 @@ ghost use Rattle.im_format.specs.declared.damages.Damage.{Damage};
 ghost use Rattle.im_model.specs.declared.transactions.Transaction.{Transaction};
 ghost use Rattle.im_mtree.specs.Checks.{first_fail};
 ghost use Rattle.im_script.specs.Script.{StopsAfter};
-ghost use Rattle.im_app.specs.Fates.{HasFate};
+ghost use Rattle.im_app.specs.Fates.{HasRunFate};
 ghost use Rattle.im_app.specs.Runs.{GivesScript, IsGiven, KeepsFound, LeavesFound, WritesFront, WritesPart, WritesReport};
 ghost use Rattle.im_app.specs.Statuses.{EndsGiven, EndsReading, EndsRun, EndsWriting, status_behind, status_by, status_for};
 ghost use Rattle.im_opening.specs.Cut.{SyncsAtMost};
@@ -201,7 +201,7 @@ pub(crate) fn run<H: Hash32, S: Source, K: Sink, D: Disk, C: Clock>(
     ensures clock { C.constant clock.new ≡ C.constant clock.old }
     ensures fate { (Rose (S.faults source.old) (S.faults source.new) → ⊥) → (Rose (K.faults sink.old) (K.faults sink.new) → ⊥)
         → (Rose (D.faults disk) (D.faults result.disk) → ⊥)
-        → IfSome (S.left source.old) (HasFate (H.digest hash.now) (D.told disk) result.status) }
+        → IfSome (S.left source.old) (HasRunFate (H.digest hash.now) (D.told disk) result.status) }
 {
     match read_lines(alloc, source) {
         Ok(lines) => run_lines(alloc, hash, sink, disk, clock, logs, lines),

@@ -14,11 +14,11 @@ ghost use Rattle.im_script.specs.Script.{StopsAfter};
 ghost use Rattle.im_verify.specs.Judged.{StopsHeld};
 ghost use Rattle.im_verify.specs.Runs.{BreaksAt, BreaksInto, BreaksOff, Verifies};
 ghost use Rattle.im_verify.specs.declared.ended.Ended.TheVariants as ended;
-ghost use Rattle.im_words.specs.Command.{IsRefused};
+ghost use Rattle.im_words.specs.Command.{AreWordsRefused};
 ghost use Rattle.im_words.specs.Form.{IsForm, IsVerifyForm};
 ghost use Rattle.im_words.specs.Meaning.{AsksRun, AsksVerify};
 ghost use Rattle.im_words.specs.declared.Link.{Link};
-ghost use Rattle.im_app.specs.Fates.{HasFate, HasVerdict};
+ghost use Rattle.im_app.specs.Fates.{HasRunFate, HasVerdict};
 ghost use Rattle.im_opening.specs.Cut.{SyncsAtMost};
 ghost use Rattle.im_ledger.specs.declared.errors.CommitError.{CommitError as Why};
 ghost use Rattle.im_script.specs.declared.commands.Line.{Line};
@@ -35,7 +35,7 @@ use im_edge::gate::Gate;
 use im_edge::keeper::Keeper;
 use im_edge::sink::Sink;
 use im_edge::source::Source;
-use im_words::{Asked, WordsError, read_words};
+use im_words::{Request, WordsError, read_words};
 use std::alloc::Global;
 
 /// Runs the program on its words, of which the first is its name.
@@ -152,12 +152,12 @@ pub fn top<
     // The words are at fault just where `clap` refuses them, and then nothing is touched. Those of the forms
     // `NAME run [--logs 1..4] [--link auto|manual]`, the options in any order, and `NAME verify` never are: the first
     // ask for a run with the number of logs and the link that they write, the second for `verify`.
-    ensures usage { result.status ≡ Status.Usage → IsRefused (map string_bytes words.now) }
+    ensures usage { result.status ≡ Status.Usage → AreWordsRefused (map string_bytes words.now) }
     ensures form { (logs : ℕ) (link : Link) → IsForm (map string_bytes words.now) logs link
         → (result.status ≡ Status.Usage → ⊥) × ((asks : AsksRun (map string_bytes words.now)) × (asks.0 ≡ logs) × (asks.1 ≡ link)) }
     ensures verify_form { IsVerifyForm (map string_bytes words.now) → (result.status ≡ Status.Usage → ⊥) × AsksVerify (map string_bytes words.now) }
-    ensures refused { IsRefused (map string_bytes words.now) → (result.status ≡ Status.Usage) ⊎ (result.status ≡ Status.Memory) }
-    ensures untouched { IsRefused (map string_bytes words.now) → (source.new ≡ source.old) × ((sink.new ≡ sink.old) × ((keeper.new ≡ keeper.old) × ((result.disk ≡ disk) × (result.clock ≡ clock)))) }
+    ensures refused { AreWordsRefused (map string_bytes words.now) → (result.status ≡ Status.Usage) ⊎ (result.status ≡ Status.Memory) }
+    ensures untouched { AreWordsRefused (map string_bytes words.now) → (source.new ≡ source.old) × ((sink.new ≡ sink.old) × ((keeper.new ≡ keeper.old) × ((result.disk ≡ disk) × (result.clock ≡ clock)))) }
 
     // Else the words ask for one of the two, which ends in its own ways.
     ensures asked { (result.status ≡ Status.Usage → ⊥) → (result.status ≡ Status.Memory → ⊥) → AsksRun (map string_bytes words.now) ⊎ AsksVerify (map string_bytes words.now) }
@@ -184,11 +184,11 @@ pub fn top<
     // A script of the grammar within the limit is run over files that stand for a history, another stops at its first
     // bad line, and one too long is refused. A stream within the limit is told behind kept lines that pass, and else
     // stops at the first that doesn't.
-    ensures complete { (IsRefused (map string_bytes words.now) → ⊥) → AsksRun (map string_bytes words.now)
+    ensures complete { (AreWordsRefused (map string_bytes words.now) → ⊥) → AsksRun (map string_bytes words.now)
         → (Rose (S.faults source.old) (S.faults source.new) → ⊥) → (Rose (K.faults sink.old) (K.faults sink.new) → ⊥)
         → (Rose (D.faults disk) (D.faults result.disk) → ⊥)
-        → IfSome (S.left source.old) (HasFate (H.digest hash.now) (D.told disk) result.status) }
-    ensures verdict { (IsRefused (map string_bytes words.now) → ⊥) → AsksVerify (map string_bytes words.now)
+        → IfSome (S.left source.old) (HasRunFate (H.digest hash.now) (D.told disk) result.status) }
+    ensures verdict { (AreWordsRefused (map string_bytes words.now) → ⊥) → AsksVerify (map string_bytes words.now)
         → (Rose (S.faults source.old) (S.faults source.new) → ⊥) → (Rose (K.faults sink.old) (K.faults sink.new) → ⊥)
         → (Rose (P.faults keeper.old) (P.faults keeper.new) → ⊥)
         → IfSome (S.left source.old) (λ stream. IfSome (P.kept keeper.old) (HasVerdict (H.digest hash.now) result.status stream)) }
@@ -205,7 +205,7 @@ pub fn top<
 {
     let mut clock = clock;
     match read_words(alloc, words) {
-        Ok(Asked::Run { logs, .. }) => {
+        Ok(Request::Run { logs, .. }) => {
             let Ran { status, disk } = run(alloc, hash, source, sink, disk, &mut clock, logs);
             Done {
                 status,
@@ -213,7 +213,7 @@ pub fn top<
                 clock,
             }
         }
-        Ok(Asked::Verify) => {
+        Ok(Request::Verify) => {
             let status = verdict(alloc, hash, source, sink, keeper);
             Done {
                 status,

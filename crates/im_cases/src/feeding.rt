@@ -1,6 +1,6 @@
 //! What stands on the standard input of a run.
 
-use crate::lines::{Line, Run, push_text};
+use crate::lines::{CaseLine, Run, push_text};
 use crate::octets::{number, octets};
 use crate::texts::Scope;
 use crate::wrong::{Fault, Wrong};
@@ -64,7 +64,7 @@ pub fn input_of(run: Run, before: &[u8]) -> Result<Vec<u8>, Fault> {
 
 impl Input {
     // Adds what a line gives.
-    fn add(&mut self, scope: Scope, line: Line, before: &[u8]) -> Result<(), Wrong> {
+    fn add(&mut self, scope: Scope, line: CaseLine, before: &[u8]) -> Result<(), Wrong> {
         if line.mark == "with" {
             let exchange = exchange_of(scope, line.rest)?;
             self.octets = replaced(scope.alloc, &self.octets, self.last, &exchange)?;
@@ -77,7 +77,7 @@ impl Input {
 }
 
 // Adds the octets that a line of input gives.
-fn push(scope: Scope, out: &mut Vec<u8>, line: Line, before: &[u8]) -> Result<(), Wrong> {
+fn push(scope: Scope, out: &mut Vec<u8>, line: CaseLine, before: &[u8]) -> Result<(), Wrong> {
     match line.mark {
         ">x" => out.extend_from_slice(&octets(scope.alloc, line.rest)?)?,
         ">|" => push_earlier(out, before, line.rest)?,

@@ -1,6 +1,6 @@
 //! The files that a disk begins a run with.
 
-use crate::lines::{Line, Run};
+use crate::lines::{CaseLine, Run};
 use crate::octets::{file_number, first_word, number, octets};
 use crate::wrong::{Fault, Wrong};
 use im_disk::calls::Call;
@@ -81,7 +81,7 @@ pub fn change_all(run: Run, files: &mut [Vec<u8>]) -> Result<(), Fault> {
 }
 
 // Changes a file as a line asks.
-fn change(alloc: Global, files: &mut [Vec<u8>], line: Line) -> Result<(), Wrong> {
+fn change(alloc: Global, files: &mut [Vec<u8>], line: CaseLine) -> Result<(), Wrong> {
     let (number, behind) = first_word(line.rest);
     let Some(file) = files.get_mut(file_number(number)? as usize) else {
         return Err(Wrong::File);

@@ -5,7 +5,7 @@ use std::alloc::Global;
 
 /// A line of a file of cases that isn't passed over.
 #[derive(Clone, Copy)]
-pub struct Line<'t> {
+pub struct CaseLine<'t> {
     /// Its number, from 1.
     pub number: u64,
     /// The mark that it begins with.
@@ -15,7 +15,7 @@ pub struct Line<'t> {
 }
 
 /// The lines up to the first one of this mark.
-pub fn before<'a, 't>(lines: &'a [Line<'t>], mark: &str) -> &'a [Line<'t>] {
+pub fn before<'a, 't>(lines: &'a [CaseLine<'t>], mark: &str) -> &'a [CaseLine<'t>] {
     for (at, line) in lines.iter().enumerate() {
         if line.mark == mark {
             return &lines[..at];
@@ -32,12 +32,12 @@ pub struct Run<'a, 't> {
     /// The texts that the file names.
     pub named: &'a [Named],
     /// The run's lines, each of which was checked: those that hold for each run of the case first.
-    pub lines: &'a [Line<'t>],
+    pub lines: &'a [CaseLine<'t>],
 }
 
 impl<'a, 't> Run<'a, 't> {
     /// The last line of this mark, if there is one.
-    pub fn last(self, mark: &str) -> Option<Line<'t>> {
+    pub fn last(self, mark: &str) -> Option<CaseLine<'t>> {
         let mut last = None;
         for line in self.lines {
             if line.mark == mark {
@@ -53,7 +53,7 @@ impl<'a, 't> Run<'a, 't> {
     }
 
     /// What the text of a line is read with.
-    pub fn scope(self, line: Line) -> Scope<'a> {
+    pub fn scope(self, line: CaseLine) -> Scope<'a> {
         Scope {
             alloc: self.alloc,
             line: line.number,
@@ -74,7 +74,7 @@ impl<'a, 't> Run<'a, 't> {
 }
 
 /// Adds the text of a line, and an LF where its mark doesn't end with a hyphen.
-pub fn push_text(scope: Scope, out: &mut Vec<u8>, line: Line) -> Result<(), Wrong> {
+pub fn push_text(scope: Scope, out: &mut Vec<u8>, line: CaseLine) -> Result<(), Wrong> {
     out.extend_from_slice(&scope.text(line.rest)?)?;
     if !line.mark.ends_with('-') {
         out.push(b'\n')?;

@@ -1,7 +1,7 @@
 //! The marks of a run's lines: whether what stands behind one can be read, and the words of some.
 
 use crate::feeding::{earlier, exchange_of};
-use crate::lines::Line;
+use crate::lines::CaseLine;
 use crate::octets::{file_number, first_word, number, octets};
 use crate::texts::Scope;
 use crate::wanting::{end, push_call};
@@ -9,7 +9,7 @@ use crate::wrong::Wrong;
 use std::alloc::Global;
 
 /// Checks that a line of a run can be read. It doesn't look for the line of input that stands above a `with`.
-pub fn check(scope: Scope, line: Line) -> Result<(), Wrong> {
+pub fn check(scope: Scope, line: CaseLine) -> Result<(), Wrong> {
     let rest = line.rest;
     match line.mark {
         ">" | ">-" | "<" | "<-" | "keep" | "kept" => drop(scope.text(rest)?),

@@ -1,6 +1,6 @@
 //! The runs of a case, one after the other.
 
-use crate::lines::{Line, Run, before};
+use crate::lines::{CaseLine, Run, before};
 use crate::stage::Stage;
 use crate::stop::Stop;
 use crate::texts::Named;
@@ -8,10 +8,10 @@ use crate::wrong::Fault;
 use std::alloc::{AllocError, Global};
 
 /// What is told of a difference, where there is one.
-pub type Difference = Result<Option<String>, AllocError>;
+pub type ToldDifference = Result<Option<String>, AllocError>;
 
 /// Tells where a case first differs from what is wanted, if it does.
-pub fn play(alloc: Global, named: &[Named], case: &[Line]) -> Difference {
+pub fn play(alloc: Global, named: &[Named], case: &[CaseLine]) -> ToldDifference {
     let mut stage = Stage::new(alloc)?;
     let told = play_all(alloc, &mut stage, named, case);
     drop(stage);
@@ -19,7 +19,12 @@ pub fn play(alloc: Global, named: &[Named], case: &[Line]) -> Difference {
 }
 
 // Plays the runs of a case up to the first one that differs.
-fn play_all(alloc: Global, stage: &mut Stage, named: &[Named], case: &[Line]) -> Difference {
+fn play_all(
+    alloc: Global,
+    stage: &mut Stage,
+    named: &[Named],
+    case: &[CaseLine],
+) -> ToldDifference {
     let mut number = 0u64;
     for (at, line) in case.iter().enumerate() {
         if line.mark == "$" {
@@ -40,9 +45,9 @@ fn play_all(alloc: Global, stage: &mut Stage, named: &[Named], case: &[Line]) ->
 // The lines of a run: those of the case before its first run, and those from here on before the next one.
 fn lines_of<'t>(
     alloc: Global,
-    case: &[Line<'t>],
-    own: &[Line<'t>],
-) -> Result<Vec<Line<'t>>, AllocError> {
+    case: &[CaseLine<'t>],
+    own: &[CaseLine<'t>],
+) -> Result<Vec<CaseLine<'t>>, AllocError> {
     let mut lines = Vec::from_slice(alloc, before(case, "$"))?;
     if let Some((first, behind)) = own.split_first() {
         lines.push(*first)?;
@@ -52,7 +57,7 @@ fn lines_of<'t>(
 }
 
 // Tells at which run of a case it stops, and why.
-fn tell(alloc: Global, number: u64, stop: Stop) -> Difference {
+fn tell(alloc: Global, number: u64, stop: Stop) -> ToldDifference {
     match stop {
         Stop::Differs(told) => Ok(Some(format!(in alloc; "run {number}: {told}")?)),
         Stop::Undone(Fault { line, wrong }) => {

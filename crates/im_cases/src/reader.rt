@@ -1,6 +1,6 @@
 //! The reader of a file of cases, line by line.
 
-use crate::lines::Line;
+use crate::lines::CaseLine;
 use crate::marks::check;
 use crate::texts::{Named, Scope, is_name};
 use crate::wrong::{Fault, Wrong};
@@ -10,7 +10,7 @@ use std::alloc::Global;
 #[derive(Drop)]
 pub struct Script<'t> {
     /// The lines, the first one first.
-    pub lines: Vec<Line<'t>>,
+    pub lines: Vec<CaseLine<'t>>,
     /// The texts that are named.
     pub named: Vec<Named>,
 }
@@ -65,14 +65,14 @@ impl<'t> Reader<'t> {
             if !text.is_empty() && !text.starts_with('#') {
                 let (mark, rest) = text.split_once(' ').unwrap_or((text, ""));
                 let number = self.line;
-                self.read_line(Line { number, mark, rest })?;
+                self.read_line(CaseLine { number, mark, rest })?;
             }
         }
         self.end_case()
     }
 
     // Reads one line.
-    fn read_line(&mut self, line: Line<'t>) -> Result<(), Wrong> {
+    fn read_line(&mut self, line: CaseLine<'t>) -> Result<(), Wrong> {
         match line.mark {
             "text" => self.name_text(line)?,
             "=" => self.begin_case(line)?,
@@ -85,7 +85,7 @@ impl<'t> Reader<'t> {
     }
 
     // Names a text.
-    fn name_text(&mut self, line: Line) -> Result<(), Wrong> {
+    fn name_text(&mut self, line: CaseLine) -> Result<(), Wrong> {
         let (name, text) = line.rest.split_once(' ').unwrap_or((line.rest, ""));
         let name = name.as_bytes();
         if !is_name(name) {
@@ -106,7 +106,7 @@ impl<'t> Reader<'t> {
     }
 
     // Begins a case.
-    fn begin_case(&mut self, line: Line) -> Result<(), Wrong> {
+    fn begin_case(&mut self, line: CaseLine) -> Result<(), Wrong> {
         self.end_case()?;
         if line.rest.is_empty() {
             return Err(Wrong::Nameless);
@@ -136,7 +136,7 @@ impl<'t> Reader<'t> {
     }
 
     // Checks a line of a run, or one that holds for each run of the last case.
-    fn check(&mut self, line: Line) -> Result<(), Wrong> {
+    fn check(&mut self, line: CaseLine) -> Result<(), Wrong> {
         check(self.scope(), line)?;
         if line.mark == "with" && !self.input {
             return Err(Wrong::NoInput);

@@ -1,6 +1,6 @@
 //! What is told of a file of cases: each case that differs, and how many agree.
 
-use crate::lines::{Line, before};
+use crate::lines::{CaseLine, before};
 use crate::playing::play;
 use crate::reader::{Script, read};
 use crate::texts::{Named, line_at};
@@ -59,7 +59,7 @@ fn tell_case(
     rt: &(impl Print + Alloc<A = Global>),
     name: &str,
     named: &[Named],
-    lines: &[Line],
+    lines: &[CaseLine],
 ) -> io::Result<bool> {
     let Some((first, behind)) = lines.split_first() else {
         return Ok(true);

@@ -37,14 +37,14 @@ used (Err Failed) = 1
 used (Err Memory) = 0
 
 -- what a changing call tells, by its answer
-pub record Tells {T : Type 0} (good bad : Call) (before now : Option Told) (result : Result T DiskError) : Type 0 where
+pub record TellsCall {T : Type 0} (good bad : Call) (before now : Option Told) (result : Result T DiskError) : Type 0 where
   pub ok : OnOk result (now ≡ option_map (after good) before)
   pub failed : IsErrOf result Failed → now ≡ option_map (after bad) before
   pub memory : IsErrOf result Memory → now ≡ before
 
 -- a changing call that was passed on
-pub record Passes {D T : Type 0} (told : D → Option Told) (good bad : Call) (before now : Fused D) (result : Result T DiskError) : Type 0 where
-  pub tells : Tells good bad (told before.disk) (told now.disk) result
+pub record PassesCall {D T : Type 0} (told : D → Option Told) (good bad : Call) (before now : Fused D) (result : Result T DiskError) : Type 0 where
+  pub tells : TellsCall good bad (told before.disk) (told now.disk) result
   pub left : now.calls_left ≡ before.calls_left - used result
   pub none : now.failed ≡ []
 

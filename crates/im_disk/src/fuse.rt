@@ -3,7 +3,7 @@ ghost use Rattle.im_disk.specs.declared.disk.DiskError.TheVariants.{Failed, Memo
 ghost use Rattle.im_disk.specs.declared.calls.Call.TheVariants.{Wrote, Tore, Synced, Missed};
 ghost use Rattle.im_disk.specs.Causes.{HasCause};
 ghost use Rattle.im_disk.specs.Disk.{LiesWithin, seen};
-ghost use Rattle.im_disk.specs.Fused.{told_through, faults_through, used, Tells, Passes, Burns, Keeps};
+ghost use Rattle.im_disk.specs.Fused.{told_through, faults_through, used, TellsCall, PassesCall, Burns, Keeps};
 ghost use Rattle.im_disk.specs.Recorded.{is_failure};
 
 use crate::calls::Call;
@@ -119,11 +119,11 @@ impl<D: Disk> Disk for Fuse<D> {
         requires file { file < 16 }
         requires within { LiesWithin (told_through D.told self.old) file at 0 }
         requires end { at < 2 ^ 62 }
-        ensures passes { 0 < self.old.calls_left → Passes D.told (Wrote file at piece.now)
+        ensures passes { 0 < self.old.calls_left → PassesCall D.told (Wrote file at piece.now)
             (Tore file at (length piece.now)) self.old self.new result }
         ensures burns { self.old.calls_left ≡ 0 →
             Burns (Tore file at (length piece.now)) self.old self.new result }
-        ensures tells { Tells (Wrote file at piece.now) (Tore file at (length piece.now))
+        ensures tells { TellsCall (Wrote file at piece.now) (Tore file at (length piece.now))
             (told_through D.told self.old) (told_through D.told self.new) result }
         ensures cause { HasCause (faults_through D.faults self.old)
             (faults_through D.faults self.new) result }
@@ -139,9 +139,9 @@ impl<D: Disk> Disk for Fuse<D> {
 
     fn sync(&mut self) -> Result<(), DiskError>
         ensures passes { 0 < self.old.calls_left →
-            Passes D.told Synced Missed self.old self.new result }
+            PassesCall D.told Synced Missed self.old self.new result }
         ensures burns { self.old.calls_left ≡ 0 → Burns Missed self.old self.new result }
-        ensures tells { Tells Synced Missed
+        ensures tells { TellsCall Synced Missed
             (told_through D.told self.old) (told_through D.told self.new) result }
         ensures cause { HasCause (faults_through D.faults self.old)
             (faults_through D.faults self.new) result }

@@ -8,7 +8,7 @@ use Rattle.im_model.specs.declared.headers.Header.{Header}
 use Rattle.im_model.specs.declared.entries.Entry.{Entry}
 use Rattle.im_pairs.proofs.PairLemmas.{equal_or_not}
 use Rattle.im_wire.specs.declared.messages.Message.{Message}
-use Rattle.im_facts.specs.Facts.{Known, Agrees, IsAlike, IsEntryAlike, Differs, header_at, entry_at, headers_shown, entries_shown}
+use Rattle.im_facts.specs.Facts.{Known, Agrees, IsAlike, IsEntryAlike, Differs, known_header, entry_at, headers_shown, entries_shown}
 use Rattle.im_facts.specs.declared.facts.EntryFact.{EntryFact}
 
 -- two things are equal or not
@@ -91,13 +91,13 @@ all-like X F at of decides (fact ∷ facts) =
     all-like-step X F at of fact facts (one-like X F at of decides fact (at fact) refl) (all-like X F at of decides facts)
 
 abbrev HeadersLike : Known → Message → Type 0
-HeadersLike known message = AllByRecursion (λ (h : Header). IfSome (header_at known.headers h.id) (λ kept. kept ≡ h)) (headers_shown message)
+HeadersLike known message = AllByRecursion (λ (h : Header). IfSome (known_header known.headers h.id) (λ kept. kept ≡ h)) (headers_shown message)
 
 abbrev EntriesLike : Known → Message → Type 0
 EntriesLike known message = AllByRecursion (λ (f : EntryFact). IfSome (entry_at known.entries f.tx f.index) (λ kept. kept ≡ f.entry)) (entries_shown message)
 
 abbrev HeaderUnlike : Known → Message → Type 0
-HeaderUnlike known message = SomeUnlike Header Header (λ h. header_at known.headers h.id) (λ h. h) (headers_shown message)
+HeaderUnlike known message = SomeUnlike Header Header (λ h. known_header known.headers h.id) (λ h. h) (headers_shown message)
 
 abbrev EntryUnlike : Known → Message → Type 0
 EntryUnlike known message = SomeUnlike Entry EntryFact (λ f. entry_at known.entries f.tx f.index) (λ f. f.entry) (entries_shown message)
@@ -106,7 +106,7 @@ both-like : (known : Known) (message : Message) → HeadersLike known message �
 both-like known message (inr d) entries = inr (inl (record { shown = d.0; is_shown = d.1; kept = d.2; is_kept = d.3; unlike = d.4 }))
 both-like known message (inl h) (inr d) = inr (inr (record { shown = d.0; is_shown = d.1; kept = d.2; is_kept = d.3; unlike = d.4 }))
 both-like known message (inl h) (inl e) = inl (record {
-  headers = All-from_recursion (λ (x : Header). IfSome (header_at known.headers x.id) (λ kept. kept ≡ x)) (headers_shown message) h;
+  headers = All-from_recursion (λ (x : Header). IfSome (known_header known.headers x.id) (λ kept. kept ≡ x)) (headers_shown message) h;
   entries = All-from_recursion (λ (f : EntryFact). IfSome (entry_at known.entries f.tx f.index) (λ kept. kept ≡ f.entry)) (entries_shown message) e;
 })
 
@@ -114,14 +114,14 @@ both-like known message (inl h) (inl e) = inl (record {
 pub agrees-or-differs : (known : Known) (message : Message) → Agrees known message ⊎ Differs known message
 agrees-or-differs known message =
     both-like known message
-    (all-like Header Header (λ h. header_at known.headers h.id) (λ h. h) header-one (headers_shown message))
+    (all-like Header Header (λ h. known_header known.headers h.id) (λ h. h) header-one (headers_shown message))
     (all-like Entry EntryFact (λ f. entry_at known.entries f.tx f.index) (λ f. f.entry) entry-one (entries_shown message))
 
 -- and not both
 pub not-both : (known : Known) (message : Message) → Agrees known message → Differs known message → ⊥
 not-both known message agrees (inl d) =
     d.unlike (subst (λ (o : Option Header). IfSome o (λ kept. kept ≡ d.shown)) d.is_kept
-    (All-contains (λ (h : Header). IfSome (header_at known.headers h.id) (λ kept. kept ≡ h)) (headers_shown message) d.shown agrees.headers d.is_shown))
+    (All-contains (λ (h : Header). IfSome (known_header known.headers h.id) (λ kept. kept ≡ h)) (headers_shown message) d.shown agrees.headers d.is_shown))
 not-both known message agrees (inr d) =
     d.unlike (subst (λ (o : Option Entry). IfSome o (λ kept. kept ≡ d.shown.entry)) d.is_kept
     (All-contains (λ (f : EntryFact). IfSome (entry_at known.entries f.tx f.index) (λ kept. kept ≡ f.entry)) (entries_shown message) d.shown agrees.entries d.is_shown))

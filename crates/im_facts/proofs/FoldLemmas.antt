@@ -19,7 +19,7 @@ use Rattle.im_wire.specs.declared.messages.Message.TheVariants as says
 use Rattle.im_client.specs.Folds.{state_with}
 use Rattle.im_client.specs.LineChecks.{line_checks}
 use Rattle.im_facts.specs.Accepted.{IsAccepted, AreAccepted, IsClient}
-use Rattle.im_facts.specs.Facts.{Known, nothing, with_message, known_after, header_at, headers_shown, entries_shown, with_headers, with_entries, is_lower, is_level, is_before, is_beside}
+use Rattle.im_facts.specs.Facts.{Known, nothing, with_message, known_after, known_header, headers_shown, entries_shown, with_headers, with_entries, is_lower, is_level, is_before, is_beside}
 use Rattle.im_facts.specs.Held.{HoldsHeader, LiesUnder, HoldsEntry, HoldsUnder, Holds}
 use Rattle.im_facts.specs.declared.facts.EntryFact.{EntryFact}
 use Rattle.im_facts.proofs.OrderLemmas.{Rises, each-weaker, puts-all}
@@ -38,7 +38,7 @@ found-holds p P [] x e all = absurd cc
 found-holds p P (y ∷ ys) x e all = find-step P (p y) y x (find p ys) e all.0 (λ r. found-holds p P ys x r all.1)
 
 -- a header that is found has the number
-pub found-id : (headers : List Header) (t : ℕ) (header : Header) → header_at headers t ≡ Some header → header.id ≡ t
+pub found-id : (headers : List Header) (t : ℕ) (header : Header) → known_header headers t ≡ Some header → header.id ≡ t
 found-id headers t header e = eqb-true header.id t (found-passes (λ (h : Header). nat_eq h.id t) headers header e)
 
 -- the headers that a message showed are kept behind it
@@ -48,7 +48,7 @@ kept-now known m sound =
     (All-from_recursion (KeepsHeaders (with_message known m).headers) (known.messages ++ m ∷ []) sound.headers_kept) (Contains-push known.messages m)
 
 -- among them the one that its entries lie under
-under-kept : (headers : List Header) (m : Message) → KeepsHeaders headers m → header_at headers (entries_under m).id ≡ Some (entries_under m)
+under-kept : (headers : List Header) (m : Message) → KeepsHeaders headers m → known_header headers (entries_under m).id ≡ Some (entries_under m)
 under-kept headers (says.State header) keeps = keeps.0
 under-kept headers (says.Dual dual) keeps = keeps.0
 under-kept headers (says.Advance dual anchor) keeps = keeps.0
@@ -103,8 +103,8 @@ still-under hash headers more strings rises fact holds =
 -- one that is shown lies under a header that is kept now
 now-under : (hash : Hash) (headers : List Header) (m : Message) (strings : List (List ℕ)) → KeepsHeaders headers m → (fact : EntryFact) → LiesInShown hash m strings fact → HoldsEntry hash headers strings fact
 now-under hash headers m strings keeps fact lies =
-    let one : header_at headers lies.header.id ≡ Some lies.header = subst (λ (h : Header). header_at headers h.id ≡ Some h) (sym lies.is) (under-kept headers m keeps) in
-    (lies.header, ap (λ (t : ℕ). header_at headers t) lies.tx ∙ one, lies.lies)
+    let one : known_header headers lies.header.id ≡ Some lies.header = subst (λ (h : Header). known_header headers h.id ≡ Some h) (sym lies.is) (under-kept headers m keeps) in
+    (lies.header, ap (λ (t : ℕ). known_header headers t) lies.tx ∙ one, lies.lies)
 
 -- what is known behind an accepted message, where each header of before was carried
 under-step : (hash : Hash) → GivesDigests hash → (known : Known) (m : Message) (strings : List (List ℕ)) (state : Header) → AreAmong (message_strings hash m) strings → IsMessage m → PassesUnder hash state m
@@ -116,7 +116,7 @@ under-step hash size known m strings state among fits passes sound sound2 under 
     let is : state_with known.state m ≡ Some (state_behind state m) = ap (λ (s : Option Header). state_with s m) under.is ∙ state-after state m in
     record {
       is = is;
-      kept = subst (λ (o : Option Header). IfSome o (λ (s : Header). header_at headers s.id ≡ Some s)) is sound2.state;
+      kept = subst (λ (o : Option Header). IfSome o (λ (s : Header). known_header headers s.id ≡ Some s)) is sound2.state;
       tree = tree-behind hash state m strings fits passes among under.tree;
       headers = All-from_recursion (HoldsHeader hash (state_behind state m) strings) headers
           (puts-all is_lower is_level (HoldsHeader hash (state_behind state m) strings) known.headers (headers_shown m) carried shown);

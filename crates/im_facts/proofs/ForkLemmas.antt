@@ -28,7 +28,7 @@ use Rattle.im_wire.specs.declared.messages.Message.{Message}
 use Rattle.im_wire.specs.declared.messages.Message.TheVariants as says
 use Rattle.im_client.specs.LineChecks.{line_checks, advance_line_checks}
 use Rattle.im_facts.specs.Accepted.{Passes, IsClient}
-use Rattle.im_facts.specs.Facts.{Known, nothing, Differs, HeaderDiffers, EntryDiffers, header_at, entry_at, headers_shown, entries_shown}
+use Rattle.im_facts.specs.Facts.{Known, nothing, Differs, HeaderDiffers, EntryDiffers, known_header, entry_at, headers_shown, entries_shown}
 use Rattle.im_facts.specs.Held.{HoldsHeader, LiesUnder, HoldsEntry, HoldsUnder}
 use Rattle.im_facts.specs.declared.facts.EntryFact.{EntryFact}
 use Rattle.im_facts.proofs.PlaceLemmas.{beside-parts}

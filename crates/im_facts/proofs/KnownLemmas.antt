@@ -12,7 +12,7 @@ use Rattle.im_wire.specs.declared.messages.Message.{Message}
 use Rattle.im_wire.specs.declared.messages.Message.TheVariants as says
 use Rattle.im_client.specs.Folds.{state_with}
 use Rattle.im_facts.specs.Accepted.{IsAccepted, AreAccepted, IsClient}
-use Rattle.im_facts.specs.Facts.{Known, nothing, with_message, known_after, Agrees, IsRising, header_at, entry_at, headers_shown, entries_shown, with_headers, with_entries, is_lower, is_level, is_before, is_beside}
+use Rattle.im_facts.specs.Facts.{Known, nothing, with_message, known_after, Agrees, IsRising, known_header, entry_at, headers_shown, entries_shown, with_headers, with_entries, is_lower, is_level, is_before, is_beside}
 use Rattle.im_facts.specs.declared.facts.EntryFact.{EntryFact}
 use Rattle.im_facts.proofs.OrderLemmas.{Rises, AreOne, FitsIn, each-weaker, each-append, puts-all, puts-rise, puts-found, puts-fit}
 use Rattle.im_facts.proofs.PlaceLemmas.{header-order, entry-order, header-pairs, entry-pairs, beside-parts}
@@ -24,7 +24,7 @@ fact_at facts fact = find (λ (kept : EntryFact). is_beside kept fact) facts
 
 -- each header that a message shows is kept
 abbrev pub KeepsHeaders : List Header → Message → Type 0
-KeepsHeaders headers message = AllByRecursion (λ (header : Header). header_at headers header.id ≡ Some header) (headers_shown message)
+KeepsHeaders headers message = AllByRecursion (λ (header : Header). known_header headers header.id ≡ Some header) (headers_shown message)
 
 -- each entry that it shows
 abbrev pub KeepsEntries : List EntryFact → Message → Type 0
@@ -53,15 +53,15 @@ pub nothing-sound : IsSound nothing
 nothing-sound = record { headers_rise = tt; entries_rise = tt; state = tt; headers_kept = tt; entries_kept = tt; headers_shown = tt; entries_shown = tt }
 
 -- a header that was found is found behind more
-pub header-found : (headers more : List Header) (t : ℕ) (h : Header) → Rises Header is_lower headers → h.id ≡ t → header_at headers t ≡ Some h → header_at (with_headers headers more) t ≡ Some h
+pub header-found : (headers more : List Header) (t : ℕ) (h : Header) → Rises Header is_lower headers → h.id ≡ t → known_header headers t ≡ Some h → known_header (with_headers headers more) t ≡ Some h
 header-found headers more t h rises e is =
-    let there : header_at headers h.id ≡ Some h = ap (λ (n : ℕ). header_at headers n) e ∙ is in
-    ap (λ (n : ℕ). header_at (with_headers headers more) n) (sym e) ∙ puts-found Header is_lower is_level header-order headers more h h rises there
+    let there : known_header headers h.id ≡ Some h = ap (λ (n : ℕ). known_header headers n) e ∙ is in
+    ap (λ (n : ℕ). known_header (with_headers headers more) n) (sym e) ∙ puts-found Header is_lower is_level header-order headers more h h rises there
 
 -- the headers of a message that was kept are kept behind more
 still-headers : (headers more : List Header) (message : Message) → Rises Header is_lower headers → KeepsHeaders headers message → KeepsHeaders (with_headers headers more) message
 still-headers headers more message rises keeps =
-    each-weaker (λ (h : Header). header_at headers h.id ≡ Some h) (λ (h : Header). header_at (with_headers headers more) h.id ≡ Some h)
+    each-weaker (λ (h : Header). known_header headers h.id ≡ Some h) (λ (h : Header). known_header (with_headers headers more) h.id ≡ Some h)
     (λ h is. puts-found Header is_lower is_level header-order headers more h h rises is) (headers_shown message) keeps
 
 still-entries : (facts more : List EntryFact) (message : Message) → Rises EntryFact is_before facts → KeepsEntries facts message → KeepsEntries (with_entries facts more) message
@@ -106,9 +106,9 @@ entries-fit known message agrees =
     (recursion_from_All (λ (fact : EntryFact). IfSome (entry_at known.entries fact.tx fact.index) (λ kept. kept ≡ fact.entry)) (entries_shown message) agrees.entries)
 
 -- the state behind a message is kept
-state-step : (headers : List Header) (state : Option Header) (m : Message) → Rises Header is_lower headers → IfSome state (λ (s : Header). header_at headers s.id ≡ Some s)
-    → AllByRecursion (λ (h : Header). header_at (with_headers headers (headers_shown m)) h.id ≡ Some h) (headers_shown m)
-    → IfSome (state_with state m) (λ (s : Header). header_at (with_headers headers (headers_shown m)) s.id ≡ Some s)
+state-step : (headers : List Header) (state : Option Header) (m : Message) → Rises Header is_lower headers → IfSome state (λ (s : Header). known_header headers s.id ≡ Some s)
+    → AllByRecursion (λ (h : Header). known_header (with_headers headers (headers_shown m)) h.id ≡ Some h) (headers_shown m)
+    → IfSome (state_with state m) (λ (s : Header). known_header (with_headers headers (headers_shown m)) s.id ≡ Some s)
 state-step headers None (says.State header) rises kept found = found.0
 state-step headers (Some s) (says.State header) rises kept found = header-found headers (headers_shown (says.State header)) s.id s rises refl kept
 state-step headers None (says.Dual dual) rises kept found = tt
@@ -167,19 +167,19 @@ client-rises hash known client =
     let sound = client-sound hash known client in
     record { headers = header-pairs known.headers sound.headers_rise; entries = entry-pairs known.entries sound.entries_rise }
 
-some-state : (headers : List Header) (r : Option Header) (s : Header) → r ≡ Some s → IfSome r (λ (t : Header). header_at headers t.id ≡ Some t) → header_at headers s.id ≡ Some s
-some-state headers r s e kept = subst (λ (o : Option Header). IfSome o (λ (t : Header). header_at headers t.id ≡ Some t)) e kept
+some-state : (headers : List Header) (r : Option Header) (s : Header) → r ≡ Some s → IfSome r (λ (t : Header). known_header headers t.id ≡ Some t) → known_header headers s.id ≡ Some s
+some-state headers r s e kept = subst (λ (o : Option Header). IfSome o (λ (t : Header). known_header headers t.id ≡ Some t)) e kept
 
 -- its state is the kept header of its number
-pub client-state : (hash : Hash) (known : Known) (state : Header) → IsClient hash known → known.state ≡ Some state → header_at known.headers state.id ≡ Some state
+pub client-state : (hash : Hash) (known : Known) (state : Header) → IsClient hash known → known.state ≡ Some state → known_header known.headers state.id ≡ Some state
 client-state hash known state client e = some-state known.headers known.state state e (client-sound hash known client).state
 
 -- each header that one of its messages shows is kept
 pub client-header : (hash : Hash) (known : Known) (message : Message) (header : Header) → IsClient hash known → Contains known.messages message → Contains (headers_shown message) header
-    → header_at known.headers header.id ≡ Some header
+    → known_header known.headers header.id ≡ Some header
 client-header hash known message header client on shown =
-    All-contains (λ (h : Header). header_at known.headers h.id ≡ Some h) (headers_shown message) header
-    (All-from_recursion (λ (h : Header). header_at known.headers h.id ≡ Some h) (headers_shown message)
+    All-contains (λ (h : Header). known_header known.headers h.id ≡ Some h) (headers_shown message) header
+    (All-from_recursion (λ (h : Header). known_header known.headers h.id ≡ Some h) (headers_shown message)
     (All-contains (KeepsHeaders known.headers) known.messages message (All-from_recursion (KeepsHeaders known.headers) known.messages (client-sound hash known client).headers_kept) on))
     shown
 
@@ -207,7 +207,7 @@ client-entry-shown hash known fact client on =
 pub headers-one : (hash : Hash) (known : Known) (m n : Message) (a b : Header) → IsClient hash known → Contains known.messages m → Contains known.messages n
     → Contains (headers_shown m) a → Contains (headers_shown n) b → a.id ≡ b.id → a ≡ b
 headers-one hash known m n a b client on on2 shown shown2 e =
-    some-is a b (sym (client-header hash known m a client on shown) ∙ ap (λ (t : ℕ). header_at known.headers t) e ∙ client-header hash known n b client on2 shown2)
+    some-is a b (sym (client-header hash known m a client on shown) ∙ ap (λ (t : ℕ). known_header known.headers t) e ∙ client-header hash known n b client on2 shown2)
 
 -- nor unequal entries of one place
 pub entries-of-one : (hash : Hash) (known : Known) (m n : Message) (a b : EntryFact) → IsClient hash known → Contains known.messages m → Contains known.messages n
@@ -218,8 +218,8 @@ entries-of-one hash known m n a b client on on2 shown shown2 e f =
     ∙ ap (λ (i : ℕ). entry_at known.entries b.tx i) f ∙ client-entry hash known n b client on2 shown2)
 
 -- what was found of a number is still found
-pub client-still-header : (hash : Hash) (known : Known) (message : Message) (t : ℕ) (header : Header) → IsClient hash known → header_at known.headers t ≡ Some header
-    → header_at (with_message known message).headers t ≡ Some header
+pub client-still-header : (hash : Hash) (known : Known) (message : Message) (t : ℕ) (header : Header) → IsClient hash known → known_header known.headers t ≡ Some header
+    → known_header (with_message known message).headers t ≡ Some header
 client-still-header hash known message t header client is =
     header-found known.headers (headers_shown message) t header (client-sound hash known client).headers_rise
     (eqb-true header.id t (found-passes (λ (h : Header). nat_eq h.id t) known.headers header is)) is

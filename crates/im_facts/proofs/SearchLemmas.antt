@@ -9,7 +9,7 @@ use Rattle.std.proofs.lemmas.Bool.Decides.{nat_tests}
 use Rattle.im_model.specs.declared.headers.Header.{Header}
 use Rattle.im_wire.specs.declared.messages.Message.{Message}
 use Rattle.im_wire.specs.declared.messages.Message.TheVariants as says
-use Rattle.im_facts.specs.Facts.{header_at, entry_at, is_lower, is_level, is_before, is_beside, with_fact, with_facts, headers_shown, IsBefore}
+use Rattle.im_facts.specs.Facts.{known_header, entry_at, is_lower, is_level, is_before, is_beside, with_fact, with_facts, headers_shown, IsBefore}
 use Rattle.im_facts.specs.declared.facts.EntryFact.{EntryFact}
 use Rattle.im_facts.proofs.OrderLemmas.{Rises, put-rises}
 use Rattle.im_facts.proofs.PlaceLemmas.{header-order, entry-order, header-pairs}
@@ -42,11 +42,11 @@ pub entries-parted : (xs : List EntryFact) (f : EntryFact) → AllPairs IsBefore
 entries-parted xs f rises = parted EntryFact is_before is_beside entry-order xs f (before-pairs xs rises)
 
 -- a header is found at its place
-pub header-there : (xs : List Header) (h : Header) (i : ℕ) (d : Header) → i < length xs → HeaderPoint xs h i → (get_or xs i d).id ≡ h.id → Some (get_or xs i d) ≡ header_at xs h.id
+pub header-there : (xs : List Header) (h : Header) (i : ℕ) (d : Header) → i < length xs → HeaderPoint xs h i → (get_or xs i d).id ≡ h.id → Some (get_or xs i d) ≡ known_header xs h.id
 header-there xs h i d within point e = sym (find-there Header is_lower is_level header-order xs h i d within point (eq-eqb (get_or xs i d).id h.id e))
 
 -- or there is none
-pub header-none : (xs : List Header) (h : Header) (i : ℕ) (d : Header) → AllPairs (λ (a b : Header). a.id < b.id) xs → HeaderPoint xs h i → (i < length xs → (get_or xs i d).id ≢ h.id) → None ≡ header_at xs h.id
+pub header-none : (xs : List Header) (h : Header) (i : ℕ) (d : Header) → AllPairs (λ (a b : Header). a.id < b.id) xs → HeaderPoint xs h i → (i < length xs → (get_or xs i d).id ≢ h.id) → None ≡ known_header xs h.id
 header-none xs h i d rises point ne =
     sym (find-none Header is_lower is_level header-order xs h i d (lower-pairs xs rises) point (λ within. ne_eqb (get_or xs i d).id h.id (ne within)))
 

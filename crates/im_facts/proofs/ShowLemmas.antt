@@ -23,7 +23,7 @@ use Rattle.im_carried.proofs.PassLemmas.{dual-shown, left-among, right-among}
 use Rattle.im_carried.proofs.ShowLemmas.{path-leads}
 use Rattle.im_hashed.specs.Messages.{anchor_strings, item_strings, message_strings}
 use Rattle.im_hashed.proofs.FitsLemmas.{dual-fits, digests-fit}
-use Rattle.im_wire.specs.Fits.{IsDualProof, IsAnchor, AreDigests}
+use Rattle.im_wire.specs.Fits.{IsDualProof, IsAnchor, AreDigestOctets}
 use Rattle.im_wire.specs.declared.messages.Message.{Message}
 use Rattle.im_wire.specs.declared.messages.Message.TheVariants as says
 use Rattle.im_client.specs.LineChecks.{state_checks, same_state_checks, dual_line_checks, advance_line_checks, anchor_checks, anchor_ends_checks, is_anchored}
@@ -77,7 +77,7 @@ item-held hash state p entry index path h =
     record { dual = both.0; leads = held-named Path paths both.1 }
 
 -- its path leads from the entry to the source's root of entries
-pub item-leads : (hash : Hash) (state : Header) (p : DualProof) (entry : Entry) (index : ℕ) (path strings : List (List ℕ)) → AreDigests path → ItemHeld hash state p entry index path
+pub item-leads : (hash : Hash) (state : Header) (p : DualProof) (entry : Entry) (index : ℕ) (path strings : List (List ℕ)) → AreDigestOctets path → ItemHeld hash state p entry index path
     → AreAmong (item_strings hash entry index p.source.nentries path) strings → Leads hash p.source.nentries index (entry_digest hash entry) (reverse path) p.source.eh strings
 item-leads hash state p entry index path strings fits h among =
     path-leads hash p.source.nentries index p.source.eh (entry_digest hash entry) path strings (digests-fit path fits) h.leads

@@ -23,32 +23,32 @@ use Rattle.im_wire.specs.declared.messages.Message.TheVariants as says
 use Rattle.im_client.specs.LineChecks.{line_checks, dual_line_checks, advance_line_checks, anchor_checks, anchor_ends_checks}
 use Rattle.im_client.specs.declared.faults.LineFault.TheVariants.{Dual, Anchor, Path}
 use Rattle.im_facts.specs.Accepted.{IsAccepted}
-use Rattle.im_facts.specs.Facts.{Known, Agrees, header_at, headers_shown, is_lower, is_level}
+use Rattle.im_facts.specs.Facts.{Known, Agrees, known_header, headers_shown, is_lower, is_level}
 use Rattle.im_facts.proofs.OrderLemmas.{AreOne}
 use Rattle.im_facts.proofs.PlaceLemmas.{header-order}
 
 -- the state is the kept header of its number
 abbrev pub StateIsKept : Known → Type 0
-StateIsKept known = IfSome known.state (λ (state : Header). header_at known.headers state.id ≡ Some state)
+StateIsKept known = IfSome known.state (λ (state : Header). known_header known.headers state.id ≡ Some state)
 
 -- a shown header fits in
 abbrev pub FitsAt : List Header → Header → Type 0
-FitsAt headers header = IfSome (header_at headers header.id) (λ kept. kept ≡ header)
+FitsAt headers header = IfSome (known_header headers header.id) (λ kept. kept ≡ header)
 
 -- one of the state's number is the state
-pub is-state : (headers : List Header) (state header : Header) → header_at headers state.id ≡ Some state → FitsAt headers header → header.id ≡ state.id → state ≡ header
+pub is-state : (headers : List Header) (state header : Header) → known_header headers state.id ≡ Some state → FitsAt headers header → header.id ≡ state.id → state ≡ header
 is-state headers state header kept fits e =
-    let there : header_at headers header.id ≡ Some state = ap (λ (t : ℕ). header_at headers t) e ∙ kept in
+    let there : known_header headers header.id ≡ Some state = ap (λ (t : ℕ). known_header headers t) e ∙ kept in
     subst (λ (r : Option Header). IfSome r (λ k. k ≡ header)) there fits
 
 -- so two of them are one
-both-state : (headers : List Header) (state a b : Header) → header_at headers state.id ≡ Some state → FitsAt headers a → FitsAt headers b → a.id ≡ state.id → nat_eq a.id b.id ≡ true → b ≡ a
+both-state : (headers : List Header) (state a b : Header) → known_header headers state.id ≡ Some state → FitsAt headers a → FitsAt headers b → a.id ≡ state.id → nat_eq a.id b.id ≡ true → b ≡ a
 both-state headers state a b kept fa fb e level =
     let also : b.id ≡ state.id = grind (arith, nat_tests) in
     sym (is-state headers state b kept fb also) ∙ is-state headers state a kept fa e
 
 -- those of a dual proof that begins or ends at the state
-pair-one : (headers : List Header) (state : Header) (p : DualProof) → header_at headers state.id ≡ Some state → FitsAt headers p.source → FitsAt headers p.target → (nat_eq p.source.id p.target.id ≡ true → p.source.id ≡ state.id)
+pair-one : (headers : List Header) (state : Header) (p : DualProof) → known_header headers state.id ≡ Some state → FitsAt headers p.source → FitsAt headers p.target → (nat_eq p.source.id p.target.id ≡ true → p.source.id ≡ state.id)
     → AreOne Header is_lower is_level header-order (p.source ∷ p.target ∷ [])
 pair-one headers state p kept fs ft e =
     (((λ level. both-state headers state p.source p.target kept fs ft (e level) level), tt), (tt, tt))
@@ -72,7 +72,7 @@ pub held-named : {F G : Type 0} → (name : F → G) (checks : List (Check F)) �
 held-named name checks h = ok-named name (first_fail checks) (sym (fail_named name checks) ∙ h)
 
 -- the headers of a line whose dual proof leads to the state
-dual-one : (hash : Hash) (headers : List Header) (state : Header) (p : DualProof) → header_at headers state.id ≡ Some state → FitsAt headers p.source → FitsAt headers p.target
+dual-one : (hash : Hash) (headers : List Header) (state : Header) (p : DualProof) → known_header headers state.id ≡ Some state → FitsAt headers p.source → FitsAt headers p.target
     → first_fail (dual_line_checks hash state p) ≡ Ok tt → AreOne Header is_lower is_level header-order (p.source ∷ p.target ∷ [])
 dual-one hash headers state p kept fs ft h =
     let each = all-hold (dual_line_checks hash state p) h in
@@ -102,7 +102,7 @@ apart-one : (a b : Header) → a.id ≢ b.id → nat_eq a.id b.id ≡ true → b
 apart-one a b ne level = absurd (ne (eqb-true a.id b.id level))
 
 -- the headers of an advance
-advance-one : (hash : Hash) (headers : List Header) (state : Header) (p : DualProof) (anchor : Option DualProof) → header_at headers state.id ≡ Some state
+advance-one : (hash : Hash) (headers : List Header) (state : Header) (p : DualProof) (anchor : Option DualProof) → known_header headers state.id ≡ Some state
     → AllByRecursion (FitsAt headers) (headers_shown (says.Advance p anchor)) → first_fail (advance_line_checks hash state p anchor) ≡ Ok tt
     → AreOne Header is_lower is_level header-order (headers_shown (says.Advance p anchor))
 advance-one hash headers state p None kept fit h =
@@ -140,7 +140,7 @@ advance-one hash headers state p (Some anchor) kept fit h =
     turned a b e = grind (arith, nat_tests)
 
 -- the headers that a message shows, which passes and agrees
-shown-by : (hash : Hash) (headers : List Header) (state : Option Header) (message : Message) → first_fail (line_checks hash state message) ≡ Ok tt → IfSome state (λ (s : Header). header_at headers s.id ≡ Some s)
+shown-by : (hash : Hash) (headers : List Header) (state : Option Header) (message : Message) → first_fail (line_checks hash state message) ≡ Ok tt → IfSome state (λ (s : Header). known_header headers s.id ≡ Some s)
     → AllByRecursion (FitsAt headers) (headers_shown message) → AreOne Header is_lower is_level header-order (headers_shown message)
 shown-by hash headers state (says.State header) h kept fit = (tt, tt)
 shown-by hash headers None (says.Dual p) h kept fit = absurd cc

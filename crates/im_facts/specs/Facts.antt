@@ -11,8 +11,8 @@ use Rattle.im_client.specs.Folds.{state_with}
 use Rattle.im_facts.specs.declared.facts.EntryFact.{EntryFact}
 
 -- the kept header of number t
-abbrev pub header_at : List Header → ℕ → Option Header
-header_at headers t = find (λ (header : Header). nat_eq header.id t) headers
+abbrev pub known_header : List Header → ℕ → Option Header
+known_header headers t = find (λ (header : Header). nat_eq header.id t) headers
 
 -- the kept entry i of transaction t
 abbrev pub entry_at : List EntryFact → ℕ → ℕ → Option Entry
@@ -105,7 +105,7 @@ known_after known (message ∷ messages) = known_after (with_message known messa
 
 -- a header is the kept one of its number, where one is kept
 abbrev pub IsAlike : List Header → Header → Type 0
-IsAlike headers header = IfSome (header_at headers header.id) (λ kept. kept ≡ header)
+IsAlike headers header = IfSome (known_header headers header.id) (λ kept. kept ≡ header)
 
 -- an entry is the kept one of its place, where one is kept
 abbrev pub IsEntryAlike : List EntryFact → EntryFact → Type 0
@@ -121,7 +121,7 @@ pub record HeaderDiffers (known : Known) (message : Message) : Type 0 where
   pub shown : Header
   pub is_shown : Contains (headers_shown message) shown
   pub kept : Header
-  pub is_kept : header_at known.headers shown.id ≡ Some kept
+  pub is_kept : known_header known.headers shown.id ≡ Some kept
   pub unlike : kept ≢ shown
 
 -- an entry that it shows is unlike the kept one of its place

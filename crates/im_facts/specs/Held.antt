@@ -11,7 +11,7 @@ use Rattle.im_pairs.specs.Pairs.{AreAmong, HasPair}
 use Rattle.im_pairs.specs.Ranges.{HeaderFits, EntryFits}
 use Rattle.im_carried.specs.Opened.{IsOpened}
 use Rattle.im_hashed.specs.Messages.{strings_of}
-use Rattle.im_facts.specs.Facts.{Known, nothing, header_at}
+use Rattle.im_facts.specs.Facts.{Known, nothing, known_header}
 use Rattle.im_facts.specs.declared.facts.EntryFact.{EntryFact}
 
 -- a header is opened under the state, by its number and its Alh
@@ -30,12 +30,12 @@ pub record LiesUnder (hash : Hash) (header : Header) (strings : List (List ℕ))
 -- an entry lies under the kept header of its transaction
 abbrev pub HoldsEntry : Hash → List Header → List (List ℕ) → EntryFact → Type 0
 HoldsEntry hash headers strings fact =
-    (header : Header) × (header_at headers fact.tx ≡ Some header) × LiesUnder hash header strings fact
+    (header : Header) × (known_header headers fact.tx ≡ Some header) × LiesUnder hash header strings fact
 
 -- all that is known holds under this state, which is itself the kept header of its number
 pub record HoldsUnder (hash : Hash) (state : Header) (known : Known) (strings : List (List ℕ)) : Type 0 where
   pub is : known.state ≡ Some state
-  pub kept : header_at known.headers state.id ≡ Some state
+  pub kept : known_header known.headers state.id ≡ Some state
   pub tree : state.bl_tx_id < state.id
   pub headers : All (HoldsHeader hash state strings) known.headers
   pub entries : All (HoldsEntry hash known.headers strings) known.entries

@@ -2,7 +2,7 @@ ghost use Rattle.std.specs.Prelude.{◌≡◌, ◌↔◌, ◌<◌, ◌≤◌, �
 ghost use Rattle.std.specs.List.Sorted.{IsPartitionPoint};
 ghost use Rattle.im_model.specs.declared.entries.Entry.{Entry as TheEntry};
 ghost use Rattle.im_model.specs.declared.headers.Header.{Header as TheHeader};
-ghost use Rattle.im_facts.specs.Facts.{header_at, entry_at, is_lower, is_level, is_before, is_beside, with_fact, IsBefore};
+ghost use Rattle.im_facts.specs.Facts.{known_header, entry_at, is_lower, is_level, is_before, is_beside, with_fact, IsBefore};
 
 use im_model::entries::Entry;
 use im_model::headers::Header;
@@ -68,7 +68,7 @@ fn header_place(headers: &[Header], header: &Header) -> usize
 // The kept header that has this one's number.
 pub(crate) fn find_header<'h>(headers: &'h [Header], header: &Header) -> Option<&'h Header>
     requires { AllPairs (λ (a b : TheHeader). a.id < b.id) headers.now }
-    ensures { option_map (λ kept. kept.now) result ≡ header_at headers.now header.now.id }
+    ensures { option_map (λ kept. kept.now) result ≡ known_header headers.now header.now.id }
 {
     let place = header_place(headers, header);
     if place < headers.len() && headers[place].id == header.id {

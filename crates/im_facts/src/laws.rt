@@ -7,7 +7,7 @@ ghost use Rattle.im_model.specs.declared.headers.Header.{Header};
 ghost use Rattle.im_pairs.specs.Pairs.{GivesDigests};
 ghost use Rattle.im_wire.specs.declared.messages.Message.{Message};
 ghost use Rattle.im_facts.specs.Accepted.{IsClient};
-ghost use Rattle.im_facts.specs.Facts.{Known, Agrees, Differs, IsRising, with_message, header_at, entry_at, headers_shown, entries_shown};
+ghost use Rattle.im_facts.specs.Facts.{Known, Agrees, Differs, IsRising, with_message, known_header, entry_at, headers_shown, entries_shown};
 ghost use Rattle.im_facts.specs.Folds.{IsVerdict, AreVerdicts, known_by_all};
 ghost use Rattle.im_facts.specs.Verdicts.{Verdict, IsSameVerdict, AreSameVerdicts, messages_of};
 ghost use Rattle.im_facts.specs.declared.facts.EntryFact.{EntryFact};
@@ -19,14 +19,14 @@ pub fn kept_facts_rise()
 
 /// The state is the kept header of its number, whatever the hash function.
 pub fn the_state_is_kept()
-    ensures { (hash : Hash) (known : Known) (state : Header) → IsClient hash known → known.state ≡ Some state → header_at known.headers state.id ≡ Some state }
+    ensures { (hash : Hash) (known : Known) (state : Header) → IsClient hash known → known.state ≡ Some state → known_header known.headers state.id ≡ Some state }
 {}
 
 /// What is kept is what the accepted messages showed: each header and entry that one of them shows is kept at its place,
 /// and each kept one was shown by one of them.
 pub fn facts_are_what_was_shown()
     ensures header { (hash : Hash) (known : Known) (message : Message) (header : Header) → IsClient hash known → Contains known.messages message → Contains (headers_shown message) header
-        → header_at known.headers header.id ≡ Some header }
+        → known_header known.headers header.id ≡ Some header }
     ensures entry { (hash : Hash) (known : Known) (message : Message) (fact : EntryFact) → IsClient hash known → Contains known.messages message → Contains (entries_shown message) fact
         → entry_at known.entries fact.tx fact.index ≡ Some fact.entry }
     ensures no_other_header { (hash : Hash) (known : Known) (header : Header) → IsClient hash known → Contains known.headers header
@@ -46,7 +46,7 @@ pub fn facts_never_differ()
 /// What was found of a place is still found with any message more.
 pub fn what_was_found_is_still_found()
     ensures header { (hash : Hash) (known : Known) (message : Message) (t : ℕ) (header : Header) → IsClient hash known
-        → header_at known.headers t ≡ Some header → header_at (with_message known message).headers t ≡ Some header }
+        → known_header known.headers t ≡ Some header → known_header (with_message known message).headers t ≡ Some header }
     ensures entry { (hash : Hash) (known : Known) (message : Message) (t i : ℕ) (entry : Entry) → IsClient hash known
         → entry_at known.entries t i ≡ Some entry → entry_at (with_message known message).entries t i ≡ Some entry }
 {}

@@ -9,7 +9,7 @@ use Rattle.im_proof.specs.declared.proofs.DualProof.{DualProof}
 use Rattle.im_pairs.specs.Pairs as pairs
 use Rattle.im_pairs.specs.Ranges.{HeaderFits, EntryFits}
 use Rattle.im_carried.specs.Hashed.{DualFits}
-use Rattle.im_wire.specs.Fits.{AreDigests, AreDigestLists, IsSigned, IsHeader, IsEntry, IsDualProof}
+use Rattle.im_wire.specs.Fits.{AreDigestOctets, AreDigestLists, IsSigned, IsHeader, IsEntryInRange, IsDualProof}
 
 signed-fits : (z : ℤ) → IsSigned z → FitsSigned w64 z
 signed-fits (pos n) h = record { sfits = h }
@@ -30,15 +30,15 @@ header-fits h is = record {
 }
 
 -- an entry
-pub entry-fits : (e : Entry) → IsEntry e → EntryFits e
+pub entry-fits : (e : Entry) → IsEntryInRange e → EntryFits e
 entry-fits e is = record {
   md = (let many : length e.md ≤ 256 = is.md.many in omega arith);
   key = (let many : length e.key ≤ 1024 = is.key.many in omega arith);
 }
 
 -- digests
-pub digests-fit : (ds : List (List ℕ)) → AreDigests ds → pairs.AreDigests ds
-unfolding AreDigests
+pub digests-fit : (ds : List (List ℕ)) → AreDigestOctets ds → pairs.AreDigests ds
+unfolding AreDigestOctets
 digests-fit ds is = λ i d less. (is i d less).len
 
 digest_lists-fit : (dss : List (List (List ℕ))) → AreDigestLists dss → All pairs.AreDigests dss

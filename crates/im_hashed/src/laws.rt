@@ -2,7 +2,7 @@
 
 ghost use Rattle.std.specs.Prelude.{◌≡◌, ◌++◌, ◌∷◌, [], List};
 ghost use Rattle.im_digest.specs.Digests.{Hash};
-ghost use Rattle.im_wire.specs.Fits.{IsHeader, IsEntry, IsDualProof};
+ghost use Rattle.im_wire.specs.Fits.{IsHeader, IsEntryInRange, IsDualProof};
 ghost use Rattle.im_model.specs.declared.headers.Header.{Header};
 ghost use Rattle.im_model.specs.declared.entries.Entry.{Entry};
 ghost use Rattle.im_proof.specs.declared.proofs.DualProof.{DualProof};
@@ -12,6 +12,6 @@ ghost use Rattle.im_carried.specs.Hashed.{DualFits};
 /// What the types say of the parts of a message is what the strings that are hashed for them rest on.
 pub fn what_is_shown_fits()
     ensures header { (header : Header) → IsHeader header → HeaderFits header }
-    ensures entry { (entry : Entry) → IsEntry entry → EntryFits entry }
+    ensures entry { (entry : Entry) → IsEntryInRange entry → EntryFits entry }
     ensures dual { (dual : DualProof) → IsDualProof dual → DualFits dual }
 {}

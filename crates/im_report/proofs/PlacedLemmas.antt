@@ -18,7 +18,7 @@ use Rattle.im_wire.specs.declared.messages.Message.TheVariants.{State, Dual, Adv
 use Rattle.im_versions.specs.declared.versions.Version.{Version}
 use Rattle.im_versions.specs.declared.refusals.PlaceError.{PlaceError}
 use Rattle.im_versions.specs.declared.refusals.PlaceError.TheVariants as place
-use Rattle.im_report.specs.Reads.{history_reply, octets_text, place_reply, scan_reply, value_reply, IsGetAnswer, IsReadAt, IsScanAnswer}
+use Rattle.im_report.specs.Reads.{history_reply, bare_or_hex, place_reply, scan_reply, value_reply, IsGetAnswer, IsReadAt, IsScanAnswer}
 use Rattle.im_report.specs.Replies.{advance_reply, anchor_between, between_reply, beyond_reply, dual_between, full_reply, header_reply, item_reply, item_shown, linked_reply, no_entry_reply, order_reply, prove_reply, refused_reply, reserved_reply, shown_header, state_reply, tx_reply}
 
 -- `tx <n>` says so
@@ -148,9 +148,9 @@ pub value-not-placed : (version : Option Version) (n : ℕ) → bytes_eq (value_
 unfolding value_reply
 value-not-placed None n = other-letter 97 _ (value_reply None) n refl refl
 value-not-placed (Some version) n =
-    elim (version.deleted) as (λ b. bytes_eq (if b then codes "absent" else codes "value " ++ octets_text version.value ++ codes " tx " ++ decimal version.tx) (tx_reply n) ≡ false) [
+    elim (version.deleted) as (λ b. bytes_eq (if b then codes "absent" else codes "value " ++ bare_or_hex version.value ++ codes " tx " ++ decimal version.tx) (tx_reply n) ≡ false) [
       | true ↦ other-letter 97 _ (codes "absent") n refl refl
-      | false ↦ other-letter 118 _ (codes "value " ++ octets_text version.value ++ codes " tx " ++ decimal version.tx) n refl refl
+      | false ↦ other-letter 118 _ (codes "value " ++ bare_or_hex version.value ++ codes " tx " ++ decimal version.tx) n refl refl
     ]
 
 -- live keys

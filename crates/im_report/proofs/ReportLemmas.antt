@@ -14,7 +14,7 @@ use Rattle.im_versions.specs.Versions.{versions_of}
 use Rattle.im_versions.specs.Admits.{place_refusal}
 use Rattle.im_report.specs.Reads.{history_reply, IsGetAnswer, IsReadAt, IsScanAnswer}
 use Rattle.im_report.specs.Replies.{advance_reply, header_reply, item_reply, prove_reply, state_reply}
-use Rattle.im_report.specs.Report.{Answered, IsAnswer, IsSetAnswer, Report, floor_after, floor_by, floors, is_placed, written}
+use Rattle.im_report.specs.Report.{Answered, IsAnswer, IsSetAnswer, Report, floor_after, floor_by, floors, is_placed, answer_line}
 use Rattle.im_script.specs.declared.commands.Line.{Line}
 use Rattle.im_script.specs.declared.commands.Command.{Command}
 use Rattle.im_script.specs.declared.commands.Command.TheVariants.{Set, Get, Scan, History, Header, State, Prove, Advance, Item, Link}
@@ -58,11 +58,11 @@ IsAnswer-grow hash h more (Item t i (Some s)) n reply within a = read-grow (λ h
 IsAnswer-grow hash h more (Link count) n reply within a = a
 
 -- a line's octets are added at the end
-octets-next : (octets : List ℕ) (answers : List Answered) (a : Answered) → octets ≡ flat_map written answers → octets ++ written a ≡ flat_map written (answers ++ a ∷ [])
+octets-next : (octets : List ℕ) (answers : List Answered) (a : Answered) → octets ≡ flat_map answer_line answers → octets ++ answer_line a ≡ flat_map answer_line (answers ++ a ∷ [])
 octets-next octets answers a e =
-    ap (λ (o : List ℕ). o ++ written a) e
-    ∙ ap (λ (o : List ℕ). flat_map written answers ++ o) (sym (append-nil (written a)))
-    ∙ sym (flat_map-append written answers (a ∷ []))
+    ap (λ (o : List ℕ). o ++ answer_line a) e
+    ∙ ap (λ (o : List ℕ). flat_map answer_line answers ++ o) (sym (append-nil (answer_line a)))
+    ∙ sym (flat_map-append answer_line answers (a ∷ []))
 
 -- one number more
 range-next : (a n : ℕ) → range_with_len a (suc n) ≡ range_with_len a n ++ (a + n) ∷ []
@@ -133,7 +133,7 @@ floor-next from start h more answers a begun e count each =
 -- One line more is answered at the length of the history, which has grown by what the line placed.
 pub Report-next : (hash : Hash) (h0 h more : List Transaction) (lines : List Line) (octets : List ℕ) (a : Answered)
     → (r : Report hash h0 h lines octets) → IsAnswer hash (h ++ more) a.line.command a.number a.reply → a.number ≡ length (h ++ more)
-    → length more ≡ placed_count a → All (λ tx. tx.bl ≡ floor_after (length h0) r.answers) more → IsHistory (h ++ more) → Report hash h0 (h ++ more) (lines ++ a.line ∷ []) (octets ++ written a)
+    → length more ≡ placed_count a → All (λ tx. tx.bl ≡ floor_after (length h0) r.answers) more → IsHistory (h ++ more) → Report hash h0 (h ++ more) (lines ++ a.line ∷ []) (octets ++ answer_line a)
 Report-next hash h0 h more lines octets a r answer number count floor history =
     let sizes : length (h ++ more) ≡ length h + length more = length-append h more in
     let begun : length h0 ≤ length h = omega (arith, ap length r.begins, length-take (length h0) h) in
@@ -168,7 +168,7 @@ pub record Standing (hash : Hash) (h0 h : List Transaction) (lines : List Line) 
 pub Standing-next : (hash : Hash) (h0 h more : List Transaction) (lines : List Line) (octets : List ℕ) (size : ℕ) (a : Answered)
     → Standing hash h0 h lines octets size → IsAnswer hash (h ++ more) a.line.command a.number a.reply → a.number ≡ length (h ++ more)
     → length more ≡ placed_count a → All (λ tx. tx.bl ≡ size) more → IsHistory (h ++ more)
-    → Standing hash h0 (h ++ more) (lines ++ a.line ∷ []) (octets ++ written a) (floor_by a.line.command a.number size)
+    → Standing hash h0 (h ++ more) (lines ++ a.line ∷ []) (octets ++ answer_line a) (floor_by a.line.command a.number size)
 unfolding Report-next
 Standing-next hash h0 h more lines octets size a s answer number count floor history =
     let over : All (λ tx. tx.bl ≡ floor_after (length h0) s.report.answers) more = λ i d within. floor i d within ∙ sym s.size_is in

@@ -12,29 +12,29 @@ use Rattle.im_versions.specs.declared.refusals.PlaceError.{PlaceError}
 use Rattle.im_versions.specs.declared.refusals.PlaceError.TheVariants.{Memory, Full, Missing, Exists, Modified}
 
 -- octets as they are printed: a bare word where they are one, else `0x` and lower-case hex
-unfoldable pub octets_text : List ℕ → List ℕ
-octets_text octets = if is_bare octets then octets else codes "0x" ++ encode_lower octets
+unfoldable pub bare_or_hex : List ℕ → List ℕ
+bare_or_hex octets = if is_bare octets then octets else codes "0x" ++ encode_lower octets
 
 -- why a transaction wasn't placed: `full`, `missing K`, `exists K tx <m>` or `modified K tx <m>`; want of memory
 -- has no reply
 unfoldable pub place_reply : PlaceError → List ℕ
 place_reply Memory = []
 place_reply Full = full_reply
-place_reply (Missing key) = codes "missing " ++ octets_text key
-place_reply (Exists key tx) = codes "exists " ++ octets_text key ++ codes " tx " ++ decimal tx
-place_reply (Modified key tx) = codes "modified " ++ octets_text key ++ codes " tx " ++ decimal tx
+place_reply (Missing key) = codes "missing " ++ bare_or_hex key
+place_reply (Exists key tx) = codes "exists " ++ bare_or_hex key ++ codes " tx " ++ decimal tx
+place_reply (Modified key tx) = codes "modified " ++ bare_or_hex key ++ codes " tx " ++ decimal tx
 
 -- of a key's last version: `value V tx <m>`, or `absent` where there is none or it is a deletion
 unfoldable pub value_reply : Option Version → List ℕ
 value_reply None = codes "absent"
 value_reply (Some version) =
     if version.deleted then codes "absent"
-    else codes "value " ++ octets_text version.value ++ codes " tx " ++ decimal version.tx
+    else codes "value " ++ bare_or_hex version.value ++ codes " tx " ++ decimal version.tx
 
 -- a live key of a scan: ` K=V@<m>`
 unfoldable pub scanned_text : Version → List ℕ
 scanned_text version =
-    codes " " ++ octets_text version.key ++ codes "=" ++ octets_text version.value ++ codes "@" ++ decimal version.tx
+    codes " " ++ bare_or_hex version.key ++ codes "=" ++ bare_or_hex version.value ++ codes "@" ++ decimal version.tx
 
 -- of live keys: `scan <count>` and each of them
 unfoldable pub scan_reply : List Version → List ℕ
@@ -43,7 +43,7 @@ scan_reply shown = codes "scan " ++ decimal (length shown) ++ flat_map scanned_t
 -- a version of a history: ` V@<m>`, or ` !@<m>` for a deletion
 unfoldable pub version_text : Version → List ℕ
 version_text version =
-    codes " " ++ (if version.deleted then codes "!" else octets_text version.value) ++ codes "@" ++ decimal version.tx
+    codes " " ++ (if version.deleted then codes "!" else bare_or_hex version.value) ++ codes "@" ++ decimal version.tx
 
 -- of a key's versions, oldest first: `history <count>` and each of them
 unfoldable pub history_reply : List Version → List ℕ

@@ -54,8 +54,8 @@ unfoldable pub reply_line : List ℕ → ℕ → List ℕ → List ℕ
 reply_line session n reply = session ++ codes " " ++ decimal n ++ codes " " ++ reply ++ codes "\n"
 
 -- the octets of an answered line
-abbrev pub written : Answered → List ℕ
-written a = reply_line a.line.session a.number a.reply
+abbrev pub answer_line : Answered → List ℕ
+answer_line a = reply_line a.line.session a.number a.reply
 
 -- the reply is `tx <n>` at its own number
 abbrev pub is_placed : Answered → Bool
@@ -92,7 +92,7 @@ pub record Report (hash : Hash) (h0 h : List Transaction) (lines : List Line) (o
   pub answers : List Answered
   -- one reply for each line, in the script's order
   pub lines_are : map (λ a. a.line) answers ≡ lines
-  pub octets_are : octets ≡ flat_map written answers
+  pub octets_are : octets ≡ flat_map answer_line answers
   pub each : All (λ a. IsAnswer hash h a.line.command a.number a.reply) answers
   -- the transactions behind h0 and the lines that reply `tx` are one another's, by the number printed
   pub begins : take (length h0) h ≡ h0

@@ -1,6 +1,6 @@
 ghost use Rattle.std.specs.Prelude.{ℕ, List, ◌≡◌, ◌≢◌, ◌++◌, codes, option_copied, IfOk, OnOk, OnErr};
 ghost use Rattle.std.specs.Fmt.{decimal};
-ghost use Rattle.im_report.specs.Reads.{history_reply, octets_text, place_reply, scan_reply, scanned_text, value_reply, version_text};
+ghost use Rattle.im_report.specs.Reads.{history_reply, bare_or_hex, place_reply, scan_reply, scanned_text, value_reply, version_text};
 
 use im_text::words::is_bare;
 use im_text::writing::{push_hex, push_number};
@@ -10,14 +10,14 @@ use std::alloc::{AllocError, Global};
 
 /// Adds a text, and then octets as they are printed: as they are where they are a bare word, else as `0x`
 /// and lower-case hex. Where memory ran out a part may have been added, and what stood before it stays.
-#[tactic(auto, unfolding(crate::specs::Reads::octets_text))]
+#[tactic(auto, unfolding(crate::specs::Reads::bare_or_hex))]
 pub fn push_octets(
     alloc: Global,
     out: &mut Vec<u8>,
     text: &[u8],
     octets: &[u8],
 ) -> Result<(), AllocError>
-    ensures whole { OnOk result (out.new.items ≡ out.old.items ++ text.now ++ octets_text octets.now) }
+    ensures whole { OnOk result (out.new.items ≡ out.old.items ++ text.now ++ bare_or_hex octets.now) }
     ensures part { OnErr result ((part : List ℕ) × (out.new.items ≡ out.old.items ++ part)) }
 {
     out.extend_from_slice(text)?;
@@ -30,7 +30,7 @@ pub fn push_octets(
 
 // A text and octets.
 fn with_octets(alloc: Global, text: &[u8], octets: &[u8]) -> Result<Vec<u8>, AllocError>
-    ensures { IfOk result (λ out. out.items ≡ text.now ++ octets_text octets.now) }
+    ensures { IfOk result (λ out. out.items ≡ text.now ++ bare_or_hex octets.now) }
 {
     let mut out = Vec::new(alloc);
     push_octets(alloc, &mut out, text, octets)?;
@@ -39,7 +39,7 @@ fn with_octets(alloc: Global, text: &[u8], octets: &[u8]) -> Result<Vec<u8>, All
 
 // A text, octets, and the number of the transaction that wrote them: `<text><octets> tx <m>`.
 fn with_writer(alloc: Global, text: &[u8], octets: &[u8], tx: u64) -> Result<Vec<u8>, AllocError>
-    ensures { IfOk result (λ out. out.items ≡ text.now ++ octets_text octets.now ++ codes " tx " ++ decimal tx) }
+    ensures { IfOk result (λ out. out.items ≡ text.now ++ bare_or_hex octets.now ++ codes " tx " ++ decimal tx) }
 {
     let mut out = with_octets(alloc, text, octets)?;
     push_number(alloc, &mut out, b" tx ", tx)?;

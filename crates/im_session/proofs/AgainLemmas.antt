@@ -15,7 +15,7 @@ use Rattle.im_wire.specs.Lines.{is_open}
 use Rattle.im_script.specs.declared.commands.Line.{Line}
 use Rattle.im_script.specs.declared.commands.Command.{Command}
 use Rattle.im_script.specs.declared.commands.Command.TheVariants.{Set, Get, Scan, History, Header, State, Prove, Advance, Item, Link}
-use Rattle.im_report.specs.Report.{Answered, Report, written}
+use Rattle.im_report.specs.Report.{Answered, Report, answer_line}
 use Rattle.im_accept.specs.Messages.{IsReadBack}
 use Rattle.im_accept.specs.Taken.{line_text, AreReadBack, HaveSessions}
 use Rattle.im_accept.proofs.CutLemmas.{answer-lacks, line-lacks, one-answers, texts-of}
@@ -41,7 +41,7 @@ closed-again hash history (Link count) reply closed = tt
 pub record Told (hash : Hash) (h : List Transaction) (lines : List Line) (octets : List ℕ) : Type 0 where
   pub answers : List Answered
   pub lines_are : map (λ a. a.line) answers ≡ lines
-  pub octets_are : octets ≡ flat_map written answers
+  pub octets_are : octets ≡ flat_map answer_line answers
   pub within : All (λ a. a.number ≤ length h) answers
   pub plain : All (λ a. Lacks 10 a.reply) answers
   pub again : AreReadBack hash h answers
@@ -58,7 +58,7 @@ Told-first hash found = record {
 
 -- one line more, at the length of the history that it left
 next : (hash : Hash) (h more : List Transaction) (lines : List Line) (octets : List ℕ) (a : Answered) → a.number ≡ length (h ++ more) → Lacks 10 a.reply
-    → IsReadBack hash (h ++ more) a.line.command a.reply → Told hash h lines octets → Told hash (h ++ more) (lines ++ a.line ∷ []) (octets ++ written a)
+    → IsReadBack hash (h ++ more) a.line.command a.reply → Told hash h lines octets → Told hash (h ++ more) (lines ++ a.line ∷ []) (octets ++ answer_line a)
 next hash h more lines octets a number plain again t =
     let sizes : length (h ++ more) ≡ length h + length more = length-append h more in
     let all : take a.number (h ++ more) ≡ h ++ more = ap (λ n. take n (h ++ more)) number ∙ take-length (h ++ more) in
@@ -66,9 +66,9 @@ next hash h more lines octets a number plain again t =
     record {
       answers = t.answers ++ a ∷ [];
       lines_are = map-append (λ (x : Answered). x.line) t.answers (a ∷ []) ∙ ap (λ (ls : List Line). ls ++ a.line ∷ []) t.lines_are;
-      octets_are = ap (λ (o : List ℕ). o ++ written a) t.octets_are
-          ∙ ap (λ (o : List ℕ). flat_map written t.answers ++ o) (sym (append-nil (written a)))
-          ∙ sym (flat_map-append written t.answers (a ∷ []));
+      octets_are = ap (λ (o : List ℕ). o ++ answer_line a) t.octets_are
+          ∙ ap (λ (o : List ℕ). flat_map answer_line t.answers ++ o) (sym (append-nil (answer_line a)))
+          ∙ sym (flat_map-append answer_line t.answers (a ∷ []));
       within = All-push (λ (x : Answered). x.number ≤ length (h ++ more)) t.answers a
           (λ k d w. let most : (get_or t.answers k d).number ≤ length h = t.within k d w in omega arith) (omega arith);
       plain = All-push (λ (x : Answered). Lacks 10 x.reply) t.answers a t.plain plain;

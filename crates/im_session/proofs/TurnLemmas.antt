@@ -17,7 +17,7 @@ use Rattle.im_versions.specs.declared.refusals.PlaceError.{PlaceError}
 use Rattle.im_versions.specs.declared.refusals.PlaceError.TheVariants.{Memory}
 use Rattle.im_report.specs.Reads.{place_reply}
 use Rattle.im_report.specs.Replies.{advance_reply, header_reply, item_reply, linked_reply, prove_reply, refused_reply, reserved_reply, state_reply, tx_reply}
-use Rattle.im_report.specs.Report.{Answered, IsAnswer, floor_by, written}
+use Rattle.im_report.specs.Report.{Answered, IsAnswer, floor_by, answer_line}
 use Rattle.im_script.specs.declared.commands.Line.{Line}
 use Rattle.im_script.specs.declared.commands.Command.{Command}
 use Rattle.im_script.specs.declared.commands.Command.TheVariants.{Set, Get, Scan, History, Header, State, Prove, Advance, Item, Link}
@@ -189,7 +189,7 @@ turn-report hash constant found lines line before after old new r t =
     let said : Answered = record { line = line; number = length after.transactions; reply = t.reply } in
     let P : List Transaction → Type 0 = λ txs. Standing hash found txs (lines ++ line ∷ []) new (length after.tree) in
     let Q : List ℕ → Type 0 = λ o. Standing hash found h (lines ++ line ∷ []) o (length after.tree) in
-    let R : ℕ → Type 0 = λ n. Standing hash found h (lines ++ line ∷ []) (old ++ written said) n in
+    let R : ℕ → Type 0 = λ n. Standing hash found h (lines ++ line ∷ []) (old ++ answer_line said) n in
     let A : List Transaction → Type 0 = λ txs. IsAnswer hash txs line.command (length after.transactions) t.reply in
     let H : List Transaction → Type 0 = λ txs. IsHistory txs in
     subst P (sym a.grown) (subst Q (sym t.written) (subst R (sym a.floor)

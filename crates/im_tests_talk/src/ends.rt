@@ -2,7 +2,7 @@
 
 use im_app::status::Status;
 use im_format::damages::{Damage, Difference};
-use im_words::{Asked, Link, WordsError, read_words};
+use im_words::{Link, Request, WordsError, read_words};
 use std::alloc::{AllocError, Global};
 use std::test::Fail;
 
@@ -43,7 +43,7 @@ fn each_end_has_its_status_its_words_and_its_text(rt: HostRuntime) -> Result<(),
 }
 
 // What a command line asks for whose words are parted by spaces.
-fn answer(alloc: Global, line: &str) -> Result<Result<Asked, WordsError>, AllocError> {
+fn answer(alloc: Global, line: &str) -> Result<Result<Request, WordsError>, AllocError> {
     let mut words = Vec::new(alloc);
     for word in line.split(' ') {
         let word = String::from_str(alloc, word)?;
@@ -60,7 +60,7 @@ fn a_run_links_by_itself_unless_the_words_say_otherwise(rt: HostRuntime) -> Resu
         ("im run --link manual --logs 3", 3, Link::Manual),
     ] {
         assert!(rt;
-            answer(rt.alloc(), line)? == Ok(Asked::Run { logs, link }),
+            answer(rt.alloc(), line)? == Ok(Request::Run { logs, link }),
             "{line}"
         );
     }

@@ -18,7 +18,7 @@ use Rattle.im_client.specs.Texts.{outcome_line, outcome_lines}
 use Rattle.im_client.specs.declared.outcomes.Outcome.{Outcome}
 use Rattle.im_client.specs.declared.outcomes.Outcome.TheVariants.{Accepted}
 use Rattle.im_verify.specs.Judged.{NoneRefused, SomeRefused}
-use Rattle.im_verify.specs.Turns.{Adds, Done, HalfTurn, TakesAll, TakesAt, TakesInto, TakesSome, Turn}
+use Rattle.im_verify.specs.Turns.{WritesAndKeeps, WrittenAndKept, HalfTurn, TakesAll, TakesAt, TakesInto, TakesSome, LineTurn}
 use Rattle.im_verify.proofs.FoldLemmas.{fold-push, lines-push, state-push, texts-push}
 
 keeps-nil : (kept : Option (List (List ℕ))) → kept ≡ option_map (λ xs. xs ++ []) kept
@@ -30,30 +30,30 @@ keeps-twice None a b = refl
 keeps-twice (Some xs) a b = ap Some (append_assoc xs a b)
 
 -- nothing was done
-pub adds-nil : (d : Done) → Adds [] [] d d
+pub adds-nil : (d : WrittenAndKept) → WritesAndKeeps [] [] d d
 adds-nil d = record { told = Appends-nil d.written; keeps = keeps-nil d.kept }
 
 -- one thing was done, and then another
-pub adds-trans : (x y : List ℕ) (a b : List (List ℕ)) (from mid to : Done) → Adds x a from mid → Adds y b mid to → Adds (x ++ y) (a ++ b) from to
+pub adds-trans : (x y : List ℕ) (a b : List (List ℕ)) (from mid to : WrittenAndKept) → WritesAndKeeps x a from mid → WritesAndKeeps y b mid to → WritesAndKeeps (x ++ y) (a ++ b) from to
 adds-trans x y a b from mid to p q = record {
   told = Appends-trans from.written mid.written to.written x y p.told q.told;
   keeps = q.keeps ∙ ap (option_map (λ (xs : List (List ℕ)). xs ++ b)) p.keeps ∙ keeps-twice from.kept a b;
 }
 
 -- the lines of a stream before its rest were judged from a state on, told and kept
-pub record Progress (hash : Hash) (state : Option Header) (stream rest : List ℕ) (number : ℕ) (refused : Bool) (next : Option Header) (from to : Done) : Type 0 where
+pub record Progress (hash : Hash) (state : Option Header) (stream rest : List ℕ) (number : ℕ) (refused : Bool) (next : Option Header) (from to : WrittenAndKept) : Type 0 where
   pub lines : List (List ℕ)
   pub outcomes : List Outcome
   pub fold : IsFold hash state lines outcomes
   pub follows : next ≡ state_after state outcomes
   pub count : number ≡ length outcomes
   pub behind : (more : List (List ℕ)) → AreTexts rest more → AreTexts stream (lines ++ more)
-  pub adds : Adds (outcome_lines 1 outcomes) (kept_texts outcomes) from to
+  pub adds : WritesAndKeeps (outcome_lines 1 outcomes) (kept_texts outcomes) from to
   pub accepted : refused ≡ false → NoneRefused outcomes
   pub some : refused ≡ true → SomeRefused outcomes
 
 -- before the first line
-pub progress-first : (hash : Hash) (state : Option Header) (stream : List ℕ) (d : Done) → Progress hash state stream stream 0 false state d d
+pub progress-first : (hash : Hash) (state : Option Header) (stream : List ℕ) (d : WrittenAndKept) → Progress hash state stream stream 0 false state d d
 progress-first hash state stream d = record {
   lines = [];
   outcomes = [];
@@ -92,16 +92,16 @@ some-push os o true b old new e = some-more os o (old refl)
 some-push os o false b old new e = Any-push IsRefused os o (new e)
 
 -- one line more
-pub progress-next : (hash own : Hash) (state : Option Header) (stream rest line behind : List ℕ) (number : ℕ) (refused r : Bool) (now next : Option Header) (from mid to : Done)
-    → own ≡ hash → 0 < length rest → IsFirstText rest line behind → Progress hash state stream rest number refused now from mid → Turn own (number + 1) line r now next mid to
+pub progress-next : (hash own : Hash) (state : Option Header) (stream rest line behind : List ℕ) (number : ℕ) (refused r : Bool) (now next : Option Header) (from mid to : WrittenAndKept)
+    → own ≡ hash → 0 < length rest → IsFirstText rest line behind → Progress hash state stream rest number refused now from mid → LineTurn own (number + 1) line r now next mid to
     → Progress hash state stream behind (number + 1) (refused || r) next from to
 progress-next hash own state stream rest line behind number refused r now next from mid to own_is some first p t =
     let is : IsOutcome hash (state_after state p.outcomes) line t.outcome = subst (λ (s : Option Header). IsOutcome hash s line t.outcome) p.follows (subst (λ (h : Hash). IsOutcome h now line t.outcome) own_is t.is) in
     let size : length (p.outcomes ++ t.outcome ∷ []) ≡ length p.outcomes + 1 = length-append p.outcomes (t.outcome ∷ []) in
     let same : number ≡ length p.outcomes = p.count in
-    let both : Adds (outcome_lines 1 p.outcomes ++ outcome_line (number + 1) t.outcome) (kept_texts p.outcomes ++ kept_text t.outcome) from to =
+    let both : WritesAndKeeps (outcome_lines 1 p.outcomes ++ outcome_line (number + 1) t.outcome) (kept_texts p.outcomes ++ kept_text t.outcome) from to =
     adds-trans _ _ _ _ from mid to p.adds t.tells in
-    let A : List ℕ → List (List ℕ) → Type 0 = λ x a. Adds x a from to in
+    let A : List ℕ → List (List ℕ) → Type 0 = λ x a. WritesAndKeeps x a from to in
     record {
       lines = p.lines ++ line ∷ [];
       outcomes = p.outcomes ++ t.outcome ∷ [];
@@ -125,7 +125,7 @@ no-octets [] e = refl
 no-octets (o ∷ octets) e = absurd (let z : length (o ∷ octets) ≡ 0 = eqb-true _ _ e in omega arith)
 
 -- no line is left
-pub takes-all : (hash : Hash) (state : Option Header) (stream rest : List ℕ) (number : ℕ) (refused : Bool) (next : Option Header) (from to : Done)
+pub takes-all : (hash : Hash) (state : Option Header) (stream rest : List ℕ) (number : ℕ) (refused : Bool) (next : Option Header) (from to : WrittenAndKept)
     → rest ≡ [] → Progress hash state stream rest number refused next from to → TakesAll hash state stream refused from to
 takes-all hash state stream rest number refused next from to none p = record {
   texts = p.lines;
@@ -138,7 +138,7 @@ takes-all hash state stream rest number refused next from to none p = record {
 }
 
 -- nothing was done of the next line
-pub takes-some : (hash : Hash) (state : Option Header) (stream rest : List ℕ) (number : ℕ) (refused : Bool) (next : Option Header) (from mid to : Done)
+pub takes-some : (hash : Hash) (state : Option Header) (stream rest : List ℕ) (number : ℕ) (refused : Bool) (next : Option Header) (from mid to : WrittenAndKept)
     → to.written ≡ mid.written → to.kept ≡ mid.kept → Progress hash state stream rest number refused next from mid → TakesSome hash state stream from to
 takes-some hash state stream rest number refused next from mid to written kept p =
     let more = texts-exist rest in
@@ -159,7 +159,7 @@ front-and-next front line more =
     ap (take (length (front ++ line ∷ []))) (sym (append_assoc front (line ∷ []) more)) ∙ take-append_seam (front ++ line ∷ []) more
 
 -- nothing was done of the next line, which is accepted
-pub takes-at : (hash own : Hash) (state : Option Header) (stream rest line behind : List ℕ) (number : ℕ) (refused : Bool) (now : Option Header) (from mid to : Done)
+pub takes-at : (hash own : Hash) (state : Option Header) (stream rest line behind : List ℕ) (number : ℕ) (refused : Bool) (now : Option Header) (from mid to : WrittenAndKept)
     → own ≡ hash → 0 < length rest → IsFirstText rest line behind → to.written ≡ mid.written → to.kept ≡ mid.kept → Progress hash state stream rest number refused now from mid
     → (next : Message) × IsOutcome own now line (Accepted next) → TakesAt hash state stream from to
 takes-at hash own state stream rest line behind number refused now from mid to own_is some first written kept p (next, accepted) =
@@ -185,7 +185,7 @@ takes-at hash own state stream rest line behind number refused now from mid to o
     }
 
 -- the next line was told in part
-pub takes-into : (hash own : Hash) (state : Option Header) (stream rest line behind : List ℕ) (number : ℕ) (refused : Bool) (now : Option Header) (from mid to : Done)
+pub takes-into : (hash own : Hash) (state : Option Header) (stream rest line behind : List ℕ) (number : ℕ) (refused : Bool) (now : Option Header) (from mid to : WrittenAndKept)
     → own ≡ hash → 0 < length rest → IsFirstText rest line behind → Progress hash state stream rest number refused now from mid → HalfTurn own (number + 1) line now mid to
     → TakesInto hash state stream from to
 takes-into hash own state stream rest line behind number refused now from mid to own_is some first p t =
@@ -193,9 +193,9 @@ takes-into hash own state stream rest line behind number refused now from mid to
     let is : IsOutcome hash (state_after state p.outcomes) line t.outcome = subst (λ (s : Option Header). IsOutcome hash s line t.outcome) p.follows (subst (λ (h : Hash). IsOutcome h now line t.outcome) own_is t.is) in
     let fold : IsFold hash state (p.lines ++ line ∷ []) (p.outcomes ++ t.outcome ∷ []) = fold-push hash state p.lines p.outcomes line t.outcome p.fold is in
     let n : number + 1 ≡ length p.outcomes + 1 = ap (λ k. k + 1) p.count in
-    let both : Adds (outcome_lines 1 p.outcomes ++ take t.tells.0 (outcome_line (number + 1) t.outcome)) (kept_texts p.outcomes ++ kept_text t.outcome) from to =
+    let both : WritesAndKeeps (outcome_lines 1 p.outcomes ++ take t.tells.0 (outcome_line (number + 1) t.outcome)) (kept_texts p.outcomes ++ kept_text t.outcome) from to =
     adds-trans _ _ _ _ from mid to p.adds t.tells.2 in
-    let A : List ℕ → List (List ℕ) → Type 0 = λ x a. Adds x a from to in
+    let A : List ℕ → List (List ℕ) → Type 0 = λ x a. WritesAndKeeps x a from to in
     record {
       texts = p.lines ++ line ∷ more.0;
       are = p.behind (line ∷ more.0) (texts-more rest line behind more.0 some first more.1);

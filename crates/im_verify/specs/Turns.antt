@@ -13,64 +13,64 @@ use Rattle.im_client.specs.declared.outcomes.Outcome.TheVariants.{Accepted}
 use Rattle.im_verify.specs.Judged.{AreTaken, NoneRefused, SomeRefused}
 
 -- what is written in a sink and kept by a keeper, where these tell it
-pub record Done : Type 0 where
+pub record WrittenAndKept : Type 0 where
   pub written : Option (List ℕ)
   pub kept : Option (List (List ℕ))
 
 -- these octets written, and these lines kept
-abbrev pub done : Option (List ℕ) → Option (List (List ℕ)) → Done
+abbrev pub done : Option (List ℕ) → Option (List (List ℕ)) → WrittenAndKept
 done written kept = record { written = written; kept = kept }
 
 -- octets were written, and lines kept
-pub record Adds (octets : List ℕ) (lines : List (List ℕ)) (from to : Done) : Type 0 where
+pub record WritesAndKeeps (octets : List ℕ) (lines : List (List ℕ)) (from to : WrittenAndKept) : Type 0 where
   pub told : Appends from.written to.written octets
   pub keeps : to.kept ≡ option_map (λ xs. xs ++ lines) from.kept
 
 -- what tells a line was written, and its accepted message kept
-abbrev pub Tells : ℕ → Outcome → Done → Done → Type 0
-Tells number outcome from to = Adds (outcome_line number outcome) (kept_text outcome) from to
+abbrev pub TellsOutcome : ℕ → Outcome → WrittenAndKept → WrittenAndKept → Type 0
+TellsOutcome number outcome from to = WritesAndKeeps (outcome_line number outcome) (kept_text outcome) from to
 
 -- a front part of what tells a line was written, not all of it, and its accepted message kept
-abbrev pub TellsPart : ℕ → Outcome → Done → Done → Type 0
+abbrev pub TellsPart : ℕ → Outcome → WrittenAndKept → WrittenAndKept → Type 0
 TellsPart number outcome from to =
-    (part : ℕ) × (part < length (outcome_line number outcome)) × Adds (take part (outcome_line number outcome)) (kept_text outcome) from to
+    (part : ℕ) × (part < length (outcome_line number outcome)) × WritesAndKeeps (take part (outcome_line number outcome)) (kept_text outcome) from to
 
 -- a line was judged and told, and its accepted message kept; the client follows
-pub record Turn (hash : Hash) (number : ℕ) (line : List ℕ) (refused : Bool) (state next : Option Header) (from to : Done) : Type 0 where
+pub record LineTurn (hash : Hash) (number : ℕ) (line : List ℕ) (refused : Bool) (state next : Option Header) (from to : WrittenAndKept) : Type 0 where
   pub outcome : Outcome
   pub is : IsOutcome hash state line outcome
-  pub tells : Tells number outcome from to
+  pub tells : TellsOutcome number outcome from to
   pub follows : next ≡ state_by state outcome
   pub accepted : refused ≡ false → IsRefused outcome → ⊥
   pub was : refused ≡ true → IsRefused outcome
 
 -- a line was judged and told in part, and its accepted message kept
-pub record HalfTurn (hash : Hash) (number : ℕ) (line : List ℕ) (state : Option Header) (from to : Done) : Type 0 where
+pub record HalfTurn (hash : Hash) (number : ℕ) (line : List ℕ) (state : Option Header) (from to : WrittenAndKept) : Type 0 where
   pub outcome : Outcome
   pub is : IsOutcome hash state line outcome
   pub tells : TellsPart number outcome from to
 
 -- the lines of a stream were judged from a state on, told and kept
-pub record TakesAll (hash : Hash) (state : Option Header) (stream : List ℕ) (refused : Bool) (from to : Done) : Type 0 where
+pub record TakesAll (hash : Hash) (state : Option Header) (stream : List ℕ) (refused : Bool) (from to : WrittenAndKept) : Type 0 where
   pub texts : List (List ℕ)
   pub are : AreTexts stream texts
   pub outcomes : List Outcome
   pub fold : IsFold hash state texts outcomes
-  pub adds : Adds (outcome_lines 1 outcomes) (kept_texts outcomes) from to
+  pub adds : WritesAndKeeps (outcome_lines 1 outcomes) (kept_texts outcomes) from to
   pub accepted : refused ≡ false → NoneRefused outcomes
   pub some : refused ≡ true → SomeRefused outcomes
 
 -- the first lines of a stream were
-pub record TakesSome (hash : Hash) (state : Option Header) (stream : List ℕ) (from to : Done) : Type 0 where
+pub record TakesSome (hash : Hash) (state : Option Header) (stream : List ℕ) (from to : WrittenAndKept) : Type 0 where
   pub texts : List (List ℕ)
   pub are : AreTexts stream texts
   pub count : ℕ
   pub outcomes : List Outcome
   pub fold : IsFold hash state (take count texts) outcomes
-  pub adds : Adds (outcome_lines 1 outcomes) (kept_texts outcomes) from to
+  pub adds : WritesAndKeeps (outcome_lines 1 outcomes) (kept_texts outcomes) from to
 
 -- the first lines of a stream were, before a line that is accepted, of which nothing was told or kept
-pub record TakesAt (hash : Hash) (state : Option Header) (stream : List ℕ) (from to : Done) : Type 0 where
+pub record TakesAt (hash : Hash) (state : Option Header) (stream : List ℕ) (from to : WrittenAndKept) : Type 0 where
   pub texts : List (List ℕ)
   pub are : AreTexts stream texts
   pub count : ℕ
@@ -78,10 +78,10 @@ pub record TakesAt (hash : Hash) (state : Option Header) (stream : List ℕ) (fr
   pub outcomes : List Outcome
   pub next : Message
   pub fold : IsFold hash state (take (count + 1) texts) (outcomes ++ Accepted next ∷ [])
-  pub adds : Adds (outcome_lines 1 outcomes) (kept_texts outcomes) from to
+  pub adds : WritesAndKeeps (outcome_lines 1 outcomes) (kept_texts outcomes) from to
 
 -- the first lines of a stream were, and the next one was told in part
-pub record TakesInto (hash : Hash) (state : Option Header) (stream : List ℕ) (from to : Done) : Type 0 where
+pub record TakesInto (hash : Hash) (state : Option Header) (stream : List ℕ) (from to : WrittenAndKept) : Type 0 where
   pub texts : List (List ℕ)
   pub are : AreTexts stream texts
   pub count : ℕ
@@ -90,7 +90,7 @@ pub record TakesInto (hash : Hash) (state : Option Header) (stream : List ℕ) (
   pub fold : IsFold hash state (take count texts) (outcomes ++ last ∷ [])
   pub part : ℕ
   pub unfinished : part < length (outcome_line (length outcomes + 1) last)
-  pub adds : Adds (outcome_lines 1 outcomes ++ take part (outcome_line (length outcomes + 1) last))
+  pub adds : WritesAndKeeps (outcome_lines 1 outcomes ++ take part (outcome_line (length outcomes + 1) last))
       (kept_texts (outcomes ++ last ∷ [])) from to
 
 -- a client without a state took these kept lines

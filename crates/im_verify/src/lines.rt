@@ -4,7 +4,7 @@ ghost use Rattle.im_client.specs.Folds.{IsOutcome, kept_text};
 ghost use Rattle.im_client.specs.declared.outcomes.Outcome.TheVariants.{Accepted};
 ghost use Rattle.im_edge.specs.Counts.{Rose};
 ghost use Rattle.im_wire.specs.declared.messages.Message.{Message};
-ghost use Rattle.im_verify.specs.Turns.{done, HalfTurn, TakesAll, TakesAt, TakesInto, TakesSome, Tells, TellsPart, Turn};
+ghost use Rattle.im_verify.specs.Turns.{done, HalfTurn, TakesAll, TakesAt, TakesInto, TakesSome, TellsOutcome, TellsPart, LineTurn};
 
 use crate::kept::is_refused;
 use crate::stops::Stop;
@@ -46,7 +46,7 @@ fn keep_and_tell<K: Sink, P: Keeper>(
     number: u64,
     outcome: &Outcome,
 ) -> Result<(), Stop>
-    ensures ok { OnOk result (Tells number outcome.now
+    ensures ok { OnOk result (TellsOutcome number outcome.now
         (done (K.written sink.old) (P.kept keeper.old)) (done (K.written sink.new) (P.kept keeper.new))) }
     ensures part { result ≡ Err Stop.WriteFault → TellsPart number outcome.now
         (done (K.written sink.old) (P.kept keeper.old)) (done (K.written sink.new) (P.kept keeper.new)) }
@@ -75,7 +75,7 @@ fn take_line<H: Hash32, K: Sink, P: Keeper>(
     number: u64,
     line: &[u8],
 ) -> Result<bool, Stop>
-    ensures ok { IfOk result (λ refused. Turn (H.digest client.old.hash) number line.now refused client.old.state client.new.state
+    ensures ok { IfOk result (λ refused. LineTurn (H.digest client.old.hash) number line.now refused client.old.state client.new.state
         (done (K.written sink.old) (P.kept keeper.old)) (done (K.written sink.new) (P.kept keeper.new))) }
     ensures same { client.new.hash ≡ client.old.hash }
     ensures part { result ≡ Err Stop.WriteFault → HalfTurn (H.digest client.old.hash) number line.now client.old.state

@@ -8,7 +8,7 @@ use Rattle.serde_json.specs.Data.{Data, number, depth, items_depth}
 use Rattle.serde_json.specs.Find.{of_integer}
 use Rattle.serde_json.specs.View.{items_of}
 use Rattle.im_wire.specs.Fields.{number_of, signed_of, octets_of, digest_of, digests_of, digest_lists_of, each_of}
-use Rattle.im_wire.specs.Fits.{IsDigest, AreDigests, AreDigestLists, IsBounded, IsSigned}
+use Rattle.im_wire.specs.Fits.{IsDigest, AreDigestOctets, AreDigestLists, IsBounded, IsSigned}
 use Rattle.im_wire.specs.Texts.{hex_data, number_data, digests_data, digest_lists_data}
 use Rattle.im_wire.proofs.ReadAgain.{IsPlain, ArePlain}
 
@@ -40,14 +40,14 @@ each-again read write P one (x ∷ xs) all =
     rw (one x (All-head P x xs all), each-again read write P one xs (All-tail P x xs all)) refl
 
 -- digests
-pub digests-again : (ds : List (List ℕ)) → AreDigests ds → digests_of (digests_data ds) ≡ Some ds
-unfolding digests_of digests_data AreDigests
+pub digests-again : (ds : List (List ℕ)) → AreDigestOctets ds → digests_of (digests_data ds) ≡ Some ds
+unfolding digests_of digests_data AreDigestOctets
 digests-again ds all = each-again digest_of hex_data IsDigest digest-again ds all
 
 -- lists of digests
 pub digest_lists-again : (dss : List (List (List ℕ))) → AreDigestLists dss → digest_lists_of (digest_lists_data dss) ≡ Some dss
 unfolding digest_lists_of digest_lists_data
-digest_lists-again dss all = each-again digests_of digests_data AreDigests digests-again dss all
+digest_lists-again dss all = each-again digests_of digests_data AreDigestOctets digests-again dss all
 
 -- a number with a sign is plain
 pub signed-plain : (z : ℤ) → IsSigned z → IsPlain (number (of_integer z))

@@ -15,9 +15,9 @@ use Rattle.im_proof.specs.declared.proofs.DualProof.{DualProof}
 use Rattle.im_wire.specs.declared.messages.Message.{Message}
 use Rattle.im_wire.specs.declared.messages.Message.TheVariants.{State, Dual, Advance, Item}
 use Rattle.im_wire.specs.Fields.{number_of, signed_of, octets_of, digest_of, digests_of, digest_lists_of, each_of, field}
-use Rattle.im_wire.specs.Fits.{IsDigest, AreDigests, AreDigestLists, IsBounded, IsSigned, IsHeader, IsEntry, IsAdvanceProof, IsDualProof, IsAnchor, IsMessage}
+use Rattle.im_wire.specs.Fits.{IsDigest, AreDigestOctets, AreDigestLists, IsBounded, IsSigned, IsHeader, IsEntryInRange, IsAdvanceProof, IsDualProof, IsAnchor, IsMessage}
 use Rattle.im_wire.specs.Gives.{◌>>=◌}
-use Rattle.im_wire.specs.Messages.{header_of, entry_of, advance_proof_of, dual_proof_of, anchor_of, state_of, dual_of, advance_of, item_of, message_as, message_of, HasMessage}
+use Rattle.im_wire.specs.Messages.{header_of_data, entry_of_data, advance_proof_of, dual_proof_of, anchor_of, state_message, dual_message, advance_message, item_message, message_as, message_of, HasMessage}
 use Rattle.im_wire.proofs.KnownLemmas.{AllKnown, ItemsKnown, get-known, read-known}
 use Rattle.im_octet.proofs.Common.{some-is}
 use Rattle.im_wire.proofs.OptionLemmas.{bind-some, if-some, ok-some}
@@ -82,8 +82,8 @@ array-known (string s) ds known e = cc e
 array-known (array es) ds known e = subst ItemsKnown (some-is es ds e) known
 array-known (object ms) ds known e = cc e
 
-digests-fit : Finds digests_of AreDigests
-unfolding digests_of AreDigests
+digests-fit : Finds digests_of AreDigestOctets
+unfolding digests_of AreDigestOctets
 digests-fit d xs known e =
     let a = bind-some (as_array d) (each_of digest_of) xs e in
     each-fits IsDigest digest_of digest-fits a.0 xs (array-known d a.0 known a.1) a.2
@@ -92,7 +92,7 @@ digest_lists-fit : Finds digest_lists_of AreDigestLists
 unfolding digest_lists_of
 digest_lists-fit d xs known e =
     let a = bind-some (as_array d) (each_of digests_of) xs e in
-    each-fits AreDigests digests_of digests-fit a.0 xs (array-known d a.0 known a.1) a.2
+    each-fits AreDigestOctets digests_of digests-fit a.0 xs (array-known d a.0 known a.1) a.2
 
 -- of a member, and the step behind it
 next : {A B : Type 0} (P : A → Type 0) (k : List ℕ) (read : Data → Option A) (f : A → Option B) (d : Data) (y : B)
@@ -102,8 +102,8 @@ next P k read f d y known one e =
     let b = bind-some (get k d) read a.0 a.1 in
     (a.0, one b.0 a.0 (get-known k d b.0 known b.1) b.2, a.2)
 
-header-fits : Finds header_of IsHeader
-unfolding header_of
+header-fits : Finds header_of_data IsHeader
+unfolding header_of_data
 header-fits d h known e =
     let bl_root = next IsDigest (codes "blRoot") digest_of _ d h known digest-fits e in
     let bl_tx_id = next (λ n. n < 2 ^ 64) (codes "blTxId") (number_of (2 ^ 64)) _ d h known (number-fits (2 ^ 64)) bl_root.2 in
@@ -118,21 +118,21 @@ header-fits d h known e =
     let fits : IsHeader made = record { id = id.1; ts = ts.1; bl_tx_id = bl_tx_id.1; bl_root = bl_root.1; prev_alh = prev_alh.1; version = version.1; md = md.1; nentries = nentries.1; eh = eh.1 } in
     subst IsHeader (some-is made h version.2) fits
 
-entry-fits : Finds entry_of IsEntry
-unfolding entry_of
+entry-fits : Finds entry_of_data IsEntryInRange
+unfolding entry_of_data
 entry-fits d x known e =
     let key = next (IsBounded 1 1024) (codes "key") (octets_of 1 1024) _ d x known (octets-fit 1 1024) e in
     let md = next (IsBounded 0 256) (codes "md") (octets_of 0 256) _ d x known (octets-fit 0 256) key.2 in
     let value = next (IsBounded 0 4096) (codes "value") (octets_of 0 4096) _ d x known (octets-fit 0 4096) md.2 in
     let made : Entry = record { md = md.0; key = key.0; value = value.0 } in
-    let fits : IsEntry made = record { md = md.1; key = key.1; value = value.1 } in
-    subst IsEntry (some-is made x value.2) fits
+    let fits : IsEntryInRange made = record { md = md.1; key = key.1; value = value.1 } in
+    subst IsEntryInRange (some-is made x value.2) fits
 
 advance_proof-fits : Finds advance_proof_of IsAdvanceProof
 unfolding advance_proof_of
 advance_proof-fits d x known e =
     let inclusions = next AreDigestLists (codes "inclusions") digest_lists_of _ d x known digest_lists-fit e in
-    let terms = next AreDigests (codes "terms") digests_of _ d x known digests-fit inclusions.2 in
+    let terms = next AreDigestOctets (codes "terms") digests_of _ d x known digests-fit inclusions.2 in
     let made : AdvanceProof = record { terms = terms.0; inclusions = inclusions.0 } in
     let fits : IsAdvanceProof made = record { terms = terms.1; inclusions = inclusions.1 } in
     subst IsAdvanceProof (some-is made x terms.2) fits
@@ -140,13 +140,13 @@ advance_proof-fits d x known e =
 dual_proof-fits : Finds dual_proof_of IsDualProof
 unfolding dual_proof_of
 dual_proof-fits d p known e =
-    let consistency = next AreDigests (codes "consistency") digests_of _ d p known digests-fit e in
-    let inclusion = next AreDigests (codes "inclusion") digests_of _ d p known digests-fit consistency.2 in
-    let last = next AreDigests (codes "lastInclusion") digests_of _ d p known digests-fit inclusion.2 in
-    let linear = next AreDigests (codes "linear") digests_of _ d p known digests-fit last.2 in
+    let consistency = next AreDigestOctets (codes "consistency") digests_of _ d p known digests-fit e in
+    let inclusion = next AreDigestOctets (codes "inclusion") digests_of _ d p known digests-fit consistency.2 in
+    let last = next AreDigestOctets (codes "lastInclusion") digests_of _ d p known digests-fit inclusion.2 in
+    let linear = next AreDigestOctets (codes "linear") digests_of _ d p known digests-fit last.2 in
     let advance = next IsAdvanceProof (codes "linearAdvance") advance_proof_of _ d p known advance_proof-fits linear.2 in
-    let source = next IsHeader (codes "source") header_of _ d p known header-fits advance.2 in
-    let target = next IsHeader (codes "target") header_of _ d p known header-fits source.2 in
+    let source = next IsHeader (codes "source") header_of_data _ d p known header-fits advance.2 in
+    let target = next IsHeader (codes "target") header_of_data _ d p known header-fits source.2 in
     let told = next IsDigest (codes "targetBlTxAlh") digest_of _ d p known digest-fits target.2 in
     let made : DualProof = record { source = source.0; target = target.0; inclusion = inclusion.0; consistency = consistency.0; target_bl_tx_alh = told.0; last_inclusion = last.0; linear = linear.0; linear_advance = advance.0 } in
     let fits : IsDualProof made = record { source = source.1; target = target.1; inclusion = inclusion.1; consistency = consistency.1; target_bl_tx_alh = told.1; last_inclusion = last.1; linear = linear.1; linear_advance = advance.1 } in
@@ -163,32 +163,32 @@ anchor-fits : Finds anchor_of IsAnchor
 unfolding anchor_of
 anchor-fits d a known e = either-anchor (is_some (as_null d)) d a known e
 
-state-fits : Finds state_of IsMessage
-unfolding state_of
+state-fits : Finds state_message IsMessage
+unfolding state_message
 state-fits d m known e =
-    let header = next IsHeader (codes "header") header_of _ d m known header-fits e in
+    let header = next IsHeader (codes "header") header_of_data _ d m known header-fits e in
     subst IsMessage (some-is (State header.0) m header.2) header.1
 
-dual-fits : Finds dual_of IsMessage
-unfolding dual_of
+dual-fits : Finds dual_message IsMessage
+unfolding dual_message
 dual-fits d m known e =
     let dual = next IsDualProof (codes "dual") dual_proof_of _ d m known dual_proof-fits e in
     subst IsMessage (some-is (Dual dual.0) m dual.2) dual.1
 
-advance-fits : Finds advance_of IsMessage
-unfolding advance_of
+advance-fits : Finds advance_message IsMessage
+unfolding advance_message
 advance-fits d m known e =
     let anchor = next IsAnchor (codes "anchor") anchor_of _ d m known anchor-fits e in
     let dual = next IsDualProof (codes "dual") dual_proof_of _ d m known dual_proof-fits anchor.2 in
     subst IsMessage (some-is (Advance dual.0 anchor.0) m dual.2) (dual.1, anchor.1)
 
-item-fits : Finds item_of IsMessage
-unfolding item_of
+item-fits : Finds item_message IsMessage
+unfolding item_message
 item-fits d m known e =
     let dual = next IsDualProof (codes "dual") dual_proof_of _ d m known dual_proof-fits e in
-    let entry = next IsEntry (codes "entry") entry_of _ d m known entry-fits dual.2 in
+    let entry = next IsEntryInRange (codes "entry") entry_of_data _ d m known entry-fits dual.2 in
     let index = next (λ n. n < 2 ^ 32) (codes "index") (number_of (2 ^ 32)) _ d m known (number-fits (2 ^ 32)) entry.2 in
-    let path = next AreDigests (codes "path") digests_of _ d m known digests-fit index.2 in
+    let path = next AreDigestOctets (codes "path") digests_of _ d m known digests-fit index.2 in
     subst IsMessage (some-is (Item dual.0 entry.0 index.0 path.0) m path.2) (dual.1, entry.1, index.1, path.1)
 
 no-message : (m : Message) → None ≡ Some m → IsMessage m

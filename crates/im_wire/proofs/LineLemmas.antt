@@ -12,7 +12,7 @@ use Rattle.im_text.specs.Cuts.{Lacks, IsCut}
 use Rattle.im_text.proofs.CutLemmas.{Lacks-mark, cut-unique}
 use Rattle.im_text.proofs.WordLemmas.{Lacks-word}
 use Rattle.im_text.specs.Fields.{is_session_octet, IsSession}
-use Rattle.im_wire.specs.Gives.{Reads}
+use Rattle.im_wire.specs.Gives.{ReadsOrRefuses}
 use Rattle.im_text.specs.Words.{IsDigits}
 use Rattle.im_wire.specs.Lines.{is_open, IsReply, IsShown, IsLine}
 
@@ -87,6 +87,6 @@ line-unique line (Some m) (Some n) h k =
     let same = shown-unique line k.0 h.0 k.1 h.1 in
     ap Some (message-unique h.0 m n h.2 (subst (λ (t : List ℕ). HasMessage t n) same k.2))
 
-pub reads-refused : (line text : List ℕ) (e : WireError) → IsShown line text → Reads {X = Message} (Err e) (HasMessage text) → Reads {X = Option Message} (Err e) (IsLine line)
+pub reads-refused : (line text : List ℕ) (e : WireError) → IsShown line text → ReadsOrRefuses {X = Message} (Err e) (HasMessage text) → ReadsOrRefuses {X = Option Message} (Err e) (IsLine line)
 reads-refused line text Memory shown h = tt
 reads-refused line text Syntax shown h = line-refused line text shown h

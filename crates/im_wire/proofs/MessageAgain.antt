@@ -9,7 +9,7 @@ use Rattle.serde_json.specs.Read.{max_depth}
 use Rattle.im_wire.specs.declared.messages.Message.{Message}
 use Rattle.im_wire.specs.declared.messages.Message.TheVariants.{State, Dual, Advance, Item}
 use Rattle.im_wire.specs.Fits.{IsMessage}
-use Rattle.im_wire.specs.Messages.{state_of, dual_of, advance_of, item_of, message_as, message_of, HasMessage}
+use Rattle.im_wire.specs.Messages.{state_message, dual_message, advance_message, item_message, message_as, message_of, HasMessage}
 use Rattle.im_wire.specs.Texts.{message_data, text}
 use Rattle.im_wire.specs.Tokens.{tokens_of}
 use Rattle.im_wire.proofs.ReadAgain.{IsPlain, read-again}
@@ -18,7 +18,7 @@ use Rattle.im_wire.proofs.FieldAgain.{number-again, digests-again, digests-plain
 use Rattle.im_wire.proofs.RecordAgain.{header-again, entry-again, dual_proof-again, anchor-again, header-plain, entry-plain, dual_proof-plain, anchor-plain, header-depth, entry-depth, dual_proof-depth, anchor-depth}
 
 message-again : (m : Message) → IsMessage m → message_of (message_data m) ≡ Some m
-unfolding message_of message_as state_of dual_of advance_of item_of
+unfolding message_of message_as state_message dual_message advance_message item_message
 message-again (State h) fits = rw (header-again h fits) refl
 message-again (Dual p) fits = rw (dual_proof-again p fits) refl
 message-again (Advance p a) fits = rw (anchor-again a fits.1, dual_proof-again p fits.0) refl

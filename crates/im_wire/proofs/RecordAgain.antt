@@ -7,15 +7,15 @@ use Rattle.im_model.specs.declared.headers.Header.{Header}
 use Rattle.im_model.specs.declared.entries.Entry.{Entry}
 use Rattle.im_proof.specs.declared.proofs.AdvanceProof.{AdvanceProof}
 use Rattle.im_proof.specs.declared.proofs.DualProof.{DualProof}
-use Rattle.im_wire.specs.Fits.{IsHeader, IsEntry, IsAdvanceProof, IsDualProof, IsAnchor}
-use Rattle.im_wire.specs.Messages.{header_of, entry_of, advance_proof_of, dual_proof_of, anchor_of}
+use Rattle.im_wire.specs.Fits.{IsHeader, IsEntryInRange, IsAdvanceProof, IsDualProof, IsAnchor}
+use Rattle.im_wire.specs.Messages.{header_of_data, entry_of_data, advance_proof_of, dual_proof_of, anchor_of}
 use Rattle.im_wire.specs.Texts.{digests_data, header_data, entry_data, advance_proof_data, dual_proof_data, anchor_data}
 use Rattle.im_wire.proofs.ReadAgain.{IsPlain}
 use Rattle.im_wire.proofs.FieldAgain.{digest-again, number-again, signed-again, octets-again, digests-again, digest_lists-again, signed-plain, digests-plain, digest_lists-plain, digests-depth, digest_lists-depth, max-within}
 
 -- a header
-pub header-again : (h : Header) → IsHeader h → header_of (header_data h) ≡ Some h
-unfolding header_of header_data
+pub header-again : (h : Header) → IsHeader h → header_of_data (header_data h) ≡ Some h
+unfolding header_of_data header_data
 header-again h fits =
     rw (
       digest-again h.bl_root fits.bl_root,
@@ -30,8 +30,8 @@ header-again h fits =
     ) refl
 
 -- an entry
-pub entry-again : (e : Entry) → IsEntry e → entry_of (entry_data e) ≡ Some e
-unfolding entry_of entry_data
+pub entry-again : (e : Entry) → IsEntryInRange e → entry_of_data (entry_data e) ≡ Some e
+unfolding entry_of_data entry_data
 entry-again e fits = rw (octets-again 1 1024 e.key fits.key, octets-again 0 256 e.md fits.md, octets-again 0 4096 e.value fits.value) refl
 
 -- a linear advance

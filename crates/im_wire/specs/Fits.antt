@@ -15,12 +15,12 @@ pub record IsDigest (d : List ℕ) : Type 0 where
   pub bytes : IsBytes d
 
 -- each is a digest
-unfoldable pub AreDigests : List (List ℕ) → Type 0
-AreDigests ds = All IsDigest ds
+unfoldable pub AreDigestOctets : List (List ℕ) → Type 0
+AreDigestOctets ds = All IsDigest ds
 
 -- each is a list of digests
 abbrev pub AreDigestLists : List (List (List ℕ)) → Type 0
-AreDigestLists dss = All AreDigests dss
+AreDigestLists dss = All AreDigestOctets dss
 
 -- at least `least` and at most `most` octets
 pub record IsBounded (least most : ℕ) (octets : List ℕ) : Type 0 where
@@ -47,25 +47,25 @@ pub record IsHeader (h : Header) : Type 0 where
 
 -- an entry within the type's limits: metadata of at most 256 octets, whatever they are, a key of 1 to 1024,
 -- a value of at most 4096
-pub record IsEntry (e : Entry) : Type 0 where
+pub record IsEntryInRange (e : Entry) : Type 0 where
   pub md : IsBounded 0 256 e.md
   pub key : IsBounded 1 1024 e.key
   pub value : IsBounded 0 4096 e.value
 
 -- a linear advance of digests
 pub record IsAdvanceProof (a : AdvanceProof) : Type 0 where
-  pub terms : AreDigests a.terms
+  pub terms : AreDigestOctets a.terms
   pub inclusions : AreDigestLists a.inclusions
 
 -- a dual proof of such headers and of digests
 pub record IsDualProof (p : DualProof) : Type 0 where
   pub source : IsHeader p.source
   pub target : IsHeader p.target
-  pub inclusion : AreDigests p.inclusion
-  pub consistency : AreDigests p.consistency
+  pub inclusion : AreDigestOctets p.inclusion
+  pub consistency : AreDigestOctets p.consistency
   pub target_bl_tx_alh : IsDigest p.target_bl_tx_alh
-  pub last_inclusion : AreDigests p.last_inclusion
-  pub linear : AreDigests p.linear
+  pub last_inclusion : AreDigestOctets p.last_inclusion
+  pub linear : AreDigestOctets p.linear
   pub linear_advance : IsAdvanceProof p.linear_advance
 
 -- an anchor, if there is one, is such a dual proof
@@ -78,4 +78,4 @@ abbrev pub IsMessage : Message → Type 0
 IsMessage (State header) = IsHeader header
 IsMessage (Dual dual) = IsDualProof dual
 IsMessage (Advance dual anchor) = IsDualProof dual × IsAnchor anchor
-IsMessage (Item dual entry index path) = IsDualProof dual × IsEntry entry × (index < 2 ^ 32) × AreDigests path
+IsMessage (Item dual entry index path) = IsDualProof dual × IsEntryInRange entry × (index < 2 ^ 32) × AreDigestOctets path

@@ -15,12 +15,12 @@ Fails Memory reading = ⊤
 Fails Syntax reading = reading ≡ None
 
 -- what was returned is what the reading gives, and Syntax where it gives nothing
-abbrev pub Gives : {X : Type 0} → Result X WireError → Option X → Type 0
-Gives (Ok x) reading = reading ≡ Some x
-Gives (Err e) reading = Fails e reading
+abbrev pub GivesReading : {X : Type 0} → Result X WireError → Option X → Type 0
+GivesReading (Ok x) reading = reading ≡ Some x
+GivesReading (Err e) reading = Fails e reading
 
 -- what was returned has the property, and Syntax where nothing has it
-abbrev pub Reads : {X : Type 0} → Result X WireError → (X → Type 0) → Type 0
-Reads (Ok x) P = P x
-Reads (Err Memory) P = ⊤
-Reads (Err Syntax) P = (x : _) → P x → ⊥
+abbrev pub ReadsOrRefuses : {X : Type 0} → Result X WireError → (X → Type 0) → Type 0
+ReadsOrRefuses (Ok x) P = P x
+ReadsOrRefuses (Err Memory) P = ⊤
+ReadsOrRefuses (Err Syntax) P = (x : _) → P x → ⊥

@@ -15,8 +15,8 @@ use Rattle.im_wire.specs.declared.messages.Message.{Message}
 use Rattle.im_wire.specs.declared.messages.Message.TheVariants.{State, Dual, Advance, Item}
 
 -- a header
-unfoldable pub header_of : Data → Option Header
-header_of d = do
+unfoldable pub header_of_data : Data → Option Header
+header_of_data d = do
   bl_root ← field (codes "blRoot") digest_of d
   bl_tx_id ← field (codes "blTxId") (number_of (2 ^ 64)) d
   eh ← field (codes "eh") digest_of d
@@ -29,8 +29,8 @@ header_of d = do
   Some (record { id = id; ts = ts; bl_tx_id = bl_tx_id; bl_root = bl_root; prev_alh = prev_alh; version = version; md = md; nentries = nentries; eh = eh })
 
 -- an entry within the limits: a key of 1 to 1024 octets, metadata of at most 256, a value of at most 4096
-unfoldable pub entry_of : Data → Option Entry
-entry_of d = do
+unfoldable pub entry_of_data : Data → Option Entry
+entry_of_data d = do
   key ← field (codes "key") (octets_of 1 1024) d
   md ← field (codes "md") (octets_of 0 256) d
   value ← field (codes "value") (octets_of 0 4096) d
@@ -51,8 +51,8 @@ dual_proof_of d = do
   last_inclusion ← field (codes "lastInclusion") digests_of d
   linear ← field (codes "linear") digests_of d
   linear_advance ← field (codes "linearAdvance") advance_proof_of d
-  source ← field (codes "source") header_of d
-  target ← field (codes "target") header_of d
+  source ← field (codes "source") header_of_data d
+  target ← field (codes "target") header_of_data d
   target_bl_tx_alh ← field (codes "targetBlTxAlh") digest_of d
   Some (record { source = source; target = target; inclusion = inclusion; consistency = consistency; target_bl_tx_alh = target_bl_tx_alh; last_inclusion = last_inclusion; linear = linear; linear_advance = linear_advance })
 
@@ -65,29 +65,29 @@ anchor_of d =
       Some (Some dual))
 
 -- the message that is a state
-unfoldable pub state_of : Data → Option Message
-state_of d = do
-  header ← field (codes "header") header_of d
+unfoldable pub state_message : Data → Option Message
+state_message d = do
+  header ← field (codes "header") header_of_data d
   Some (State header)
 
 -- the message that is a dual proof
-unfoldable pub dual_of : Data → Option Message
-dual_of d = do
+unfoldable pub dual_message : Data → Option Message
+dual_message d = do
   dual ← field (codes "dual") dual_proof_of d
   Some (Dual dual)
 
 -- the message that is an advance
-unfoldable pub advance_of : Data → Option Message
-advance_of d = do
+unfoldable pub advance_message : Data → Option Message
+advance_message d = do
   anchor ← field (codes "anchor") anchor_of d
   dual ← field (codes "dual") dual_proof_of d
   Some (Advance dual anchor)
 
 -- the message that is an item
-unfoldable pub item_of : Data → Option Message
-item_of d = do
+unfoldable pub item_message : Data → Option Message
+item_message d = do
   dual ← field (codes "dual") dual_proof_of d
-  entry ← field (codes "entry") entry_of d
+  entry ← field (codes "entry") entry_of_data d
   index ← field (codes "index") (number_of (2 ^ 32)) d
   path ← field (codes "path") digests_of d
   Some (Item dual entry index path)
@@ -95,10 +95,10 @@ item_of d = do
 -- the message of that type
 unfoldable pub message_as : List ℕ → Data → Option Message
 message_as kind d =
-    if bytes_eq kind (codes "state") then state_of d
-    else (if bytes_eq kind (codes "dual") then dual_of d
-    else (if bytes_eq kind (codes "advance") then advance_of d
-    else (if bytes_eq kind (codes "item") then item_of d
+    if bytes_eq kind (codes "state") then state_message d
+    else (if bytes_eq kind (codes "dual") then dual_message d
+    else (if bytes_eq kind (codes "advance") then advance_message d
+    else (if bytes_eq kind (codes "item") then item_message d
     else None)))
 
 -- the message of the type that the value names

@@ -1,6 +1,6 @@
 ghost use Rattle.std.specs.Prelude.{◌<◌, ◌^◌};
 ghost use Rattle.hex.specs.Hex.{IsBytes};
-ghost use Rattle.im_wire.specs.Fits.{IsDigest, AreDigests, AreDigestLists, IsBounded, IsSigned, IsHeader, IsEntry, IsAdvanceProof, IsDualProof, IsAnchor, IsMessage};
+ghost use Rattle.im_wire.specs.Fits.{IsDigest, AreDigestOctets, AreDigestLists, IsBounded, IsSigned, IsHeader, IsEntryInRange, IsAdvanceProof, IsDualProof, IsAnchor, IsMessage};
 
 use crate::messages::Message;
 use im_digest::D32;
@@ -33,7 +33,7 @@ fn digest_fits(digest: &D32)
 
 // What the type of digests says.
 fn digests_fit(digests: &[D32])
-    ensures { AreDigests digests.now }
+    ensures { AreDigestOctets digests.now }
 {
     for digest in digests {
         digest_fits(digest);
@@ -80,7 +80,7 @@ pub(crate) fn header_fits(header: &Header)
 
 // What the types say of an entry.
 fn entry_fits(entry: &Entry)
-    ensures { IsEntry entry.now }
+    ensures { IsEntryInRange entry.now }
 {
     bounded_fits(&entry.md);
     bounded_fits(&entry.key);

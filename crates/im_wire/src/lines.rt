@@ -1,5 +1,5 @@
 ghost use Rattle.std.specs.Prelude.{◌≡◌, List, ℕ, IfSome, IfNone, None};
-ghost use Rattle.im_wire.specs.Gives.{Reads};
+ghost use Rattle.im_wire.specs.Gives.{ReadsOrRefuses};
 ghost use Rattle.im_wire.specs.Lines.{is_open, IsReply, IsShown, IsLine};
 
 use crate::errors::WireError;
@@ -58,7 +58,7 @@ fn shown_text(line: &[u8]) -> Option<&[u8]>
 /// the number 1 to 20 digits, is read from its rest where that begins with `{`, and else passed over.
 /// Any other line is read whole. `Syntax` exactly where the text that is read says no message.
 pub fn read_line(alloc: Global, line: &[u8]) -> Result<Option<Message>, WireError>
-    ensures { Reads result (IsLine line.now) }
+    ensures { ReadsOrRefuses result (IsLine line.now) }
 {
     match shown_text(line) {
         Some(text) => match read_message(alloc, text) {

@@ -1,9 +1,9 @@
 ghost use Rattle.std.specs.Prelude.{◌≡◌, codes, option_map};
 ghost use Rattle.serde_json.specs.View.{view};
 ghost use Rattle.serde_json.specs.Find.{as_str};
-ghost use Rattle.im_wire.specs.Gives.{Gives, Reads};
+ghost use Rattle.im_wire.specs.Gives.{GivesReading, ReadsOrRefuses};
 ghost use Rattle.im_wire.specs.Fields.{field};
-ghost use Rattle.im_wire.specs.Messages.{state_of, dual_of, advance_of, item_of, message_as, message_of, HasMessage};
+ghost use Rattle.im_wire.specs.Messages.{state_message, dual_message, advance_message, item_message, message_as, message_of, HasMessage};
 
 mod fields;
 mod records;
@@ -17,27 +17,27 @@ use serde_json::Value;
 use std::alloc::Global;
 
 // The message that is a state.
-#[tactic(auto, unfolding(crate::specs::Messages::state_of))]
-fn state_of(alloc: Global, value: &Value) -> Result<Message, WireError>
-    ensures { Gives result (state_of (view value.now)) }
+#[tactic(auto, unfolding(crate::specs::Messages::state_message))]
+fn state_message(alloc: Global, value: &Value) -> Result<Message, WireError>
+    ensures { GivesReading result (state_message (view value.now)) }
 {
     let header = header_field(alloc, value, "header")?;
     Ok(Message::State { header })
 }
 
 // The message that is a dual proof.
-#[tactic(auto, unfolding(crate::specs::Messages::dual_of))]
-fn dual_of(alloc: Global, value: &Value) -> Result<Message, WireError>
-    ensures { Gives result (dual_of (view value.now)) }
+#[tactic(auto, unfolding(crate::specs::Messages::dual_message))]
+fn dual_message(alloc: Global, value: &Value) -> Result<Message, WireError>
+    ensures { GivesReading result (dual_message (view value.now)) }
 {
     let dual = dual_proof_field(alloc, value, "dual")?;
     Ok(Message::Dual { dual })
 }
 
 // The message that is an advance.
-#[tactic(auto, unfolding(crate::specs::Messages::advance_of))]
-fn advance_of(alloc: Global, value: &Value) -> Result<Message, WireError>
-    ensures { Gives result (advance_of (view value.now)) }
+#[tactic(auto, unfolding(crate::specs::Messages::advance_message))]
+fn advance_message(alloc: Global, value: &Value) -> Result<Message, WireError>
+    ensures { GivesReading result (advance_message (view value.now)) }
 {
     let anchor = anchor_field(alloc, value, "anchor")?;
     match dual_proof_field(alloc, value, "dual") {
@@ -50,9 +50,9 @@ fn advance_of(alloc: Global, value: &Value) -> Result<Message, WireError>
 }
 
 // The message that is an item.
-#[tactic(auto, unfolding(crate::specs::Messages::item_of))]
-fn item_of(alloc: Global, value: &Value) -> Result<Message, WireError>
-    ensures { Gives result (item_of (view value.now)) }
+#[tactic(auto, unfolding(crate::specs::Messages::item_message))]
+fn item_message(alloc: Global, value: &Value) -> Result<Message, WireError>
+    ensures { GivesReading result (item_message (view value.now)) }
 {
     let dual = dual_proof_field(alloc, value, "dual")?;
     let entry = match entry_field(alloc, value, "entry") {
@@ -83,19 +83,19 @@ fn item_of(alloc: Global, value: &Value) -> Result<Message, WireError>
 // The message of that type.
 #[tactic(auto, unfolding(crate::specs::Messages::message_as))]
 fn message_as(alloc: Global, kind: &str, value: &Value) -> Result<Message, WireError>
-    ensures { Gives result (message_as kind.now (view value.now)) }
+    ensures { GivesReading result (message_as kind.now (view value.now)) }
 {
     if kind == "state" {
-        return state_of(alloc, value);
+        return state_message(alloc, value);
     }
     if kind == "dual" {
-        return dual_of(alloc, value);
+        return dual_message(alloc, value);
     }
     if kind == "advance" {
-        return advance_of(alloc, value);
+        return advance_message(alloc, value);
     }
     if kind == "item" {
-        return item_of(alloc, value);
+        return item_message(alloc, value);
     }
     Err(WireError::Syntax)
 }
@@ -113,7 +113,7 @@ fn kind_of(value: &Value) -> Option<&str>
 // The message of the type that the value names.
 #[tactic(auto, unfolding(crate::specs::Messages::message_of))]
 fn message_of(alloc: Global, value: &Value) -> Result<Message, WireError>
-    ensures { Gives result (message_of (view value.now)) }
+    ensures { GivesReading result (message_of (view value.now)) }
 {
     match kind_of(value) {
         Some(kind) => message_as(alloc, kind, value),
@@ -129,7 +129,7 @@ fn message_of(alloc: Global, value: &Value) -> Result<Message, WireError>
 /// another type, a number out of its type's range or written with a fraction or an exponent, a digest
 /// that isn't 32 octets, metadata over 256 octets, a key that isn't 1 to 1024, a value over 4096.
 pub fn read_message(alloc: Global, text: &[u8]) -> Result<Message, WireError>
-    ensures { Reads result (HasMessage text.now) }
+    ensures { ReadsOrRefuses result (HasMessage text.now) }
 {
     match Value::from_slice(alloc, text) {
         Ok(value) => message_of(alloc, &value),

@@ -9,7 +9,7 @@ use Rattle.clap.specs.declared.parser.matches.ArgMatches.{ArgMatches}
 use Rattle.clap.specs.ValueTests.{is_unsigned_in}
 use Rattle.clap.specs.declared.builder.value_parser.ValueParser.TheVariants.{Unsigned}
 use Rattle.clap.proofs.ValueTestLemmas.{accepts-Accepts}
-use Rattle.im_words.specs.Command.{IsRefused, IsFaultless, Texts, im_at, im_command, link_names, link_texts, texts_behind}
+use Rattle.im_words.specs.Command.{AreWordsRefused, IsFaultless, Texts, im_at, im_command, link_names, link_texts, texts_behind}
 use Rattle.im_words.specs.Meaning.{logs_of_text}
 use Rattle.im_words.specs.declared.WordsError.{WordsError}
 use Rattle.im_words.specs.declared.WordsError.TheVariants.{Memory, Usage}
@@ -36,7 +36,7 @@ logs_answer E G None r none value only some = ap (λ (o : Option ℕ). Some (unw
 logs_answer E G (Some t) r none value only some = read_number E G t r (value t refl) only some
 
 -- an error at words that aren't refused is want of memory
-pub taken_error : (words : List Text) (e : WordsError) → (IsRefused words → ⊥) → (e ≡ Usage → IsRefused words) → e ≡ Memory
+pub taken_error : (words : List Text) (e : WordsError) → (AreWordsRefused words → ⊥) → (e ≡ Usage → AreWordsRefused words) → e ≡ Memory
 taken_error words Memory taken refused = refl
 taken_error words Usage taken refused = absurd (taken (refused refl))
 
@@ -66,7 +66,7 @@ matches_from names a words m e matches =
 
 -- words are refused where it gives an error that is not want of memory
 pub refused_from : (names : Texts) (a : App) (words : List Text) (error : Error) → texts_behind names ≡ link_texts → a ≡ im_at names
-    → (is_simple_and_free a ≡ true → HasKind (fault_of a words) error) → kind_of error ≢ OutOfMemory → IsRefused words
+    → (is_simple_and_free a ≡ true → HasKind (fault_of a words) error) → kind_of error ≢ OutOfMemory → AreWordsRefused words
 refused_from names a words error same e kinds other = elim (kinds (simple_and_free names a e)) [
   | inl memory ↦ absurd (other memory)
   | inr among ↦ record {

@@ -21,8 +21,8 @@ use Rattle.std.specs.Prelude.{option_and_then}
 use Rattle.std.specs.Str.Parse.{digits_value, without_leading_plus}
 use Rattle.std.proofs.lemmas.Int.{ints}
 use Rattle.std.proofs.lemmas.Slice.Eq.{bytes_eq-Decides}
-use Rattle.im_words.specs.declared.Asked.{Asked}
-use Rattle.im_words.specs.declared.Asked.TheVariants.{Run, Verify}
+use Rattle.im_words.specs.declared.Request.{Request}
+use Rattle.im_words.specs.declared.Request.TheVariants.{Run, Verify}
 use Rattle.im_words.specs.declared.Link.{Link}
 use Rattle.im_words.specs.declared.Link.TheVariants.{Auto, Manual}
 use Rattle.im_words.specs.Meaning.{AsksRun, AsksVerify, asked_of, link_of, link_of_text, logs_of}
@@ -136,7 +136,7 @@ taken_asked words e = go (walk [] (names_of (built im_command)) nothing_held (dr
 pub taken_asks : (words : List Text) → fault_of im_command words ≡ [] → AsksRun words ⊎ AsksVerify words
 taken_asks words e = go (asked_of (subcommand_of im_command words)) refl (taken_asked words e)
   where
-    go : (asked : Option Asked) → asked_of (subcommand_of im_command words) ≡ asked → IsSome asked → AsksRun words ⊎ AsksVerify words
+    go : (asked : Option Request) → asked_of (subcommand_of im_command words) ≡ asked → IsSome asked → AsksRun words ⊎ AsksVerify words
     go None same some = cc
     go (Some (Run logs link)) same some = inl (logs, link, same)
     go (Some Verify) same some = inr same

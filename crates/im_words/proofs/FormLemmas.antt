@@ -3,10 +3,10 @@ use Rattle.std.proofs.Common.{◌≡◌, ◌∙◌, ◌≤◌, ℕ, zero, suc, L
 use Rattle.std.specs.Fmt.{digits}
 use Rattle.clap.specs.Words.{IsAmong, Text, fault_of, subcommand_of}
 use Rattle.clap.proofs.OnLiterals.{clap_on_literals}
-use Rattle.im_words.specs.Command.{IsRefused, im_command}
+use Rattle.im_words.specs.Command.{AreWordsRefused, im_command}
 use Rattle.im_words.specs.Meaning.{AsksRun, AsksVerify, asked_of}
 use Rattle.im_words.specs.Form.{GivesOptions, IsForm, IsVerifyForm, link_words, logs_words}
-use Rattle.im_words.specs.declared.Asked.TheVariants.{Run, Verify}
+use Rattle.im_words.specs.declared.Request.TheVariants.{Run, Verify}
 use Rattle.im_words.specs.declared.Link.{Link}
 use Rattle.im_words.specs.declared.Link.TheVariants.{Auto, Manual}
 
@@ -94,14 +94,14 @@ pub verify_asks : (words : List Text) → IsVerifyForm words → AsksVerify word
 verify_asks words form = (verify_means words form).asks
 
 -- words with no fault aren't refused
-none_refused : (words : List Text) → fault_of im_command words ≡ [] → IsRefused words → ⊥
+none_refused : (words : List Text) → fault_of im_command words ≡ [] → AreWordsRefused words → ⊥
 none_refused words faultless why = subst (IsAmong why.kind) faultless why.among
 
 -- words of the forms are never refused
-pub form_taken : (words : List Text) (logs : ℕ) (link : Link) → IsForm words logs link → IsRefused words → ⊥
+pub form_taken : (words : List Text) (logs : ℕ) (link : Link) → IsForm words logs link → AreWordsRefused words → ⊥
 form_taken words logs link form = none_refused words (form_means words logs link form).faultless
 
-pub verify_taken : (words : List Text) → IsVerifyForm words → IsRefused words → ⊥
+pub verify_taken : (words : List Text) → IsVerifyForm words → AreWordsRefused words → ⊥
 verify_taken words form = none_refused words (verify_means words form).faultless
 
 -- no words ask for a run and for `verify`

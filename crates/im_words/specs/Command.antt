@@ -72,7 +72,7 @@ abbrev pub im_command : App
 im_command = im_at link_names
 
 -- clap refuses the words, for another cause than memory
-pub record IsRefused (words : List Text) : Type 0 where
+pub record AreWordsRefused (words : List Text) : Type 0 where
   pub kind : ErrorKind
   pub among : IsAmong kind (fault_of im_command words)
   pub no_memory : kind ≢ OutOfMemory

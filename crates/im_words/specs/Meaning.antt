@@ -6,8 +6,8 @@ use Rattle.std.specs.Str.Parse.{digits_value, without_leading_plus}
 use Rattle.clap.specs.Words.{Row, Text, first_of, one_of, subcommand_of}
 use Rattle.clap.specs.ValueTests.{is_unsigned_in}
 use Rattle.im_words.specs.Command.{im_command}
-use Rattle.im_words.specs.declared.Asked.{Asked}
-use Rattle.im_words.specs.declared.Asked.TheVariants.{Run, Verify}
+use Rattle.im_words.specs.declared.Request.{Request}
+use Rattle.im_words.specs.declared.Request.TheVariants.{Run, Verify}
 use Rattle.im_words.specs.declared.Link.{Link}
 use Rattle.im_words.specs.declared.Link.TheVariants.{Auto, Manual}
 
@@ -30,11 +30,11 @@ abbrev pub link_of : List Row → Option Link
 link_of rows = option_map_or link_of_text (first_of (codes "link") rows) (Some Auto)
 
 -- the run that the matches of `run` ask for
-abbrev pub run_of : List Row → Option Asked
+abbrev pub run_of : List Row → Option Request
 run_of rows = option_and_then (λ logs. option_map (λ link. Run logs link) (link_of rows)) (logs_of rows)
 
 -- what the subcommand's name and matches ask for
-abbrev pub asked_of : Option (Text × List Row) → Option Asked
+abbrev pub asked_of : Option (Text × List Row) → Option Request
 asked_of None = None
 asked_of (Some p) = if bytes_eq p.0 (codes "run") then run_of p.1
     else (if bytes_eq p.0 (codes "verify") then Some Verify else None)
@@ -49,6 +49,6 @@ abbrev pub AsksVerify : List Text → Type 0
 AsksVerify words = asked_of (subcommand_of im_command words) ≡ Some Verify
 
 -- a run has 1 to 4 logs
-abbrev pub HasFewLogs : Asked → Type 0
+abbrev pub HasFewLogs : Request → Type 0
 HasFewLogs (Run logs link) = (1 ≤ logs) × (logs ≤ 4)
 HasFewLogs Verify = Unit {0}

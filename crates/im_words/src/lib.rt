@@ -5,7 +5,7 @@
 ghost use Rattle.std.specs.Prelude.{◌≡◌, ◌≢◌, ◌↔◌, ◌⊎◌, ℕ, IfOk, Some, map};
 ghost use Rattle.std.specs.String.{string_bytes};
 ghost use Rattle.clap.specs.Words.{kind_of, subcommand_of, subcommand_rows_of};
-ghost use Rattle.im_words.specs.Command.{IsFaultless, IsRefused, im_command};
+ghost use Rattle.im_words.specs.Command.{IsFaultless, AreWordsRefused, im_command};
 ghost use Rattle.im_words.specs.Form.{IsForm, IsVerifyForm};
 ghost use Rattle.im_words.specs.Meaning.{HasFewLogs, asked_of};
 
@@ -30,7 +30,7 @@ pub enum Link {
 
 /// What the words ask for.
 #[derive(Clone, Copy, Debug, PartialEq, Eq)]
-pub enum Asked {
+pub enum Request {
     /// A run, with its number of logs, 1 to 4, and its link.
     Run { logs: u8, link: Link },
     /// The client that checks the lines it is shown.
@@ -69,7 +69,7 @@ fn cause(error: &Error) -> WordsError
 
 // The matches of the words.
 fn matched<'a>(alloc: Global, words: &'a [String]) -> Result<ArgMatches<'a>, WordsError>
-    ensures refused { result ≡ Err WordsError.Usage → IsRefused (map string_bytes words.entry.now) }
+    ensures refused { result ≡ Err WordsError.Usage → AreWordsRefused (map string_bytes words.entry.now) }
     ensures faultless { IfOk result (λ m. IsFaultless (map string_bytes words.entry.now)) }
     ensures subcommand { IfOk result (λ m. subcommand_rows_of m
         ≡ subcommand_of im_command (map string_bytes words.entry.now)) }
@@ -88,9 +88,9 @@ fn matched<'a>(alloc: Global, words: &'a [String]) -> Result<ArgMatches<'a>, Wor
 ///
 /// `Usage` only where `clap` refuses the words. There the error is `Usage`, or `Memory` where memory
 /// runs out first.
-pub fn read_words(alloc: Global, words: &[String]) -> Result<Asked, WordsError>
-    ensures refused { result ≡ Err WordsError.Usage → IsRefused (map string_bytes words.now) }
-    ensures usage { IsRefused (map string_bytes words.now)
+pub fn read_words(alloc: Global, words: &[String]) -> Result<Request, WordsError>
+    ensures refused { result ≡ Err WordsError.Usage → AreWordsRefused (map string_bytes words.now) }
+    ensures usage { AreWordsRefused (map string_bytes words.now)
         → (result ≡ Err WordsError.Usage) ⊎ (result ≡ Err WordsError.Memory) }
     ensures faultless { IfOk result (λ asked. IsFaultless (map string_bytes words.now)) }
 
@@ -98,9 +98,9 @@ pub fn read_words(alloc: Global, words: &[String]) -> Result<Asked, WordsError>
     ensures asked { IfOk result (λ asked. asked_of (subcommand_of im_command
         (map string_bytes words.now)) ≡ Some asked) }
     ensures taken { (logs : ℕ) (link : Link) → IsForm (map string_bytes words.now) logs link
-        → (result ≡ Ok (Asked.Run logs link)) ⊎ (result ≡ Err WordsError.Memory) }
+        → (result ≡ Ok (Request.Run logs link)) ⊎ (result ≡ Err WordsError.Memory) }
     ensures taken_verify { IsVerifyForm (map string_bytes words.now)
-        → (result ≡ Ok Asked.Verify) ⊎ (result ≡ Err WordsError.Memory) }
+        → (result ≡ Ok Request.Verify) ⊎ (result ≡ Err WordsError.Memory) }
     ensures limits { IfOk result HasFewLogs }
 {
     let matches = matched(alloc, words)?;

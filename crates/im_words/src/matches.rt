@@ -3,7 +3,7 @@ ghost use Rattle.std.specs.Prelude.{◌≡◌, IsSome, Some};
 ghost use Rattle.clap.specs.Words.{found_of, rows_of, subcommand_rows_of};
 ghost use Rattle.im_words.specs.Meaning.{asked_of, link_of, link_of_text, logs_of, run_of};
 
-use crate::{Asked, Link};
+use crate::{Link, Request};
 use clap::ArgMatches;
 
 // The number of logs of a run.
@@ -38,24 +38,24 @@ fn link(run: &ArgMatches) -> Link
 }
 
 // The run that the matches of `run` ask for.
-fn run(matches: &ArgMatches) -> Asked
+fn run(matches: &ArgMatches) -> Request
     requires { IsSome (run_of (rows_of (found_of matches.now))) }
     ensures { run_of (rows_of (found_of matches.now)) ≡ Some result }
 {
-    Asked::Run {
+    Request::Run {
         logs: logs(matches),
         link: link(matches),
     }
 }
 
 // What the matches ask for.
-pub(crate) fn asked(matches: &ArgMatches) -> Asked
+pub(crate) fn asked(matches: &ArgMatches) -> Request
     requires { IsSome (asked_of (subcommand_rows_of matches.now)) }
     ensures { asked_of (subcommand_rows_of matches.now) ≡ Some result }
 {
     match matches.subcommand() {
         Some(("run", matches)) => run(matches),
-        Some(("verify", _)) => Asked::Verify,
+        Some(("verify", _)) => Request::Verify,
         _ => unreachable!(),
     }
 }

@@ -1,7 +1,7 @@
 ghost use Rattle.std.specs.Prelude.{◌≡◌, ◌^◌, IfOk, IfErr, Some};
 ghost use Rattle.serde_json.specs.Find.{get};
 ghost use Rattle.serde_json.specs.View.{view};
-ghost use Rattle.im_wire.specs.Gives.{Gives, Fails};
+ghost use Rattle.im_wire.specs.Gives.{GivesReading, Fails};
 ghost use Rattle.im_wire.specs.Fields.{number_of, signed_of, octets_of, digest_of, digests_of, digest_lists_of, field};
 
 use crate::errors::WireError;
@@ -28,28 +28,28 @@ pub(crate) fn member<'v>(value: &'v Value, name: &str) -> Result<&'v Value, Wire
 
 // The member that is a number below 2^64.
 pub(crate) fn u64_field(value: &Value, name: &str) -> Result<u64, WireError>
-    ensures { Gives result (field name.now (number_of (2 ^ 64)) (view value.now)) }
+    ensures { GivesReading result (field name.now (number_of (2 ^ 64)) (view value.now)) }
 {
     u64_of(member(value, name)?)
 }
 
 // The member that is a number below 2^32.
 pub(crate) fn u32_field(value: &Value, name: &str) -> Result<u32, WireError>
-    ensures { Gives result (field name.now (number_of (2 ^ 32)) (view value.now)) }
+    ensures { GivesReading result (field name.now (number_of (2 ^ 32)) (view value.now)) }
 {
     u32_of(member(value, name)?)
 }
 
 // The member that is a number below 2^16.
 pub(crate) fn u16_field(value: &Value, name: &str) -> Result<u16, WireError>
-    ensures { Gives result (field name.now (number_of (2 ^ 16)) (view value.now)) }
+    ensures { GivesReading result (field name.now (number_of (2 ^ 16)) (view value.now)) }
 {
     u16_of(member(value, name)?)
 }
 
 // The member that is a number of 64 bits with a sign.
 pub(crate) fn i64_field(value: &Value, name: &str) -> Result<i64, WireError>
-    ensures { Gives result (field name.now signed_of (view value.now)) }
+    ensures { GivesReading result (field name.now signed_of (view value.now)) }
 {
     i64_of(member(value, name)?)
 }
@@ -60,21 +60,21 @@ pub(crate) fn octets_field<const LEAST: usize, const MOST: usize>(
     value: &Value,
     name: &str,
 ) -> Result<Bounded<LEAST, MOST>, WireError>
-    ensures { Gives result (field name.now (octets_of LEAST MOST) (view value.now)) }
+    ensures { GivesReading result (field name.now (octets_of LEAST MOST) (view value.now)) }
 {
     octets_of(alloc, member(value, name)?)
 }
 
 // The member that is a digest.
 pub(crate) fn digest_field(value: &Value, name: &str) -> Result<D32, WireError>
-    ensures { Gives result (field name.now digest_of (view value.now)) }
+    ensures { GivesReading result (field name.now digest_of (view value.now)) }
 {
     digest_of(member(value, name)?)
 }
 
 // The member that is a list of digests.
 pub(crate) fn digests_field(alloc: Global, value: &Value, name: &str) -> Result<Digests, WireError>
-    ensures { Gives result (field name.now digests_of (view value.now)) }
+    ensures { GivesReading result (field name.now digests_of (view value.now)) }
 {
     digests_of(alloc, member(value, name)?)
 }
@@ -85,7 +85,7 @@ pub(crate) fn digest_lists_field(
     value: &Value,
     name: &str,
 ) -> Result<DigestLists, WireError>
-    ensures { Gives result (field name.now digest_lists_of (view value.now)) }
+    ensures { GivesReading result (field name.now digest_lists_of (view value.now)) }
 {
     digest_lists_of(alloc, member(value, name)?)
 }

@@ -1,8 +1,8 @@
 ghost use Rattle.std.specs.Prelude.{◌≡◌};
 ghost use Rattle.serde_json.specs.View.{view};
-ghost use Rattle.im_wire.specs.Gives.{Gives};
+ghost use Rattle.im_wire.specs.Gives.{GivesReading};
 ghost use Rattle.im_wire.specs.Fields.{field};
-ghost use Rattle.im_wire.specs.Messages.{header_of, entry_of, advance_proof_of, dual_proof_of, anchor_of};
+ghost use Rattle.im_wire.specs.Messages.{header_of_data, entry_of_data, advance_proof_of, dual_proof_of, anchor_of};
 
 use crate::errors::WireError;
 use crate::reading::fields::{
@@ -16,9 +16,9 @@ use serde_json::Value;
 use std::alloc::Global;
 
 // A header.
-#[tactic(auto, unfolding(crate::specs::Messages::header_of))]
-fn header_of(alloc: Global, value: &Value) -> Result<Header, WireError>
-    ensures { Gives result (header_of (view value.now)) }
+#[tactic(auto, unfolding(crate::specs::Messages::header_of_data))]
+fn header_of_data(alloc: Global, value: &Value) -> Result<Header, WireError>
+    ensures { GivesReading result (header_of_data (view value.now)) }
 {
     let bl_root = digest_field(value, "blRoot")?;
     let bl_tx_id = u64_field(value, "blTxId")?;
@@ -43,9 +43,9 @@ fn header_of(alloc: Global, value: &Value) -> Result<Header, WireError>
 }
 
 // An entry within the limits.
-#[tactic(auto, unfolding(crate::specs::Messages::entry_of))]
-fn entry_of(alloc: Global, value: &Value) -> Result<Entry, WireError>
-    ensures { Gives result (entry_of (view value.now)) }
+#[tactic(auto, unfolding(crate::specs::Messages::entry_of_data))]
+fn entry_of_data(alloc: Global, value: &Value) -> Result<Entry, WireError>
+    ensures { GivesReading result (entry_of_data (view value.now)) }
 {
     let key = octets_field(alloc, value, "key")?;
     let md = octets_field(alloc, value, "md")?;
@@ -56,7 +56,7 @@ fn entry_of(alloc: Global, value: &Value) -> Result<Entry, WireError>
 // A linear advance.
 #[tactic(auto, unfolding(crate::specs::Messages::advance_proof_of))]
 fn advance_proof_of(alloc: Global, value: &Value) -> Result<AdvanceProof, WireError>
-    ensures { Gives result (advance_proof_of (view value.now)) }
+    ensures { GivesReading result (advance_proof_of (view value.now)) }
 {
     let inclusions = digest_lists_field(alloc, value, "inclusions")?;
     let terms = digests_field(alloc, value, "terms")?;
@@ -65,14 +65,14 @@ fn advance_proof_of(alloc: Global, value: &Value) -> Result<AdvanceProof, WireEr
 
 // The member that is a header.
 pub(crate) fn header_field(alloc: Global, value: &Value, name: &str) -> Result<Header, WireError>
-    ensures { Gives result (field name.now header_of (view value.now)) }
+    ensures { GivesReading result (field name.now header_of_data (view value.now)) }
 {
-    header_of(alloc, member(value, name)?)
+    header_of_data(alloc, member(value, name)?)
 }
 
 // The member that is a linear advance.
 fn advance_proof_field(alloc: Global, value: &Value, name: &str) -> Result<AdvanceProof, WireError>
-    ensures { Gives result (field name.now advance_proof_of (view value.now)) }
+    ensures { GivesReading result (field name.now advance_proof_of (view value.now)) }
 {
     advance_proof_of(alloc, member(value, name)?)
 }
@@ -80,7 +80,7 @@ fn advance_proof_field(alloc: Global, value: &Value, name: &str) -> Result<Advan
 // A dual proof.
 #[tactic(auto, unfolding(crate::specs::Messages::dual_proof_of))]
 fn dual_proof_of(alloc: Global, value: &Value) -> Result<DualProof, WireError>
-    ensures { Gives result (dual_proof_of (view value.now)) }
+    ensures { GivesReading result (dual_proof_of (view value.now)) }
 {
     let consistency = digests_field(alloc, value, "consistency")?;
     let inclusion = digests_field(alloc, value, "inclusion")?;
@@ -108,22 +108,22 @@ pub(crate) fn dual_proof_field(
     value: &Value,
     name: &str,
 ) -> Result<DualProof, WireError>
-    ensures { Gives result (field name.now dual_proof_of (view value.now)) }
+    ensures { GivesReading result (field name.now dual_proof_of (view value.now)) }
 {
     dual_proof_of(alloc, member(value, name)?)
 }
 
 // The member that is an entry.
 pub(crate) fn entry_field(alloc: Global, value: &Value, name: &str) -> Result<Entry, WireError>
-    ensures { Gives result (field name.now entry_of (view value.now)) }
+    ensures { GivesReading result (field name.now entry_of_data (view value.now)) }
 {
-    entry_of(alloc, member(value, name)?)
+    entry_of_data(alloc, member(value, name)?)
 }
 
 // An anchor, or none where the value is null.
 #[tactic(auto, unfolding(crate::specs::Messages::anchor_of))]
 fn anchor_of(alloc: Global, value: &Value) -> Result<Option<DualProof>, WireError>
-    ensures { Gives result (anchor_of (view value.now)) }
+    ensures { GivesReading result (anchor_of (view value.now)) }
 {
     if value.is_null() {
         return Ok(None);
@@ -137,7 +137,7 @@ pub(crate) fn anchor_field(
     value: &Value,
     name: &str,
 ) -> Result<Option<DualProof>, WireError>
-    ensures { Gives result (field name.now anchor_of (view value.now)) }
+    ensures { GivesReading result (field name.now anchor_of (view value.now)) }
 {
     anchor_of(alloc, member(value, name)?)
 }

@@ -2,7 +2,7 @@ ghost use Rattle.std.specs.Prelude.{◌≡◌, ◌^◌};
 ghost use Rattle.std.specs.Result.{result_ok};
 ghost use Rattle.hex.specs.Hex.{decode_of};
 ghost use Rattle.serde_json.specs.View.{view, items_view};
-ghost use Rattle.im_wire.specs.Gives.{Gives};
+ghost use Rattle.im_wire.specs.Gives.{GivesReading};
 ghost use Rattle.im_wire.specs.Fields.{number_of, signed_of, octets_of, digest_of, digests_of, digest_lists_of, each_of};
 
 use crate::errors::WireError;
@@ -18,7 +18,7 @@ use std::alloc::Global;
 // A number below 2^64.
 #[tactic(auto, unfolding(crate::specs::Fields::number_of))]
 pub(crate) fn u64_of(value: &Value) -> Result<u64, WireError>
-    ensures { Gives result (number_of (2 ^ 64) (view value.now)) }
+    ensures { GivesReading result (number_of (2 ^ 64) (view value.now)) }
 {
     value.as_u64().ok_or(WireError::Syntax)
 }
@@ -26,7 +26,7 @@ pub(crate) fn u64_of(value: &Value) -> Result<u64, WireError>
 // A number below 2^32.
 #[tactic(auto, unfolding(crate::specs::Fields::number_of))]
 pub(crate) fn u32_of(value: &Value) -> Result<u32, WireError>
-    ensures { Gives result (number_of (2 ^ 32) (view value.now)) }
+    ensures { GivesReading result (number_of (2 ^ 32) (view value.now)) }
 {
     match value.as_u64() {
         Some(number) => u32::try_from(number).map_err(|_| WireError::Syntax),
@@ -37,7 +37,7 @@ pub(crate) fn u32_of(value: &Value) -> Result<u32, WireError>
 // A number below 2^16.
 #[tactic(auto, unfolding(crate::specs::Fields::number_of))]
 pub(crate) fn u16_of(value: &Value) -> Result<u16, WireError>
-    ensures { Gives result (number_of (2 ^ 16) (view value.now)) }
+    ensures { GivesReading result (number_of (2 ^ 16) (view value.now)) }
 {
     match value.as_u64() {
         Some(number) if number < 65536 => Ok(number as u16),
@@ -48,14 +48,14 @@ pub(crate) fn u16_of(value: &Value) -> Result<u16, WireError>
 // A number of 64 bits with a sign.
 #[tactic(auto, unfolding(crate::specs::Fields::signed_of))]
 pub(crate) fn i64_of(value: &Value) -> Result<i64, WireError>
-    ensures { Gives result (signed_of (view value.now)) }
+    ensures { GivesReading result (signed_of (view value.now)) }
 {
     value.as_i64().ok_or(WireError::Syntax)
 }
 
 // The octets that hex says.
 fn hex_octets(alloc: Global, text: &str) -> Result<Octets, WireError>
-    ensures { Gives result (result_ok (decode_of text.now)) }
+    ensures { GivesReading result (result_ok (decode_of text.now)) }
 {
     match hex::decode(alloc, text) {
         Ok(octets) => Ok(Octets::from_vec(octets)),
@@ -70,7 +70,7 @@ pub(crate) fn octets_of<const LEAST: usize, const MOST: usize>(
     alloc: Global,
     value: &Value,
 ) -> Result<Bounded<LEAST, MOST>, WireError>
-    ensures { Gives result (octets_of LEAST MOST (view value.now)) }
+    ensures { GivesReading result (octets_of LEAST MOST (view value.now)) }
 {
     let text = value.as_str().ok_or(WireError::Syntax)?;
     let octets = hex_octets(alloc, text)?;
@@ -83,7 +83,7 @@ pub(crate) fn octets_of<const LEAST: usize, const MOST: usize>(
 // A digest of 32 octets.
 #[tactic(auto, unfolding(crate::specs::Fields::digest_of))]
 pub(crate) fn digest_of(value: &Value) -> Result<D32, WireError>
-    ensures { Gives result (digest_of (view value.now)) }
+    ensures { GivesReading result (digest_of (view value.now)) }
 {
     match value.as_str() {
         Some(text) => {
@@ -99,7 +99,7 @@ pub(crate) fn digest_of(value: &Value) -> Result<D32, WireError>
 
 // The digests that the values of a list are.
 fn each_digest(alloc: Global, list: &[Value]) -> Result<Digests, WireError>
-    ensures { Gives result (each_of digest_of (items_view list.now)) }
+    ensures { GivesReading result (each_of digest_of (items_view list.now)) }
 {
     let mut digests = Vec::new(alloc);
     for value in list {
@@ -114,7 +114,7 @@ fn each_digest(alloc: Global, list: &[Value]) -> Result<Digests, WireError>
 // A list of digests.
 #[tactic(auto, unfolding(crate::specs::Fields::digests_of))]
 pub(crate) fn digests_of(alloc: Global, value: &Value) -> Result<Digests, WireError>
-    ensures { Gives result (digests_of (view value.now)) }
+    ensures { GivesReading result (digests_of (view value.now)) }
 {
     match value.as_array() {
         Some(list) => each_digest(alloc, list.as_slice()),
@@ -124,7 +124,7 @@ pub(crate) fn digests_of(alloc: Global, value: &Value) -> Result<Digests, WireEr
 
 // The lists of digests that the values of a list are.
 fn each_list(alloc: Global, list: &[Value]) -> Result<DigestLists, WireError>
-    ensures { Gives result (each_of digests_of (items_view list.now)) }
+    ensures { GivesReading result (each_of digests_of (items_view list.now)) }
 {
     let mut lists = Vec::new(alloc);
     for value in list {
@@ -139,7 +139,7 @@ fn each_list(alloc: Global, list: &[Value]) -> Result<DigestLists, WireError>
 // A list of lists of digests.
 #[tactic(auto, unfolding(crate::specs::Fields::digest_lists_of))]
 pub(crate) fn digest_lists_of(alloc: Global, value: &Value) -> Result<DigestLists, WireError>
-    ensures { Gives result (digest_lists_of (view value.now)) }
+    ensures { GivesReading result (digest_lists_of (view value.now)) }
 {
     match value.as_array() {
         Some(list) => each_list(alloc, list.as_slice()),

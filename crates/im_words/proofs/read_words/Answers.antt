@@ -3,7 +3,7 @@ use Rattle.std.specs.String.{string_bytes}
 use Rattle.clap.specs.Words.{Row, Text}
 use Rattle.std.specs.Prelude.{List, Option, Some}
 use Rattle.im_words.specs.Meaning.{asked_of}
-use Rattle.im_words.specs.declared.Asked.TheVariants.{Run, Verify}
+use Rattle.im_words.specs.declared.Request.TheVariants.{Run, Verify}
 use Rattle.im_words.specs.declared.WordsError.{WordsError}
 use Rattle.im_words.specs.declared.WordsError.TheVariants.{Memory}
 use Rattle.im_words.proofs.AnswerLemmas.{error_up, taken_error}

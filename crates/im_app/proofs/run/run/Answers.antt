@@ -9,7 +9,7 @@ use Rattle.im_format.specs.Standing.{Stands}
 use Rattle.im_model.specs.declared.transactions.Transaction.{Transaction}
 use Rattle.im_mtree.specs.Checks.{first_fail}
 use Rattle.im_script.specs.declared.commands.Line.{Line}
-use Rattle.im_app.specs.Fates.{HasFate}
+use Rattle.im_app.specs.Fates.{HasRunFate}
 use Rattle.im_app.specs.Statuses.{EndsWriting}
 use Rattle.im_app.specs.declared.status.Status.{Status}
 use Rattle.im_app.specs.declared.status.Status.TheVariants as the
@@ -64,7 +64,7 @@ returns-in-Ok-clause-fate g c = λ no_read no_write no_device.
           if_told (λ t. Stands hash (seen t) w.report.report.found) (λ t. (found : List Transaction) × Stands hash (seen t) found) (λ t s. (w.report.report.found, s)) disk w.report.report.found_is;
       sound = ran.sound;
     } in
-    read-told (g.S.Source.left c.args.source.now) script (HasFate hash disk status) given.1 (fate hash disk status script ends)
+    read-told (g.S.Source.left c.args.source.now) script (HasRunFate hash disk status) given.1 (fate hash disk status script ends)
 
 pub returns-in-Err-clause-fate : goal.returns-in-Err-clause-fate
 returns-in-Err-clause-fate g c = λ no_read no_write no_device.

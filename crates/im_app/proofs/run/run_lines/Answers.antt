@@ -16,7 +16,7 @@ use Rattle.im_opening.specs.declared.errors.OpenError.{OpenError}
 use Rattle.im_ledger.specs.declared.errors.CommitError.TheVariants as commit
 use Rattle.im_mtree.specs.Checks.{first_fail}
 use Rattle.im_session.specs.Served.{ServesAll}
-use Rattle.im_app.specs.Runs.{AddsLess, IsWhole, KeepsFound, WritesFront, opening_error}
+use Rattle.im_app.specs.Runs.{AddsLess, IsWholeReport, KeepsFound, WritesFront, opening_error}
 use Rattle.im_app.specs.Statuses.{status_by}
 use Rattle.im_app.proofs.FoundLemmas.{opened-keeps, served-keeps}
 use Rattle.im_app.proofs.GateLemmas.{gate-opened}
@@ -88,7 +88,7 @@ returns-clause-report g c = λ script given e.
     } in
     let all : ServesAll hash constant c.in-Ok.kept.logs found c.args.lines.items mid now times_before times_now out =
     on-ok c.serve-disk.result.end (ServesAll hash constant c.in-Ok.kept.logs found c.args.lines.items mid now times_before times_now out) both.0 c.serve-disk.ensures.all in
-    let L : ℕ → Type 0 = λ n. IsWhole hash constant n script out before now times_before times_now in
+    let L : ℕ → Type 0 = λ n. IsWholeReport hash constant n script out before now times_before times_now in
     record {
       script = script;
       script_is = refl;
@@ -117,7 +117,7 @@ returns-clause-part g c = λ script given e.
     } in
     let all : ServesAll hash constant c.in-Ok.kept.logs found c.args.lines.items mid now times_before times_now out =
     on-ok c.serve-disk.result.end (ServesAll hash constant c.in-Ok.kept.logs found c.args.lines.items mid now times_before times_now out) answered c.serve-disk.ensures.all in
-    let L : ℕ → Type 0 = λ n. IsWhole hash constant n script out before now times_before times_now in
+    let L : ℕ → Type 0 = λ n. IsWholeReport hash constant n script out before now times_before times_now in
     record {
       script = script;
       script_is = refl;

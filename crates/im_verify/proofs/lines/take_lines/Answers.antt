@@ -1,5 +1,5 @@
 use Rattle.std.proofs.Common.{◌≡◌, ◌+◌, ◌<◌, ◌≤◌, ℕ, List, length, Err, refl, sym, ap, ◌∙◌, arith, inl, inr}
-use Rattle.im_verify.specs.Turns.{done, Done}
+use Rattle.im_verify.specs.Turns.{done, WrittenAndKept}
 use Rattle.im_verify.specs.declared.stops.Stop.TheVariants as stops
 use Rattle.im_verify.proofs.TurnLemmas.{no-octets, ok-no-err, progress-first, progress-next, takes-all, takes-at, takes-into, takes-some}
 use Rattle.im_verify.proofs.lines.take_lines.Goals as goal
@@ -16,9 +16,9 @@ loop-rest-init g c = record {
 pub loop-rest-preserved : goal.loop-rest-preserved
 loop-rest-preserved g c =
     let hash : List ℕ → List ℕ = g.H.Hash32.digest c.args.client.now.hash in
-    let from : Done = done (g.K.Sink.written c.args.sink.now) (g.P.Keeper.kept c.args.keeper.now) in
-    let mid : Done = done (g.K.Sink.written c.loop-rest.sink) (g.P.Keeper.kept c.loop-rest.keeper) in
-    let to : Done = done (g.K.Sink.written c.take_line.new.sink) (g.P.Keeper.kept c.take_line.new.keeper) in
+    let from : WrittenAndKept = done (g.K.Sink.written c.args.sink.now) (g.P.Keeper.kept c.args.keeper.now) in
+    let mid : WrittenAndKept = done (g.K.Sink.written c.loop-rest.sink) (g.P.Keeper.kept c.loop-rest.keeper) in
+    let to : WrittenAndKept = done (g.K.Sink.written c.take_line.new.sink) (g.P.Keeper.kept c.take_line.new.keeper) in
     let some : 0 < length c.loop-rest.rest.now = grind arith in
     let fewer : c.loop-rest.number + 1 + length c.first_line.result.1.now ≤ length c.args.stream.now = omega arith in
     record {
@@ -33,9 +33,9 @@ loop-rest-preserved g c =
 pub returns-in_err-refused-clause-into : goal.returns-in_err-refused-clause-into
 returns-in_err-refused-clause-into g c = λ e.
     let hash : List ℕ → List ℕ = g.H.Hash32.digest c.args.client.now.hash in
-    let from : Done = done (g.K.Sink.written c.args.sink.now) (g.P.Keeper.kept c.args.keeper.now) in
-    let mid : Done = done (g.K.Sink.written c.loop-rest.sink) (g.P.Keeper.kept c.loop-rest.keeper) in
-    let to : Done = done (g.K.Sink.written c.take_line.new.sink) (g.P.Keeper.kept c.take_line.new.keeper) in
+    let from : WrittenAndKept = done (g.K.Sink.written c.args.sink.now) (g.P.Keeper.kept c.args.keeper.now) in
+    let mid : WrittenAndKept = done (g.K.Sink.written c.loop-rest.sink) (g.P.Keeper.kept c.loop-rest.keeper) in
+    let to : WrittenAndKept = done (g.K.Sink.written c.take_line.new.sink) (g.P.Keeper.kept c.take_line.new.keeper) in
     let some : 0 < length c.loop-rest.rest.now = grind arith in
     let failed : c.take_line.result ≡ Err stops.WriteFault = grind arith in
     takes-into hash (g.H.Hash32.digest c.loop-rest.client.hash) c.args.client.now.state c.args.stream.now c.loop-rest.rest.now c.first_line.result.0.now c.first_line.result.1.now c.loop-rest.number c.loop-rest.refused
@@ -44,9 +44,9 @@ returns-in_err-refused-clause-into g c = λ e.
 pub returns-in_err-refused-clause-some : goal.returns-in_err-refused-clause-some
 returns-in_err-refused-clause-some g c = λ e.
     let hash : List ℕ → List ℕ = g.H.Hash32.digest c.args.client.now.hash in
-    let from : Done = done (g.K.Sink.written c.args.sink.now) (g.P.Keeper.kept c.args.keeper.now) in
-    let mid : Done = done (g.K.Sink.written c.loop-rest.sink) (g.P.Keeper.kept c.loop-rest.keeper) in
-    let to : Done = done (g.K.Sink.written c.take_line.new.sink) (g.P.Keeper.kept c.take_line.new.keeper) in
+    let from : WrittenAndKept = done (g.K.Sink.written c.args.sink.now) (g.P.Keeper.kept c.args.keeper.now) in
+    let mid : WrittenAndKept = done (g.K.Sink.written c.loop-rest.sink) (g.P.Keeper.kept c.loop-rest.keeper) in
+    let to : WrittenAndKept = done (g.K.Sink.written c.take_line.new.sink) (g.P.Keeper.kept c.take_line.new.keeper) in
     let failed : c.take_line.result ≡ Err stops.Memory = grind arith in
     let same = c.take_line.ensures.nothing (inr failed) in
     takes-some hash c.args.client.now.state c.args.stream.now c.loop-rest.rest.now c.loop-rest.number c.loop-rest.refused c.loop-rest.client.state from mid to same.0 same.1 c.loop-rest.invariant.progress
@@ -54,9 +54,9 @@ returns-in_err-refused-clause-some g c = λ e.
 pub returns-in_err-refused-clause-accepted : goal.returns-in_err-refused-clause-accepted
 returns-in_err-refused-clause-accepted g c = λ e.
     let hash : List ℕ → List ℕ = g.H.Hash32.digest c.args.client.now.hash in
-    let from : Done = done (g.K.Sink.written c.args.sink.now) (g.P.Keeper.kept c.args.keeper.now) in
-    let mid : Done = done (g.K.Sink.written c.loop-rest.sink) (g.P.Keeper.kept c.loop-rest.keeper) in
-    let to : Done = done (g.K.Sink.written c.take_line.new.sink) (g.P.Keeper.kept c.take_line.new.keeper) in
+    let from : WrittenAndKept = done (g.K.Sink.written c.args.sink.now) (g.P.Keeper.kept c.args.keeper.now) in
+    let mid : WrittenAndKept = done (g.K.Sink.written c.loop-rest.sink) (g.P.Keeper.kept c.loop-rest.keeper) in
+    let to : WrittenAndKept = done (g.K.Sink.written c.take_line.new.sink) (g.P.Keeper.kept c.take_line.new.keeper) in
     let some : 0 < length c.loop-rest.rest.now = grind arith in
     let failed : c.take_line.result ≡ Err stops.KeeperFault = grind arith in
     let same = c.take_line.ensures.nothing (inl failed) in
