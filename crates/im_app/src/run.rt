@@ -25,14 +25,12 @@ use im_edge::sink::{Sink, WriteFault, write_all};
 use im_edge::source::{Source, SourceError, read_all};
 use im_ledger::errors::CommitError;
 use im_ledger::opening::open_ledger;
+use im_model::limits::MOST_INPUT_OCTETS;
 use im_opening::errors::OpenError;
 use im_script::commands::Line;
 use im_script::scripts::{ScriptError, read_script};
 use im_session::serve::{Served, serve};
 use std::alloc::Global;
-
-/// The most octets of a source.
-const MOST_OCTETS: usize = 67_108_864;
 
 /// How a run ended, and its disk.
 #[derive(Drop)]
@@ -54,7 +52,7 @@ fn read_lines<S: Source>(alloc: Global, source: &mut S) -> Result<Vec<Line>, Sta
     ensures once { S.faults source.new ≤ S.faults source.old + 1 }
     ensures count { (IsErrOf result Status.ReadFault → ⊥) → S.faults source.new ≡ S.faults source.old }
 {
-    let octets = match read_all(alloc, source, MOST_OCTETS) {
+    let octets = match read_all(alloc, source, MOST_INPUT_OCTETS) {
         Ok(octets) => octets,
         Err(SourceError::Memory) => return Err(Status::Memory),
         Err(SourceError::Failed) => return Err(Status::ReadFault),

@@ -13,10 +13,8 @@ use im_digest::Hash32;
 use im_edge::keeper::Keeper;
 use im_edge::sink::Sink;
 use im_edge::source::{Source, SourceError, read_all};
+use im_model::limits::MOST_INPUT_OCTETS;
 use std::alloc::Global;
-
-/// The most octets of a stream.
-const MOST_OCTETS: usize = 67_108_864;
 
 // Takes the lines that the keeper holds, and then those of a stream.
 fn verify_octets<H: Hash32, K: Sink, P: Keeper>(
@@ -138,7 +136,7 @@ pub fn verify<H: Hash32, S: Source, K: Sink, P: Keeper>(
         → (Rose (K.faults sink.old) (K.faults sink.new) → ⊥) → (Rose (P.faults keeper.old) (P.faults keeper.new) → ⊥)
         → IfSome (S.left source.old) (λ stream. IfSome (P.kept keeper.old) (HasFate (H.digest hash.now) result stream)) }
 {
-    match read_all(alloc, source, MOST_OCTETS) {
+    match read_all(alloc, source, MOST_INPUT_OCTETS) {
         Ok(stream) => verify_octets(alloc, hash, sink, keeper, stream.as_slice()),
         Err(SourceError::Memory) => Ended::Memory,
         Err(SourceError::Failed) => Ended::ReadFault,
