@@ -9,6 +9,7 @@ use Rattle.im_disk.specs.Disk.{Told}
 use Rattle.im_disk.specs.Grown.{after_all}
 use Rattle.im_disk.specs.declared.calls.Call.{Call}
 use Rattle.im_disk.specs.declared.calls.Call.TheVariants.{Wrote, Synced}
+use Rattle.im_disk.proofs.Growing.{told_both}
 use Rattle.im_format.specs.Batches.{gate_of, joined}
 use Rattle.im_format.specs.Places.{log_end, refs_of, AreAppended}
 use Rattle.im_format.specs.Records.{AreRecords, AreReferences, IsRecord, IsReference}
@@ -18,8 +19,6 @@ use Rattle.im_journal.specs.Holding.{AreFirst, ends_of}
 use Rattle.im_journal.specs.Kept.{Kept}
 use Rattle.im_journal.specs.Made.{Makes, writes_of}
 use Rattle.im_journal.specs.Pieces.{end_of, pieces_of}
-use Rattle.im_journal.specs.declared.errors.JournalError.TheVariants as Journal
-use Rattle.im_journal.proofs.Making.{makes_then, none_makes, ok_isnt_err}
 use Rattle.im_journal.proofs.Limits.{first_number}
 use Rattle.im_journal.proofs.Prefixes.{joined_more}
 use Rattle.im_ledger.specs.Commits.{CommitMakes, calls_of}
@@ -75,16 +74,7 @@ each-more batches (x ∷ rs) r =
 -- some calls, and then others
 told-then : (a b : List Call) (first mid now : Option Told) → mid ≡ option_map (after_all a) first → now ≡ option_map (after_all b) mid → now ≡ option_map (after_all (a ++ b)) first
 told-then a b first mid now one two =
-    let then : Makes {T = Unit {0}} Journal.DiskFault Journal.Memory b [] mid now (Ok tt) = record {
-      ok = two;
-      failed = λ e. absurd (ok_isnt_err tt Journal.DiskFault e);
-      ran_out = λ e. absurd (ok_isnt_err tt Journal.Memory e);
-    } in
-    (makes_then a b [] first mid now (Ok tt) one then).ok
-
--- none yet
-pub told-none : (first : Option Told) → first ≡ option_map (after_all []) first
-told-none first = (none_makes {T = Unit {0}} tt [] first).ok
+    two ∙ ap (λ (o : Option Told). option_map (after_all b) o) one ∙ told_both a b first
 
 -- behind a journal at rest with these batches the calls are those of a batch behind them
 calls-same : {D : Type 0} (hash : Hash) (history : List Transaction) (batches : List (List Record)) (k : Kept D) (rs : List Record) → AreFirst hash history batches k.durable k.ends

@@ -5,6 +5,7 @@ use Rattle.std.proofs.lemmas.List.{map-append}
 use Rattle.std.specs.Prelude.{Option, IfSome, Ok}
 use Rattle.im_digest.specs.Digests.{Hash}
 use Rattle.im_disk.specs.Disk.{Files, Told, seen}
+use Rattle.im_disk.proofs.Growing.{told_none}
 use Rattle.im_disk.proofs.Leaving.{if_told}
 use Rattle.im_model.specs.declared.transactions.Transaction.{Transaction}
 use Rattle.im_format.specs.Batches.{gate_of, joined, spans_of}
@@ -23,7 +24,7 @@ use Rattle.im_journal.proofs.Turns.{stands, stands_batches}
 use Rattle.im_ledger.specs.Commits.{CommitMakes}
 use Rattle.im_ledger.specs.Histories.{HasCommitted, IsKept, KeptHistory}
 use Rattle.im_session.specs.Put.{ArePutBehind, IsKeptPut, StandsPut}
-use Rattle.im_session.proofs.CallLemmas.{calls-grown, told-none}
+use Rattle.im_session.proofs.CallLemmas.{calls-grown}
 
 -- the values of one transaction more
 put-more : (w id : ℕ) (before : List ValueRef) (rs : List Record) (r : Record) → ArePut w id before rs → AreAppended w (id + length rs) 0 (before ++ refs_of rs) r.refs → ArePut w id before (rs ++ r ∷ [])
@@ -100,7 +101,7 @@ module _ {D : Type 0} (told : D → Option Told) (hash : Hash) (k : KeptHistory 
     put = record { first = kept.batches; rest = []; batches_are = sym (append-nil kept.batches); found_are = size kept.batches kept.rests; put = tt };
     over = refl;
     held = batches-shown;
-    calls = told-none (told k.journal.disk);
+    calls = told_none (told k.journal.disk);
   }
 
   -- a transaction was committed
