@@ -3,6 +3,7 @@ use Rattle.std.proofs.Common.{◌≡◌, ◌≤◌, ℕ, List, true, length, tak
 use Rattle.std.specs.Fmt.{decimal}
 use Rattle.std.proofs.lemmas.Bool.{both_ways}
 use Rattle.std.proofs.lemmas.List.{get_or-map, length-map, length-take-le}
+use Rattle.im_octet.proofs.Common.{some-is}
 use Rattle.im_digest.specs.Digests.{Hash}
 use Rattle.im_model.specs.History.{header_of, IsHistory}
 use Rattle.im_model.specs.declared.headers.Header.{Header as TheHeader}
@@ -38,9 +39,6 @@ line-replies a name few = record {
   is_number = decimal-word a.number few;
   text = simp append_assoc;
 }
-
-some-is : (x y : ℕ) → Some x ≡ Some y → x ≡ y
-some-is x y e = cc
 
 -- the header that is kept
 for-some : (hash : Hash) (h : List Transaction) (c : Command) (n k : ℕ) (header : TheHeader) → kept_number c n ≡ Some k → IsFor hash h c n (Some header) → header ≡ header_of hash h k

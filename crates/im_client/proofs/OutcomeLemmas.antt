@@ -16,10 +16,12 @@ use Rattle.im_client.specs.Folds.{IsOutcome, IsFold, state_by}
 none-some : {A : Type 0} (x : A) → None ≡ Some x → ⊥
 none-some x e = cc
 
-ok-err : {F : Type 0} (r : Result (Unit {0}) F) (f : F) → r ≡ Ok tt → r ≡ Err f → ⊥
+-- what is found is one of the two
+pub ok-err : {F : Type 0} (r : Result (Unit {0}) F) (f : F) → r ≡ Ok tt → r ≡ Err f → ⊥
 ok-err r f h k = cc
 
-err-is : {F : Type 0} (r : Result (Unit {0}) F) (f g : F) → r ≡ Err f → r ≡ Err g → f ≡ g
+-- and one error
+pub err-is : {F : Type 0} (r : Result (Unit {0}) F) (f g : F) → r ≡ Err f → r ≡ Err g → f ≡ g
 err-is r f g h k = cc
 
 -- a line says one message at most

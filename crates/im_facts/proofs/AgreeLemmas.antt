@@ -7,6 +7,8 @@ use Rattle.std.proofs.lemmas.List.Elements.{All-from_recursion, All-contains, re
 use Rattle.im_model.specs.declared.headers.Header.{Header}
 use Rattle.im_model.specs.declared.entries.Entry.{Entry}
 use Rattle.im_pairs.proofs.PairLemmas.{equal_or_not}
+use Rattle.im_pairs.proofs.HeaderLemmas.{same-fields}
+use Rattle.im_pairs.proofs.EntryLemmas.{same-entry-fields}
 use Rattle.im_wire.specs.declared.messages.Message.{Message}
 use Rattle.im_facts.specs.Facts.{Known, Agrees, IsAlike, IsEntryAlike, Differs, known_header, entry_at, headers_shown, entries_shown}
 use Rattle.im_facts.specs.declared.facts.EntryFact.{EntryFact}
@@ -34,13 +36,6 @@ signed-one (negsuc m) (negsuc n) = go (cases_eq m n)
     go (inl e) = inl (ap negsuc e)
     go (inr ne) = inr (λ e. ne (cc))
 
-pub same-header : (h k : Header) → h.id ≡ k.id → h.ts ≡ k.ts → h.bl_tx_id ≡ k.bl_tx_id → h.bl_root ≡ k.bl_root → h.prev_alh ≡ k.prev_alh
-    → h.version ≡ k.version → h.md ≡ k.md → h.nentries ≡ k.nentries → h.eh ≡ k.eh → h ≡ k
-same-header h k a b c d e f g m n = λ i. record { id = a i; ts = b i; bl_tx_id = c i; bl_root = d i; prev_alh = e i; version = f i; md = g i; nentries = m i; eh = n i }
-
-pub same-entry : (a b : Entry) → a.md ≡ b.md → a.key ≡ b.key → a.value ≡ b.value → a ≡ b
-same-entry a b p q r = λ i. record { md = p i; key = q i; value = r i }
-
 -- headers are equal or not
 pub header-one : (h k : Header) → IsOneOrNot h k
 header-one h k =
@@ -53,7 +48,7 @@ header-one h k =
     one-more (λ (x : Header). x.md) h k (h ≡ k) (equal_or_not h.md k.md) (λ g.
     one-more (λ (x : Header). x.nentries) h k (h ≡ k) (cases_eq h.nentries k.nentries) (λ m.
     one-more (λ (x : Header). x.eh) h k (h ≡ k) (equal_or_not h.eh k.eh) (λ n.
-    inl (same-header h k a b c d e f g m n))))))))))
+    inl (same-fields h k a b c d e f g m n))))))))))
 
 -- entries too
 pub entry-one : (a b : Entry) → IsOneOrNot a b
@@ -61,7 +56,7 @@ entry-one a b =
     one-more (λ (x : Entry). x.md) a b (a ≡ b) (equal_or_not a.md b.md) (λ p.
     one-more (λ (x : Entry). x.key) a b (a ≡ b) (equal_or_not a.key b.key) (λ q.
     one-more (λ (x : Entry). x.value) a b (a ≡ b) (equal_or_not a.value b.value) (λ r.
-    inl (same-entry a b p q r))))
+    inl (same-entry-fields a b p q r))))
 
 -- one of some fails
 abbrev SomeUnlike : (X F : Type 0) → (F → Option X) → (F → X) → List F → Type 0

@@ -18,10 +18,7 @@ use Rattle.im_client.specs.declared.faults.LineFault.TheVariants.{Dual, Anchor, 
 use Rattle.im_facts.specs.Accepted.{IsAccepted, AreAccepted, IsClient}
 use Rattle.im_facts.specs.Facts.{Known, nothing, with_message}
 use Rattle.im_facts.proofs.ShownLemmas.{held-named}
-
-dual-holds : (hash : Hash) (state : Header) (p : DualProof) → first_fail (dual_line_checks hash state p) ≡ Ok tt → first_fail (dual_checks hash p) ≡ Ok tt
-dual-holds hash state p h =
-    held-named Dual (dual_checks hash p) (none-fails (as_faults Dual (dual_checks hash p)) (all-hold (dual_line_checks hash state p) h).1.1)
+use Rattle.im_facts.proofs.ShowLemmas.{dual-checks}
 
 anchor-holds : (hash : Hash) (p : DualProof) (anchor : Option DualProof) → first_fail (anchor_checks hash p anchor) ≡ Ok tt → AnchorHolds hash anchor
 anchor-holds hash p None h = tt
@@ -40,13 +37,13 @@ advance-holds hash state p anchor h =
 pub proofs-hold : (hash : Hash) (state : Option Header) (m : Message) → first_fail (line_checks hash state m) ≡ Ok tt → ProofsHold hash m
 proofs-hold hash state (says.State header) h = tt
 proofs-hold hash None (says.Dual p) h = absurd cc
-proofs-hold hash (Some s) (says.Dual p) h = dual-holds hash s p h
+proofs-hold hash (Some s) (says.Dual p) h = dual-checks hash s p h
 proofs-hold hash None (says.Advance p anchor) h = absurd cc
 proofs-hold hash (Some s) (says.Advance p anchor) h = advance-holds hash s p anchor h
 proofs-hold hash None (says.Item p entry index path) h = absurd cc
 proofs-hold hash (Some s) (says.Item p entry index path) h =
     let both = each-holds (dual_line_checks hash s p) (as_faults Path (path_checks hash (entry_digest hash entry) index p.source.nentries path p.source.eh)) h in
-    (dual-holds hash s p both.0, held-named Path (path_checks hash (entry_digest hash entry) index p.source.nentries path p.source.eh) both.1)
+    (dual-checks hash s p both.0, held-named Path (path_checks hash (entry_digest hash entry) index p.source.nentries path p.source.eh) both.1)
 
 all-hold-after : (hash : Hash) (known : Known) (messages : List Message) → AreAccepted hash known messages → AllByRecursion (ProofsHold hash) messages
 all-hold-after hash known [] all = tt

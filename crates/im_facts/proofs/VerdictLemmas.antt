@@ -6,7 +6,7 @@ use Rattle.im_wire.specs.Lines.{IsLine}
 use Rattle.im_wire.specs.declared.messages.Message.{Message}
 use Rattle.im_client.specs.LineChecks.{line_checks}
 use Rattle.im_client.specs.declared.faults.LineFault.{LineFault}
-use Rattle.im_client.proofs.OutcomeLemmas.{says-one, says-none}
+use Rattle.im_client.proofs.OutcomeLemmas.{err-is, ok-err, says-one, says-none}
 use Rattle.im_facts.specs.Facts.{Known, with_message, Differs}
 use Rattle.im_facts.specs.Folds.{IsTakenAs, IsVerdict, AreVerdicts, known_behind, known_by, known_by_all}
 use Rattle.im_facts.specs.Verdicts.{Verdict, Passed, Accepted, Refused, Forked, IsSameVerdict, AreSameVerdicts, messages_of, taken_of}
@@ -14,12 +14,6 @@ use Rattle.im_facts.specs.declared.taken.Shown.{Shown}
 use Rattle.im_facts.specs.declared.taken.Taken.{Taken}
 use Rattle.im_facts.specs.declared.taken.Taken.TheVariants as took
 use Rattle.im_facts.proofs.AgreeLemmas.{not-both}
-
-ok-err : {F : Type 0} (r : Result (Unit {0}) F) (f : F) → r ≡ Ok tt → r ≡ Err f → ⊥
-ok-err r f h k = cc
-
-err-is : {F : Type 0} (r : Result (Unit {0}) F) (f g : F) → r ≡ Err f → r ≡ Err g → f ≡ g
-err-is r f g h k = cc
 
 -- what is found of the message that a line says
 found-as : (hash : Hash) (known : Known) (line : List ℕ) (m n : Message) (r : Result (Unit {0}) LineFault) → IsLine line (Some m) → IsLine line (Some n)

@@ -6,6 +6,7 @@ use Rattle.std.specs.Prelude.{IfSome}
 use Rattle.std.proofs.lemmas.List.{get_or_default, get_or-map, length-map}
 use Rattle.std.proofs.lemmas.Bool.{both_ways, cases_lt}
 use Rattle.std.proofs.lemmas.Slice.Eq.{bytes_eq-Decides}
+use Rattle.im_octet.proofs.Common.{some-is}
 use Rattle.im_digest.specs.Digests.{Hash}
 use Rattle.im_pairs.specs.Pairs.{IsPair, HasPair}
 use Rattle.im_hashed.specs.Places.{string_at}
@@ -25,10 +26,6 @@ put-cases find put digest n =
       | true ↦ λ t. inl (decided.0 t, refl)
       | false ↦ λ f. inr (λ same. both_ways (bytes_eq put digest) f (decided.1 same), refl)
     ] refl
-
--- one place
-same-place : (i k : ℕ) → Some i ≡ Some k → i ≡ k
-same-place i k e = cc
 
 -- no place at first
 pub places-none : (hash : Hash) (strings : List (List ℕ)) (find : List ℕ → Option ℕ) → ((digest : List ℕ) → find digest ≡ None) → ArePlaces hash strings 0 find
@@ -60,7 +57,7 @@ pub places-suc : (hash : Hash) (strings : List (List ℕ)) (n : ℕ) (put : List
 places-suc hash strings n put find next is equal steps places = record {
   found = λ digest i e. elim (put-cases find put digest n) [
     | inl here ↦ (
-        let same : n ≡ i = same-place n i (sym here.1 ∙ sym (steps digest) ∙ e) in
+        let same : n ≡ i = some-is n i (sym here.1 ∙ sym (steps digest) ∙ e) in
         (omega arith, subst (λ (k : ℕ). hash (string_at strings k) ≡ digest) same (sym is ∙ here.0)))
     | inr there ↦ (
         let before = places.found digest i (sym there.1 ∙ sym (steps digest) ∙ e) in
@@ -109,7 +106,7 @@ none-found hash strings n find all places pair =
     let here = places.known p.left.0 (omega (arith, p.left.1)) in
     let there = places.known p.right.0 (omega (arith, p.right.1)) in
     let digests : hash (string_at strings p.left.0) ≡ hash (string_at strings p.right.0) = ap hash at ∙ p.same ∙ ap hash (sym at2) in
-    let same : here.0 ≡ there.0 = same-place here.0 there.0 (sym here.1 ∙ ap find digests ∙ there.1) in
+    let same : here.0 ≡ there.0 = some-is here.0 there.0 (sym here.1 ∙ ap find digests ∙ there.1) in
     p.unequal (sym at ∙ sym here.2 ∙ ap (λ k. string_at strings k) same ∙ there.2 ∙ at2)
 
 -- the digest at a place is that of the string there

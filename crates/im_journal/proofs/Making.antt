@@ -3,6 +3,7 @@ use Rattle.std.proofs.Common.{◌≡◌, ℕ, ◌+◌, List, [], ◌∷◌, ◌+
 use Rattle.std.proofs.lemmas.List.{append-nil}
 use Rattle.std.specs.Prelude.{Option, Some, None, Result, Ok, Err, OnOk, IsErrAnd, IsErrOf}
 use Rattle.std.specs.Option.{option_map}
+use Rattle.im_octet.proofs.Common.{ok-isnt}
 use Rattle.im_disk.specs.Disk.{Told, after}
 use Rattle.im_disk.specs.Grown.{after_all}
 use Rattle.im_disk.specs.declared.calls.Call.{Call}
@@ -78,9 +79,6 @@ stops_makes T calls call left o m n e h one = record {
   ran_out = λ is. made_both calls (call ∷ []) (call ∷ []) left o m n h (one.ran_out is);
 }
 
-pub ok_isnt_err : {T E : Type 0} (x : T) (e : E) → IsErrOf {T = T} {E = E} (Ok x) e → ⊥
-ok_isnt_err x e is = cc
-
 fault_isnt_memory : (T : Type 0) → IsErrOf {T = T} (Err DiskFault) Memory → ⊥
 fault_isnt_memory T is = cc
 
@@ -96,8 +94,8 @@ answer_of (Err Disk.Memory) = Err Memory
 pub makes_on : {T : Type 0} (calls left : List Call) (o n : Option Told) (r : Result T DiskError) → Makes Disk.Failed Disk.Memory calls left o n r → Makes DiskFault Memory calls left o n (answer_of r)
 makes_on {T} calls left o n (Ok x) m = record {
   ok = m.ok;
-  failed = λ e. absurd (ok_isnt_err x DiskFault e);
-  ran_out = λ e. absurd (ok_isnt_err x Memory e);
+  failed = λ e. absurd (ok-isnt x DiskFault e);
+  ran_out = λ e. absurd (ok-isnt x Memory e);
 }
 makes_on {T} calls left o n (Err Disk.Failed) m = record {
   ok = tt;
@@ -135,7 +133,7 @@ makes_before T calls left more o n e h = record {
 
 -- a step with no calls
 pub none_makes : {T : Type 0} (x : T) (left : List Call) (o : Option Told) → Makes DiskFault Memory [] left o o (Ok x)
-none_makes x left o = record { ok = told_none o; failed = λ e. absurd (ok_isnt_err x DiskFault e); ran_out = λ e. absurd (ok_isnt_err x Memory e) }
+none_makes x left o = record { ok = told_none o; failed = λ e. absurd (ok-isnt x DiskFault e); ran_out = λ e. absurd (ok-isnt x Memory e) }
 
 -- a step that didn't begin
 unbegun : (T : Type 0) (calls : List Call) (o : Option Told) → Makes {T = T} DiskFault Memory calls calls o o (Err Memory)

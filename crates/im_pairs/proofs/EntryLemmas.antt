@@ -13,7 +13,7 @@ use Rattle.im_pairs.proofs.FieldLemmas.{same-field2}
 use Rattle.im_pairs.proofs.UpLemmas.{same_lead}
 
 -- entries are equal by their fields
-same-entry-fields : (a b : Entry) → a.md ≡ b.md → a.key ≡ b.key → a.value ≡ b.value → a ≡ b
+pub same-entry-fields : (a b : Entry) → a.md ≡ b.md → a.key ≡ b.key → a.value ≡ b.value → a ≡ b
 same-entry-fields a b p q r = λ i. record { md = p i; key = q i; value = r i }
 
 -- what equal strings of an entry tell

@@ -11,7 +11,7 @@ use Rattle.im_octet.proofs.FieldLemmas.{length-field2, length-field4, length-fie
 use Rattle.im_pairs.proofs.FieldLemmas.{same-field2, same-field4, same-field8, same-signed8, length-three, three}
 
 -- headers are equal by their fields
-same-fields : (h k : Header) → h.id ≡ k.id → h.ts ≡ k.ts → h.bl_tx_id ≡ k.bl_tx_id → h.bl_root ≡ k.bl_root → h.prev_alh ≡ k.prev_alh
+pub same-fields : (h k : Header) → h.id ≡ k.id → h.ts ≡ k.ts → h.bl_tx_id ≡ k.bl_tx_id → h.bl_root ≡ k.bl_root → h.prev_alh ≡ k.prev_alh
     → h.version ≡ k.version → h.md ≡ k.md → h.nentries ≡ k.nentries → h.eh ≡ k.eh → h ≡ k
 same-fields h k a b c d e f g m n = λ i. record { id = a i; ts = b i; bl_tx_id = c i; bl_root = d i; prev_alh = e i; version = f i; md = g i; nentries = m i; eh = n i }
 

@@ -1,5 +1,6 @@
 use Rattle.std.proofs.Common.{rules, ◌+◌, List, take, drop, subst, sym, Err}
 use Rattle.std.specs.Prelude.{IfSome}
+use Rattle.im_octet.proofs.Common.{ok-isnt}
 use Rattle.im_disk.proofs.Leaving.{leaves_both}
 use Rattle.im_format.specs.declared.spans.Span.{Span}
 use Rattle.im_journal.specs.Phases.{IsSafe, IsStaging}
@@ -8,7 +9,7 @@ use Rattle.im_disk.specs.declared.calls.Call.TheVariants.{Wrote}
 use Rattle.im_disk.specs.declared.disk.DiskError.TheVariants as Disk
 use Rattle.im_journal.specs.Made.{MadeUpTo, Makes, writes_of}
 use Rattle.std.proofs.lemmas.List.{drop_all}
-use Rattle.im_journal.proofs.Making.{all_made, next_made, ok_isnt_err, stops_makes}
+use Rattle.im_journal.proofs.Making.{all_made, next_made, stops_makes}
 use Rattle.im_journal.proofs.steps.put_pieces.Goals as goal
 
 pub put_piece-requires-clause-within : goal.put_piece-requires-clause-within
@@ -71,6 +72,6 @@ returns-clause-calls g c =
     let calls = writes_of (drop c.args.written.now ps) in record {
       ok = all_made calls _ _
           (subst (λ (l : List Span). MadeUpTo calls (writes_of l) (g.D.Disk.told c.args.disk.now) (g.D.Disk.told c.loop-written.disk)) (drop_all c.loop-written.written ps c.loop-written-test.false) c.loop-written.invariant.made);
-      failed = λ e. absurd (ok_isnt_err tt Disk.Failed e);
-      ran_out = λ e. absurd (ok_isnt_err tt Disk.Memory e);
+      failed = λ e. absurd (ok-isnt tt Disk.Failed e);
+      ran_out = λ e. absurd (ok-isnt tt Disk.Memory e);
     }
