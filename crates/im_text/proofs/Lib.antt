@@ -2,5 +2,4 @@ pub mod CutLemmas
 pub mod DecideLemmas
 pub mod FindsLemmas
 pub mod LineLemmas
-pub mod PartLemmas
 pub mod WordLemmas

@@ -8,7 +8,7 @@ use std::alloc::{AllocError, Global};
 
 /// Adds a text, and then octets as lower-case hex. Where memory is refused a front part of them may
 /// have been added.
-#[tactic(auto, using(crate::proofs::PartLemmas::part_none, crate::proofs::PartLemmas::part_first))]
+#[tactic(auto, using(im_octet::proofs::PartLemmas::part_none, im_octet::proofs::PartLemmas::part_first))]
 pub fn push_hex(
     alloc: Global,
     out: &mut Vec<u8>,
@@ -24,7 +24,7 @@ pub fn push_hex(
 
 /// Adds a text, and then a number in decimal. Where memory is refused a front part of them may
 /// have been added.
-#[tactic(auto, using(crate::proofs::PartLemmas::part_none, crate::proofs::PartLemmas::part_first))]
+#[tactic(auto, using(im_octet::proofs::PartLemmas::part_none, im_octet::proofs::PartLemmas::part_first))]
 pub fn push_number(alloc: Global, out: &mut Vec<u8>, text: &[u8], n: u64) -> Result<(), AllocError>
     ensures whole { OnOk result (out.new.items ≡ out.old.items ++ text.now ++ decimal n) }
     ensures part { OnErr result ((k : ℕ) × (out.new.items ≡ out.old.items ++ take k (text.now ++ decimal n))) }
