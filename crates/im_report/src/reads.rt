@@ -1,4 +1,4 @@
-ghost use Rattle.std.specs.Prelude.{ℕ, List, ◌≡◌, ◌≢◌, ◌++◌, codes, option_copied, IfOk, OnOk, OnErr};
+ghost use Rattle.std.specs.Prelude.{ℕ, ◌≡◌, ◌≢◌, ◌++◌, take, codes, option_copied, IfOk, OnOk, OnErr};
 ghost use Rattle.std.specs.Fmt.{decimal};
 ghost use Rattle.im_report.specs.Reads.{history_reply, bare_or_hex, place_reply, scan_reply, scanned_text, value_reply, version_text};
 
@@ -8,9 +8,22 @@ use im_versions::refusals::PlaceError;
 use im_versions::versions::Version;
 use std::alloc::{AllocError, Global};
 
+// Adds octets as they are printed.
+#[tactic(auto, unfolding(crate::specs::Reads::bare_or_hex), using(im_octet::proofs::PartLemmas::part_none))]
+fn push_printed(alloc: Global, out: &mut Vec<u8>, octets: &[u8]) -> Result<(), AllocError>
+    ensures whole { OnOk result (out.new.items ≡ out.old.items ++ bare_or_hex octets.now) }
+    ensures part { OnErr result ((n : ℕ) × (out.new.items ≡ out.old.items ++ take n (bare_or_hex octets.now))) }
+{
+    if is_bare(octets) {
+        out.extend_from_slice(octets)
+    } else {
+        push_hex(alloc, out, b"0x", octets)
+    }
+}
+
 /// Adds a text, and then octets as they are printed: as they are where they are a bare word, else as `0x`
-/// and lower-case hex. Where memory ran out a part may have been added, and what stood before it stays.
-#[tactic(auto, unfolding(crate::specs::Reads::bare_or_hex))]
+/// and lower-case hex. Where memory ran out a front part of them may have been added.
+#[tactic(auto, using(im_octet::proofs::PartLemmas::part_none))]
 pub fn push_octets(
     alloc: Global,
     out: &mut Vec<u8>,
@@ -18,14 +31,26 @@ pub fn push_octets(
     octets: &[u8],
 ) -> Result<(), AllocError>
     ensures whole { OnOk result (out.new.items ≡ out.old.items ++ text.now ++ bare_or_hex octets.now) }
-    ensures part { OnErr result ((part : List ℕ) × (out.new.items ≡ out.old.items ++ part)) }
+    ensures part { OnErr result ((n : ℕ) × (out.new.items ≡ out.old.items ++ take n (text.now ++ bare_or_hex octets.now))) }
 {
     out.extend_from_slice(text)?;
-    if is_bare(octets) {
-        out.extend_from_slice(octets)
-    } else {
-        push_hex(alloc, out, b"0x", octets)
-    }
+    push_printed(alloc, out, octets)
+}
+
+// Adds a text, octets as they are printed, a second text, and the number of the transaction that wrote the octets.
+fn push_written(
+    alloc: Global,
+    out: &mut Vec<u8>,
+    text: &[u8],
+    octets: &[u8],
+    mark: &[u8],
+    tx: u64,
+) -> Result<(), AllocError>
+    ensures whole { OnOk result (out.new.items ≡ out.old.items ++ text.now ++ bare_or_hex octets.now ++ mark.now ++ decimal tx) }
+    ensures part { OnErr result ((n : ℕ) × (out.new.items ≡ out.old.items ++ take n (text.now ++ bare_or_hex octets.now ++ mark.now ++ decimal tx))) }
+{
+    push_octets(alloc, out, text, octets)?;
+    push_number(alloc, out, mark, tx)
 }
 
 // A text and octets.
@@ -41,8 +66,8 @@ fn with_octets(alloc: Global, text: &[u8], octets: &[u8]) -> Result<Vec<u8>, All
 fn with_writer(alloc: Global, text: &[u8], octets: &[u8], tx: u64) -> Result<Vec<u8>, AllocError>
     ensures { IfOk result (λ out. out.items ≡ text.now ++ bare_or_hex octets.now ++ codes " tx " ++ decimal tx) }
 {
-    let mut out = with_octets(alloc, text, octets)?;
-    push_number(alloc, &mut out, b" tx ", tx)?;
+    let mut out = Vec::new(alloc);
+    push_written(alloc, &mut out, text, octets, b" tx ", tx)?;
     Ok(out)
 }
 
@@ -75,15 +100,30 @@ pub fn value_text(alloc: Global, version: Option<&Version>) -> Result<Vec<u8>, A
     }
 }
 
+// Adds a key, its value, and the number of the transaction that wrote it: ` K=V@<m>`.
+fn push_pair(
+    alloc: Global,
+    out: &mut Vec<u8>,
+    key: &[u8],
+    value: &[u8],
+    tx: u64,
+) -> Result<(), AllocError>
+    ensures whole { OnOk result (out.new.items ≡ out.old.items ++ codes " " ++ bare_or_hex key.now ++ codes "=" ++ bare_or_hex value.now ++ codes "@" ++ decimal tx) }
+    ensures part { OnErr result ((n : ℕ) × (out.new.items ≡ out.old.items ++ take n (codes " " ++ bare_or_hex key.now ++ codes "=" ++ bare_or_hex value.now ++ codes "@" ++ decimal tx))) }
+{
+    push_octets(alloc, out, b" ", key)?;
+    push_written(alloc, out, b"=", value, b"@", tx)
+}
+
 // Adds a live key of a scan: ` K=V@<m>`.
 #[tactic(auto, unfolding(crate::specs::Reads::scanned_text))]
 fn push_scanned(alloc: Global, out: &mut Vec<u8>, version: &Version) -> Result<(), AllocError>
     ensures whole { OnOk result (out.new.items ≡ out.old.items ++ scanned_text version.now) }
-    ensures part { OnErr result ((part : List ℕ) × (out.new.items ≡ out.old.items ++ part)) }
+    ensures part { OnErr result ((n : ℕ) × (out.new.items ≡ out.old.items ++ take n (scanned_text version.now))) }
 {
-    push_octets(alloc, out, b" ", version.key.as_slice())?;
-    push_octets(alloc, out, b"=", version.value.as_slice())?;
-    push_number(alloc, out, b"@", version.tx)
+    let key = version.key.as_slice();
+    let value = version.value.as_slice();
+    push_pair(alloc, out, key, value, version.tx)
 }
 
 /// The reply of live keys, each as its last version: `scan <count>` and ` K=V@<m>` for each, in their order.
@@ -103,14 +143,13 @@ pub fn scan_text(alloc: Global, shown: &[Version]) -> Result<Vec<u8>, AllocError
 #[tactic(auto, unfolding(crate::specs::Reads::version_text))]
 fn push_version(alloc: Global, out: &mut Vec<u8>, version: &Version) -> Result<(), AllocError>
     ensures whole { OnOk result (out.new.items ≡ out.old.items ++ version_text version.now) }
-    ensures part { OnErr result ((part : List ℕ) × (out.new.items ≡ out.old.items ++ part)) }
+    ensures part { OnErr result ((n : ℕ) × (out.new.items ≡ out.old.items ++ take n (version_text version.now))) }
 {
     if version.deleted {
-        out.extend_from_slice(b" !")?;
+        push_number(alloc, out, b" !@", version.tx)
     } else {
-        push_octets(alloc, out, b" ", version.value.as_slice())?;
+        push_written(alloc, out, b" ", version.value.as_slice(), b"@", version.tx)
     }
-    push_number(alloc, out, b"@", version.tx)
 }
 
 /// The reply of a key's versions, oldest first: `history <count>` and ` V@<m>` for each, or ` !@<m>` for a
