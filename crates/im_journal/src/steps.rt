@@ -8,6 +8,7 @@ ghost use Rattle.im_disk.specs.declared.calls.Call.TheVariants.{Wrote, Synced};
 ghost use Rattle.im_journal.specs.Made.{Makes, writes_of};
 ghost use Rattle.im_journal.specs.Phases.{FitsDisk, IsSafe, IsStaging, IsSealed, IsEither, IsGated, IsDone};
 
+use im_alog::laying::{put, sync};
 use im_disk::disk::{Disk, DiskError};
 use im_format::files::COMMIT_LOG;
 use im_format::spans::Span;
@@ -27,7 +28,7 @@ fn put_piece<D: Disk>(disk: &mut D, piece: &Span) -> Result<(), DiskError>
     ensures calls { Makes DiskError.Failed DiskError.Memory (writes_of (piece.now ∷ [])) (writes_of (piece.now ∷ [])) (D.told disk.old) (D.told disk.new) result }
     ensures cause { HasCause (D.faults disk.old) (D.faults disk.new) result }
 {
-    disk.write_at(piece.file, piece.at, piece.octets.as_slice())
+    put(disk, piece)
 }
 
 /// Writes what is left of the pieces of a batch.
@@ -78,7 +79,7 @@ pub(crate) fn seal_pieces<D: Disk>(disk: &mut D) -> Result<(), DiskError>
     ensures calls { Makes DiskError.Failed DiskError.Memory (Synced ∷ []) (Synced ∷ []) (D.told disk.old) (D.told disk.new) result }
     ensures cause { HasCause (D.faults disk.old) (D.faults disk.new) result }
 {
-    disk.sync()
+    sync(disk)
 }
 
 /// Opens the gate of a batch.
@@ -110,5 +111,5 @@ pub(crate) fn settle_gate<D: Disk>(disk: &mut D) -> Result<(), DiskError>
     ensures calls { Makes DiskError.Failed DiskError.Memory (Synced ∷ []) (Synced ∷ []) (D.told disk.old) (D.told disk.new) result }
     ensures cause { HasCause (D.faults disk.old) (D.faults disk.new) result }
 {
-    disk.sync()
+    sync(disk)
 }

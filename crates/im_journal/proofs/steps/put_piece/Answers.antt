@@ -1,8 +1,6 @@
-use Rattle.std.proofs.Common.{◌≡◌, ℕ, List, [], ◌∷◌, ◌++◌, length, subst}
-use Rattle.std.specs.Prelude.{IfSome, OnOk, IsErrOf}
-use Rattle.std.specs.Option.{option_map}
+use Rattle.std.proofs.Common.{[], ◌∷◌, ◌++◌, length}
+use Rattle.std.specs.Prelude.{IfSome}
 use Rattle.im_disk.specs.Disk.{after}
-use Rattle.im_disk.specs.declared.disk.DiskError.TheVariants.{Failed}
 use Rattle.im_disk.specs.declared.calls.Call.TheVariants.{Wrote, Tore}
 use Rattle.im_disk.proofs.Leaving.{if_told, leaves_by_answer, on_ok_after}
 use Rattle.im_alog.proofs.Outcomes.{if_mapped}
@@ -14,19 +12,14 @@ use Rattle.im_journal.proofs.steps.put_piece.Goals as goal
 pub returns-clause-ok : goal.returns-clause-ok
 returns-clause-ok g c ends spans gate pieces left s =
     let p = c.args.piece.now in
-    let o = g.D.Disk.told c.args.disk.now in
-    let n = g.D.Disk.told c.write_at.new.self in
-    let ok = subst (λ (x : List ℕ). OnOk c.write_at.result (n ≡ option_map (after (Wrote p.file p.at x)) o)) c.as_slice.ensures c.write_at.ensures.ok in
-    on_ok_after (λ o. IfSome o (IsStaging ends spans gate (pieces ++ p ∷ []) left)) _ _ c.write_at.result ok (if_mapped _ _ _ (wrote ends spans gate pieces p left) o s)
+    on_ok_after (λ o. IfSome o (IsStaging ends spans gate (pieces ++ p ∷ []) left)) _ _ c.put.result c.put.ensures.ok
+    (if_mapped _ _ _ (wrote ends spans gate pieces p left) (g.D.Disk.told c.args.disk.now) s)
 
 pub returns-clause-any_moment : goal.returns-clause-any_moment
 returns-clause-any_moment g c ends spans gate pieces left s =
     let p = c.args.piece.now in
     let o = g.D.Disk.told c.args.disk.now in
-    let n = g.D.Disk.told c.write_at.new.self in
-    let ok = subst (λ (x : List ℕ). OnOk c.write_at.result (n ≡ option_map (after (Wrote p.file p.at x)) o)) c.as_slice.ensures c.write_at.ensures.ok in
-    let failed = subst (λ (x : List ℕ). IsErrOf c.write_at.result Failed → n ≡ option_map (after (Tore p.file p.at (length x))) o) c.as_slice.ensures c.write_at.ensures.failed in
-    leaves_by_answer (IsSafe ends spans gate) (Wrote p.file p.at p.octets) (Tore p.file p.at (length p.octets)) _ _ c.write_at.result ok failed c.write_at.ensures.memory
+    leaves_by_answer (IsSafe ends spans gate) (Wrote p.file p.at p.octets) (Tore p.file p.at (length p.octets)) _ _ c.put.result c.put.ensures.ok c.put.ensures.failed c.put.ensures.memory
     (if_told _ _ (λ t h. h.safe) o s)
     (if_mapped _ _ (after (Wrote p.file p.at p.octets)) (λ t h image from. torn_safe ends spans gate pieces p left t h from.0 image from.1 from.2) o s)
     (if_mapped _ _ (after (Tore p.file p.at (length p.octets))) (λ t h image from. torn_safe ends spans gate pieces p left t h from.0 image from.1 from.2) o s)
@@ -34,8 +27,4 @@ returns-clause-any_moment g c ends spans gate pieces left s =
 pub returns-clause-calls : goal.returns-clause-calls
 returns-clause-calls g c =
     let p = c.args.piece.now in
-    let o = g.D.Disk.told c.args.disk.now in
-    let n = g.D.Disk.told c.write_at.new.self in
-    let ok = subst (λ (x : List ℕ). OnOk c.write_at.result (n ≡ option_map (after (Wrote p.file p.at x)) o)) c.as_slice.ensures c.write_at.ensures.ok in
-    let failed = subst (λ (x : List ℕ). IsErrOf c.write_at.result Failed → n ≡ option_map (after (Tore p.file p.at (length x))) o) c.as_slice.ensures c.write_at.ensures.failed in
-    one_makes (Wrote p.file p.at p.octets) o n c.write_at.result ok failed c.write_at.ensures.memory
+    one_makes (Wrote p.file p.at p.octets) _ _ c.put.result c.put.ensures.ok c.put.ensures.failed c.put.ensures.memory
