@@ -1,5 +1,6 @@
 -- Books that grow by a transaction.
 use Rattle.std.proofs.Common.{◌≡◌, ◌<◌, ◌≤◌, length, ℕ, suc, ◌+◌, ◌-◌, List, [], ◌∷◌, ◌++◌, refl, arith, ap, subst, ◌∙◌, sym, length-append, get_or}
+use Rattle.std.proofs.lemmas.List.{get_or-map}
 use Rattle.im_digest.specs.Digests.{Hash}
 use Rattle.im_model.specs.Headers.{alh}
 use Rattle.im_model.specs.History.{alhs_of, header_of, next_header, Follow, IsHistory, IsTransaction}
@@ -8,7 +9,7 @@ use Rattle.im_model.specs.declared.transactions.Transaction.{Transaction}
 use Rattle.im_model.proofs.HistoryLemmas.{length-alhs_of}
 use Rattle.im_proof.specs.Built.{headers_of}
 use Rattle.im_model.proofs.HeaderLemmas.{alhs-next}
-use Rattle.im_proof.proofs.HeaderLemmas.{headers-length, headers-next, headers-nth}
+use Rattle.im_proof.proofs.HeaderLemmas.{alhs-are, headers-length, headers-next, headers-nth}
 use Rattle.im_book.specs.Booked.{last_bl, last_bl_or, Booked, IsBook}
 
 -- a transaction behind others, over a tree no smaller than that of the last
@@ -91,3 +92,15 @@ pub header-kept : (hash : Hash) (book : Booked) (k : ℕ) (default : Header) →
     → get_or book.headers (k - 1) default ≡ header_of hash book.transactions k
 header-kept hash book k default b some within =
     ap (λ (hs : List Header). get_or hs (k - 1) default) b.headers ∙ headers-nth hash book.transactions k default some within
+
+-- and the Alh there is that header's
+pub alh-kept : (hash : Hash) (book : Booked) (k : ℕ) (default : List ℕ) → IsBook hash book → 1 ≤ k → k ≤ length book.transactions
+    → get_or book.alhs (k - 1) default ≡ alh hash (header_of hash book.transactions k)
+alh-kept hash book k default b some within =
+    let header : Header = header_of hash book.transactions k in
+    let all : List Header = headers_of hash book.transactions in
+    let many : length all ≡ length book.transactions = headers-length hash book.transactions in
+    let inside : k - 1 < length all = omega (arith, many, some, within) in
+    ap (λ (ds : List (List ℕ)). get_or ds (k - 1) default) (b.alhs ∙ alhs-are hash book.transactions)
+    ∙ get_or-map (alh hash) all (k - 1) header default inside
+    ∙ ap (alh hash) (headers-nth hash book.transactions k header some within)

@@ -147,6 +147,16 @@ impl Book {
         self.alhs.as_slice()
     }
 
+    /// Lends the Alh of transaction k, from 1.
+    pub fn alh(&self, k: u64) -> &D32
+        requires book { (hash : Hash) × IsBook hash self.now }
+        requires first { 1 ≤ k }
+        requires last { k ≤ length self.now.transactions }
+        ensures { (hash : Hash) → IsBook hash self.now → result.now ≡ alh hash (header_of hash self.now.transactions k) }
+    {
+        &self.alhs[k as usize - 1]
+    }
+
     /// Judges preconditions against all placed transactions. It takes no memory. It costs, for each
     /// precondition, a look at the entries from the last one back to its key's last version.
     ///

@@ -133,6 +133,16 @@ impl Ledger {
         self.book.header(k)
     }
 
+    /// Lends the Alh of transaction k, from 1.
+    pub fn alh(&self, k: u64) -> &D32
+        requires ledger { (hash : Hash) × IsLedger hash self.now }
+        requires first { 1 ≤ k }
+        requires last { k ≤ length self.now.transactions }
+        ensures { (hash : Hash) → IsLedger hash self.now → result.now ≡ alh hash (header_of hash self.now.transactions k) }
+    {
+        self.book.alh(k)
+    }
+
     /// Lends the headers, that of transaction k at place k - 1.
     pub fn headers(&self) -> &[Header]
         ensures { result.now ≡ self.now.headers }
