@@ -1,11 +1,12 @@
 ghost use Rattle.std.specs.Prelude.{◌≡◌, ◌≢◌, ◌++◌, IfOk, OnOk, codes};
 ghost use Rattle.std.specs.Fmt.{decimal};
+ghost use Rattle.im_digest.specs.Digests.{Hash};
+ghost use Rattle.im_model.specs.Headers.{alh};
 ghost use Rattle.im_report.specs.Replies.{beyond_reply, no_entry_reply, order_reply, refused_reply, reserved_reply, shown_header, tx_reply};
 ghost use Rattle.im_report.specs.Report.{reply_line};
 
-use im_digest::Hash32;
+use im_digest::D32;
 use im_draft::refusals::PrepareError;
-use im_header::alh;
 use im_model::headers::Header;
 use im_text::writing::{push_hex, push_number};
 use im_wire::writing::header_json;
@@ -62,17 +63,13 @@ pub fn beyond_text(alloc: Global, n: u64) -> Result<Vec<u8>, AllocError>
     with_number(alloc, b"refused beyond ", n)
 }
 
-/// The reply that shows a header: `header <alh> <header>`. It hashes the header, which takes two hashes.
+/// The reply that shows a header, whose Alh this is: `header <alh> <header>`. Nothing is hashed.
 #[tactic(auto, unfolding(crate::specs::Replies::shown_header))]
-pub fn header_shown<H: Hash32>(
-    alloc: Global,
-    hash: &H,
-    header: &Header,
-) -> Result<Vec<u8>, AllocError>
-    ensures { IfOk result (λ text. text.items ≡ shown_header (H.digest hash.now) header.now) }
+pub fn header_shown(alloc: Global, digest: &D32, header: &Header) -> Result<Vec<u8>, AllocError>
+    ensures { (hash : Hash) → digest.now ≡ alh hash header.now → IfOk result (λ text. text.items ≡ shown_header hash header.now) }
 {
     let mut out = Vec::new(alloc);
-    push_hex(alloc, &mut out, b"header ", &alh(hash, header))?;
+    push_hex(alloc, &mut out, b"header ", digest)?;
     out.extend_from_slice(b" ")?;
     out.extend_from_slice(header_json(alloc, header)?.as_slice())?;
     Ok(out)

@@ -155,16 +155,11 @@ pub(crate) fn answer_link<D: Disk, H: Hash32>(
     Vec::from_slice(alloc, b"linked")
 }
 
-/// The reply to `header`: it is read off the ledger, and its Alh hashed.
+/// The reply to `header`: it is read off the ledger, and so is its Alh. Nothing is hashed.
 #[tactic(auto, unfolding(im_report::specs::Replies::header_reply))]
-pub(crate) fn header_text<H: Hash32>(
-    alloc: Global,
-    hash: &H,
-    ledger: &Ledger,
-    k: u64,
-) -> Result<Vec<u8>, AllocError>
-    requires { IsLedger (H.digest hash.now) ledger.now }
-    ensures { IfOk result (λ reply. reply.items ≡ header_reply (H.digest hash.now) ledger.now.transactions k) }
+pub(crate) fn header_text(alloc: Global, ledger: &Ledger, k: u64) -> Result<Vec<u8>, AllocError>
+    requires { (hash : Hash) × IsLedger hash ledger.now }
+    ensures { (hash : Hash) → IsLedger hash ledger.now → IfOk result (λ reply. reply.items ≡ header_reply hash ledger.now.transactions k) }
 {
     let count = ledger.count();
     if k == 0 {
@@ -173,5 +168,5 @@ pub(crate) fn header_text<H: Hash32>(
     if count < k {
         return beyond_text(alloc, count);
     }
-    header_shown(alloc, hash, ledger.header(k))
+    header_shown(alloc, ledger.alh(k), ledger.header(k))
 }

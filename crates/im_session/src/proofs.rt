@@ -1,4 +1,5 @@
 ghost use Rattle.std.specs.Prelude.{◌≡◌, ◌<◌, ◌≤◌, ◌-◌, ℕ, List, length, map, slice_index_or, false, IfNone, IfOk, IfSome, Ok, unwrap_or};
+ghost use Rattle.im_digest.specs.Digests.{Hash};
 ghost use Rattle.im_model.specs.Entries.{entry_digest};
 ghost use Rattle.im_mtree.specs.Checks.{first_fail};
 ghost use Rattle.im_proof.specs.Built.{path_of};
@@ -37,16 +38,11 @@ fn message_text(alloc: Global, message: Message) -> Result<Vec<u8>, AllocError>
 
 /// The reply to `state`: the header of the last transaction, which is copied. Nothing is hashed.
 #[tactic(auto, unfolding(im_report::specs::Replies::state_reply))]
-pub(crate) fn state_text<H: Hash32>(
-    alloc: Global,
-    hash: &H,
-    ledger: &Ledger,
-) -> Result<Vec<u8>, AllocError>
-    requires { IsLedger (H.digest hash.now) ledger.now }
-    ensures reply { IfOk result (λ reply. reply.items ≡ state_reply (H.digest hash.now) ledger.now.transactions) }
-    ensures again { IfOk result (λ reply. IsReadBack (H.digest hash.now) ledger.now.transactions says.State reply.items) }
+pub(crate) fn state_text(alloc: Global, ledger: &Ledger) -> Result<Vec<u8>, AllocError>
+    requires { (hash : Hash) × IsLedger hash ledger.now }
+    ensures reply { (hash : Hash) → IsLedger hash ledger.now → IfOk result (λ reply. reply.items ≡ state_reply hash ledger.now.transactions) }
+    ensures again { (hash : Hash) → IsLedger hash ledger.now → IfOk result (λ reply. IsReadBack hash ledger.now.transactions says.State reply.items) }
 {
-    let _ = hash;
     let count = ledger.count();
     if count == 0 {
         return Vec::from_slice(alloc, b"refused empty");

@@ -42,8 +42,8 @@ fn read<H: Hash32>(
     ensures again { IfOk result (λ reply. IsReadBack (H.digest hash.now) ledger.now.transactions command reply.items) }
 {
     match command {
-        Command::Header { number } => header_text(alloc, hash, ledger, number),
-        Command::State => state_text(alloc, hash, ledger),
+        Command::Header { number } => header_text(alloc, ledger, number),
+        Command::State => state_text(alloc, ledger),
         Command::Prove { source, target } => prove_text(alloc, hash, ledger, source, target),
         Command::Advance { source, target } => advance_text(alloc, hash, ledger, source, target),
         Command::Item {

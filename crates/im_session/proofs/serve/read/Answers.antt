@@ -6,13 +6,13 @@ pub returns-in-Header-clause-answers : goal.returns-in-Header-clause-answers
 returns-in-Header-clause-answers g c =
     rw c.in-Header.is (λ constant. IfOk-weaker c.header_text.result _ _
     (λ reply e. header-answers (g.H.Hash32.digest c.args.hash.now) constant c.in-Header.number c.args.ledger.now reply.items c.requires.ledger e)
-    c.header_text.ensures)
+    (c.header_text.ensures (g.H.Hash32.digest c.args.hash.now) c.requires.ledger))
 
 pub returns-in-State-clause-answers : goal.returns-in-State-clause-answers
 returns-in-State-clause-answers g c =
     rw c.in-State.is (λ constant. IfOk-weaker c.state_text.result _ _
     (λ reply e. state-answers (g.H.Hash32.digest c.args.hash.now) constant c.args.ledger.now reply.items c.requires.ledger e)
-    c.state_text.ensures.reply)
+    (c.state_text.ensures.reply (g.H.Hash32.digest c.args.hash.now) c.requires.ledger))
 
 pub returns-in-Prove-clause-answers : goal.returns-in-Prove-clause-answers
 returns-in-Prove-clause-answers g c =
