@@ -1,7 +1,5 @@
 //! What holds of the definitions. The function does nothing, and its contract is the law.
 
-ghost use Rattle.std.specs.Prelude.{◌≡◌, ◌++◌, ◌∷◌, [], List};
-ghost use Rattle.im_digest.specs.Digests.{Hash};
 ghost use Rattle.im_wire.specs.Fits.{IsHeader, IsEntryInRange, IsDualProof};
 ghost use Rattle.im_model.specs.declared.headers.Header.{Header};
 ghost use Rattle.im_model.specs.declared.entries.Entry.{Entry};

@@ -1,4 +1,4 @@
-ghost use Rattle.std.specs.Prelude.{◌≡◌, ◌++◌, ◌∷◌, [], All, IfOk, OnOk};
+ghost use Rattle.std.specs.Prelude.{◌++◌, ◌∷◌, [], All, IfOk, OnOk};
 ghost use Rattle.im_hashed.specs.Added.{Adds};
 ghost use Rattle.im_hashed.specs.Messages.{HoldSame, ProofsHold, AnchorHolds, anchor_strings, item_strings, message_strings, strings_of};
 

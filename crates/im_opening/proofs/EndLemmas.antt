@@ -1,13 +1,10 @@
 -- Where value logs end.
-use Rattle.std.proofs.Common.{◌≡◌, ℕ, ◌+◌, ◌*◌, ◌^◌, ◌≤◌, ◌==◌, List, [], ◌∷◌, ◌++◌, length, sym, ◌∙◌, ap, arith, max, Bool, true, false, if◌then◌else◌}
+use Rattle.std.proofs.Common.{◌≡◌, ℕ, ◌+◌, ◌*◌, ◌^◌, ◌≤◌, List, [], ◌∷◌, length, sym, ◌∙◌, ap, arith}
 use Rattle.std.proofs.lemmas.List.{length-map}
 use Rattle.im_digest.specs.Digests.{Hash}
 use Rattle.im_format.specs.Places.{log_end, refs_of}
-use Rattle.im_format.specs.Records.{AreReferences}
 use Rattle.im_format.specs.declared.records.Record.{Record}
-use Rattle.im_format.specs.declared.references.ValueRef.{ValueRef}
 use Rattle.im_mtree.specs.Kept.{KeptRoots}
-use Rattle.im_model.specs.declared.entries.Entry.{Entry}
 use Rattle.im_opening.specs.Reach.{AreReferred, IsConsistent}
 use Rattle.im_format.proofs.EndLemmas.{log_end_append, references_below}
 

@@ -1,5 +1,5 @@
 -- What a write of the gate behind the batches leaves standing.
-use Rattle.std.proofs.Common.{◌≡◌, ℕ, suc, zero, ◌+◌, ◌*◌, ◌<◌, ◌≤◌, ◌≢◌, List, [], ◌∷◌, ◌++◌, length, get_or, get_or-take, take, drop, drop-cons, ap, sym, ◌∙◌, subst, arith, inl, inr, All}
+use Rattle.std.proofs.Common.{◌≡◌, ℕ, suc, zero, ◌+◌, ◌*◌, ◌<◌, ◌≤◌, ◌≢◌, List, [], ◌∷◌, length, get_or, get_or-take, take, drop, drop-cons, ap, sym, ◌∙◌, subst, arith, inl, inr, All}
 use Rattle.std.proofs.lemmas.List.Elements.{All-append, All-cons, All-nil, All-weaker}
 use Rattle.im_digest.specs.Digests.{Hash}
 use Rattle.im_disk.specs.Disk.{Files, TornFile}
@@ -23,8 +23,6 @@ use Rattle.im_format.proofs.HeldBatches.{true-counts}
 use Rattle.std.proofs.lemmas.Bool.{cases_Bool, cases_lt}
 use Rattle.std.proofs.Common.{if◌then◌else◌}
 use Rattle.im_opening.specs.Cut.{IsCutOff, IsShut}
-use Rattle.im_octet.specs.Fields.{field8}
-use Rattle.std.proofs.Common.{length-append}
 use Rattle.im_format.proofs.LengthLemmas.{length-fields}
 
 module _ (gate : ℕ) where

@@ -1,7 +1,5 @@
-ghost use Rattle.std.specs.Prelude.{◌≡◌, ◌≤◌, ◌+◌, ◌-◌, ◌++◌, [], length, map, Some, IfOk, IfSome};
+ghost use Rattle.std.specs.Prelude.{◌≡◌, ◌≤◌, ◌+◌, ◌-◌, length, map, Some, IfOk, IfSome};
 ghost use Rattle.im_disk.specs.Disk.{Told, seen};
-ghost use Rattle.im_format.specs.Damages.{head_checks, slots_checks};
-ghost use Rattle.im_format.specs.Reading.{count_at};
 ghost use Rattle.im_format.specs.Records.{AreReferences, entries_octets};
 ghost use Rattle.im_model.specs.Entries.{entry_digest};
 ghost use Rattle.im_model.specs.History.{IsTransaction};

@@ -1,9 +1,8 @@
 use Rattle.std.proofs.Common.{arith, ◌≡◌, ◌∙◌, ◌+◌, ℕ, length, take, refl, ap, subst, inl, Err}
 use Rattle.std.specs.Prelude.{IsErrOf}
-use Rattle.im_disk.specs.Moments.{Leaves}
 use Rattle.im_disk.proofs.Growing.{grows_both}
 use Rattle.im_format.specs.Standing.{Stands}
-use Rattle.im_journal.specs.Kept.{HasStaged, StandsBy}
+use Rattle.im_journal.specs.Kept.{HasStaged}
 use Rattle.im_journal.specs.declared.batches.Step.TheVariants.{Idle, Staged, Gated}
 use Rattle.im_journal.specs.Pieces.{end_of}
 use Rattle.im_journal.specs.declared.errors.JournalError.{JournalError}

@@ -1,4 +1,4 @@
-use Rattle.std.proofs.Common.{◌≡◌, ◌<◌, ◌∙◌, List, [], length, ap, arith, sym}
+use Rattle.std.proofs.Common.{◌<◌, ◌∙◌, [], length, ap, arith, sym}
 use Rattle.im_digest.specs.Digests.{Hash}
 use Rattle.im_format.specs.declared.references.ValueRef.{ValueRef}
 use Rattle.im_model.specs.declared.entries.Entry.{Entry}

@@ -1,4 +1,4 @@
-use Rattle.std.proofs.Common.{List, ℕ, map, reverse, sym, ap, ◌∙◌}
+use Rattle.std.proofs.Common.{List, ℕ, reverse, sym, ap, ◌∙◌}
 use Rattle.std.proofs.lemmas.List.{get_or_default, reverse-reverse}
 use Rattle.im_digest.specs.Digests.{Hash}
 use Rattle.im_mtree.specs.Inclusion.{inclusion}

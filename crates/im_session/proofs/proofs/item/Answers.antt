@@ -1,4 +1,4 @@
-use Rattle.std.proofs.Common.{List, ℕ, IfOk, map, subst, ap, ◌∙◌, slice_index_or}
+use Rattle.std.proofs.Common.{List, ℕ, IfOk, subst, ap, ◌∙◌, slice_index_or}
 use Rattle.im_model.specs.declared.entries.Entry.{Entry}
 use Rattle.im_report.specs.Replies.{no_entry}
 use Rattle.im_wire.specs.Messages.{HasMessage}

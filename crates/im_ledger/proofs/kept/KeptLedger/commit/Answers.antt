@@ -1,7 +1,6 @@
 use Rattle.std.proofs.Common.{◌≡◌, ◌∙◌, List, ℕ, [], ◌∷◌, ◌++◌, refl, ap, inl, subst, sym}
 use Rattle.im_disk.specs.Moments.{Leaves}
 use Rattle.im_format.specs.Standing.{Stands}
-use Rattle.im_format.specs.declared.records.Record.{Record}
 use Rattle.im_journal.specs.Kept.{Kept}
 use Rattle.im_model.specs.declared.headers.Header.{Header}
 use Rattle.im_model.specs.declared.transactions.Transaction.{Transaction}

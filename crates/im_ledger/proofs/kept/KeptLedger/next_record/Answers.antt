@@ -1,4 +1,4 @@
-use Rattle.std.proofs.Common.{◌≡◌, ◌+◌, List, subst}
+use Rattle.std.proofs.Common.{◌+◌, List, subst}
 use Rattle.im_format.specs.Records.{AreReferences}
 use Rattle.im_model.specs.declared.entries.Entry.{Entry}
 use Rattle.im_ledger.specs.Histories.{KeptHistory}
