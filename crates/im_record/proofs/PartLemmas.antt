@@ -1,11 +1,34 @@
--- What was added before writing stopped.
-use Rattle.std.proofs.Common.{◌≡◌, ◌++◌, ℕ, List, ap, ◌∙◌, append_assoc}
+-- What was added of entries before writing stopped.
+use Rattle.std.proofs.Common.{◌≡◌, ◌<◌, ◌+◌, ◌++◌, ◌∷◌, ℕ, List, length, take, drop, get_or, ap, sym, ◌∙◌, append_assoc}
+use Rattle.std.proofs.lemmas.List.{append_cancel_left, drop_more, take-append-drop}
 use Rattle.std.specs.Prelude.{OnErr, Result, Ok, Err}
+use Rattle.im_octet.proofs.PartLemmas.{part-is}
+use Rattle.im_model.specs.declared.entries.Entry.{Entry}
+use Rattle.im_format.specs.Records.{entries_octets, entry_octets}
+use Rattle.im_format.specs.declared.references.ValueRef.{ValueRef}
 
--- a part behind a part is a part
-pub part_behind : {T E : Type 0} (r : Result T E) (old mid new : List ℕ) → (part : List ℕ) → mid ≡ old ++ part → (more : List ℕ) → new ≡ mid ++ more
-    → OnErr r ((all : List ℕ) × (new ≡ old ++ all))
-part_behind (Ok x) old mid new part first more second = tt
-part_behind (Err e) old mid new part first more second =
-    let joined : (old ++ part) ++ more ≡ old ++ (part ++ more) = simp append_assoc in
-    (part ++ more, second ∙ ap (λ (l : List ℕ). l ++ more) first ∙ joined)
+-- behind the entries before place i, of which these are the octets, a front part of the octets of the entry there
+pub part_reached : {T E : Type 0} (r : Result T E) (old mid now part : List ℕ) (entries : List Entry) (refs : List ValueRef) (i n : ℕ) (entry : Entry) (ref default : ValueRef)
+    → i < length entries → i < length refs → entry ≡ get_or entries i entry → ref ≡ get_or refs i default → mid ≡ old ++ part
+    → mid ++ entries_octets (drop i entries) (drop i refs) ≡ old ++ entries_octets entries refs → now ≡ mid ++ take n (entry_octets entry ref)
+    → OnErr r ((k : ℕ) × (now ≡ old ++ take k (entries_octets entries refs)))
+part_reached (Ok x) old mid now part entries refs i n entry ref default less less2 at at2 first same last = tt
+part_reached (Err e) old mid now part entries refs i n entry ref default less less2 at at2 first same last =
+    let more : List Entry = drop (i + 1) entries in
+    let others : List ValueRef = drop (i + 1) refs in
+    let one : List ℕ = entry_octets entry ref in
+    let rest : List ℕ = entries_octets more others in
+    let all : List ℕ = entries_octets entries refs in
+    let cut : drop i entries ≡ entry ∷ more = drop_more entries i entry less ∙ ap (λ (x : Entry). x ∷ more) (sym at) in
+    let cut2 : drop i refs ≡ ref ∷ others = drop_more refs i default less2 ∙ ap (λ (x : ValueRef). x ∷ others) (sym at2) in
+    let left : entries_octets (drop i entries) (drop i refs) ≡ one ++ rest =
+    ap (λ (l : List Entry). entries_octets l (drop i refs)) cut ∙ ap (λ (l : List ValueRef). entries_octets (entry ∷ more) l) cut2 in
+    let both : part ++ (one ++ rest) ≡ all =
+    append_cancel_left old (part ++ (one ++ rest)) all
+    (sym (append_assoc old part (one ++ rest)) ∙ ap (λ (l : List ℕ). l ++ (one ++ rest)) (sym first) ∙ ap (λ (l : List ℕ). mid ++ l) (sym left) ∙ same) in
+    let whole : (part ++ take n one) ++ (drop n one ++ rest) ≡ all =
+    append_assoc part (take n one) (drop n one ++ rest)
+    ∙ ap (λ (l : List ℕ). part ++ l) (sym (append_assoc (take n one) (drop n one) rest) ∙ ap (λ (l : List ℕ). l ++ rest) (take-append-drop n one))
+    ∙ both in
+    let added : now ≡ old ++ (part ++ take n one) = last ∙ ap (λ (l : List ℕ). l ++ take n one) first ∙ append_assoc old part (take n one) in
+    part-is old now (part ++ take n one) (drop n one ++ rest) all added whole

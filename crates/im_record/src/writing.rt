@@ -1,5 +1,6 @@
-ghost use Rattle.std.specs.Prelude.{◌≡◌, ◌<◌, ◌+◌, ◌^◌, ◌++◌, ℕ, List, length, All, IfOk, OnOk, OnErr};
+ghost use Rattle.std.specs.Prelude.{◌≡◌, ◌<◌, ◌+◌, ◌^◌, ◌++◌, ℕ, length, take, All, IfOk, OnOk, OnErr};
 ghost use Rattle.im_format.specs.Records.{reference_octets, entry_octets, entries_octets, head_octets, record_octets, records_octets};
+ghost use Rattle.im_octet.specs.Fields.{field2};
 ghost use Rattle.im_record.specs.Writing.{IsWhole};
 
 use im_format::records::Record;
@@ -55,12 +56,12 @@ fn room_for(records: &[Record]) -> usize {
 /// reference = hVal 32 | value length 4 | log 1 | place 8
 /// ```
 ///
-/// Where memory is short, a part may have been added, and what stood before it stays.
-#[tactic(auto, unfolding(im_format::specs::Records::record_octets))]
+/// Where memory is short, a front part of it may have been added.
+#[tactic(auto, unfolding(im_format::specs::Records::record_octets), using(im_octet::proofs::PartLemmas::part_front, im_octet::proofs::PartLemmas::part_between, im_octet::proofs::PartLemmas::part_two))]
 pub fn push_record(out: &mut Vec<u8>, id: u64, kept: &Record) -> Result<(), AllocError>
     requires { IsWhole kept.now }
     ensures whole { OnOk result (out.new.items ≡ out.old.items ++ record_octets id kept.now) }
-    ensures part { OnErr result ((part : List ℕ) × (out.new.items ≡ out.old.items ++ part)) }
+    ensures part { OnErr result ((n : ℕ) × (out.new.items ≡ out.old.items ++ take n (record_octets id kept.now))) }
 {
     push_head(out, id, &kept.tx)?;
     push_entries(out, kept.tx.entries.as_slice(), kept.refs.as_slice())?;
@@ -68,11 +69,11 @@ pub fn push_record(out: &mut Vec<u8>, id: u64, kept: &Record) -> Result<(), Allo
 }
 
 // Adds `ID 8 | Ts 8 | BlTxID 8 | entry count 4`.
-#[tactic(auto, unfolding(im_format::specs::Records::head_octets))]
+#[tactic(auto, unfolding(im_format::specs::Records::head_octets), using(im_octet::proofs::PartLemmas::part_none, im_octet::proofs::PartLemmas::part_first, im_octet::proofs::PartLemmas::part_two, im_octet::proofs::PartLemmas::part_three))]
 fn push_head(out: &mut Vec<u8>, id: u64, tx: &Transaction) -> Result<(), AllocError>
     requires { length tx.now.entries < 2 ^ 32 }
     ensures whole { OnOk result (out.new.items ≡ out.old.items ++ head_octets id tx.now) }
-    ensures part { OnErr result ((part : List ℕ) × (out.new.items ≡ out.old.items ++ part)) }
+    ensures part { OnErr result ((n : ℕ) × (out.new.items ≡ out.old.items ++ take n (head_octets id tx.now))) }
 {
     out.extend_from_slice(&eight(id))?;
     out.extend_from_slice(&signed_eight(tx.ts))?;
@@ -84,7 +85,7 @@ fn push_head(out: &mut Vec<u8>, id: u64, tx: &Transaction) -> Result<(), AllocEr
 fn push_entries(out: &mut Vec<u8>, entries: &[Entry], refs: &[ValueRef]) -> Result<(), AllocError>
     requires { length refs.now ≡ length entries.now }
     ensures whole { OnOk result (out.new.items ≡ out.old.items ++ entries_octets entries.now refs.now) }
-    ensures part { OnErr result ((part : List ℕ) × (out.new.items ≡ out.old.items ++ part)) }
+    ensures part { OnErr result ((n : ℕ) × (out.new.items ≡ out.old.items ++ take n (entries_octets entries.now refs.now))) }
 {
     for (i, entry) in entries.iter().enumerate() {
         push_entry(out, entry, &refs[i])?;
@@ -96,22 +97,31 @@ fn push_entries(out: &mut Vec<u8>, entries: &[Entry], refs: &[ValueRef]) -> Resu
 #[tactic(auto, unfolding(im_format::specs::Records::entry_octets))]
 fn push_entry(out: &mut Vec<u8>, entry: &Entry, reference: &ValueRef) -> Result<(), AllocError>
     ensures whole { OnOk result (out.new.items ≡ out.old.items ++ entry_octets entry.now reference.now) }
-    ensures part { OnErr result ((part : List ℕ) × (out.new.items ≡ out.old.items ++ part)) }
+    ensures part { OnErr result ((n : ℕ) × (out.new.items ≡ out.old.items ++ take n (entry_octets entry.now reference.now))) }
+{
+    push_fields(out, entry)?;
+    push_reference(out, reference)
+}
+
+// Adds `mdLen 2 | md | keyLen 2 | key`.
+#[tactic(auto, using(im_octet::proofs::PartLemmas::part_none, im_octet::proofs::PartLemmas::part_first, im_octet::proofs::PartLemmas::part_two, im_octet::proofs::PartLemmas::part_three))]
+fn push_fields(out: &mut Vec<u8>, entry: &Entry) -> Result<(), AllocError>
+    ensures whole { OnOk result (out.new.items ≡ out.old.items ++ field2 (length entry.now.md) ++ entry.now.md ++ field2 (length entry.now.key) ++ entry.now.key) }
+    ensures part { OnErr result ((n : ℕ) × (out.new.items ≡ out.old.items ++ take n (field2 (length entry.now.md) ++ entry.now.md ++ field2 (length entry.now.key) ++ entry.now.key))) }
 {
     let md = entry.md.as_slice();
     let key = entry.key.as_slice();
     out.extend_from_slice(&two(md.len() as u16))?;
     out.extend_from_slice(md)?;
     out.extend_from_slice(&two(key.len() as u16))?;
-    out.extend_from_slice(key)?;
-    push_reference(out, reference)
+    out.extend_from_slice(key)
 }
 
 // Adds `hVal 32 | value length 4 | log 1 | place 8`.
-#[tactic(auto, unfolding(im_format::specs::Records::reference_octets))]
+#[tactic(auto, unfolding(im_format::specs::Records::reference_octets), using(im_octet::proofs::PartLemmas::part_none, im_octet::proofs::PartLemmas::part_first, im_octet::proofs::PartLemmas::part_two, im_octet::proofs::PartLemmas::part_three))]
 fn push_reference(out: &mut Vec<u8>, reference: &ValueRef) -> Result<(), AllocError>
     ensures whole { OnOk result (out.new.items ≡ out.old.items ++ reference_octets reference.now) }
-    ensures part { OnErr result ((part : List ℕ) × (out.new.items ≡ out.old.items ++ part)) }
+    ensures part { OnErr result ((n : ℕ) × (out.new.items ≡ out.old.items ++ take n (reference_octets reference.now))) }
 {
     out.extend_from_slice(&reference.hval)?;
     out.extend_from_slice(&four(reference.len))?;
