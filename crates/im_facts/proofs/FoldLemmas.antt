@@ -20,7 +20,7 @@ use Rattle.im_client.specs.Folds.{state_with}
 use Rattle.im_client.specs.LineChecks.{line_checks}
 use Rattle.im_facts.specs.Accepted.{IsAccepted, AreAccepted, IsClient}
 use Rattle.im_facts.specs.Facts.{Known, nothing, with_message, known_after, known_header, headers_shown, entries_shown, with_headers, with_entries, is_lower, is_level, is_before, is_beside}
-use Rattle.im_facts.specs.Held.{HoldsHeader, LiesUnder, HoldsEntry, HoldsUnder, Holds}
+use Rattle.im_facts.specs.Held.{HoldsHeader, LiesUnder, HoldsEntry, HoldsUnder, HoldsKnown}
 use Rattle.im_facts.specs.declared.facts.EntryFact.{EntryFact}
 use Rattle.im_facts.proofs.OrderLemmas.{Rises, each-weaker, puts-all}
 use Rattle.im_facts.proofs.ShownLemmas.{FitsAt, is-state, headers-fit}
@@ -78,7 +78,7 @@ tree-behind hash state (says.Item dual entry index path) strings fits h among tr
 
 -- a client that knows nothing takes a state
 first-step : (hash : Hash) → GivesDigests hash → (m : Message) (strings : List (List ℕ)) → AreAmong (message_strings hash m) strings → IsMessage m → IsAccepted hash nothing m → IsSound (with_message nothing m)
-    → Holds hash (with_message nothing m) strings
+    → HoldsKnown hash (with_message nothing m) strings
 first-step hash size (says.State header) strings among fits accepted sound =
     let tree : header.bl_tx_id < header.id = state-tree hash None header accepted.passes in
     inr (
@@ -130,7 +130,7 @@ under-step hash size known m strings state among fits passes sound sound2 under 
 
 -- what is known behind an accepted message holds, or there is a pair
 known-step : (hash : Hash) → GivesDigests hash → (known : Known) (m : Message) (strings : List (List ℕ)) (state : Header) → AreAmong (message_strings hash m) strings → IsMessage m → IsAccepted hash known m
-    → IsSound known → IsSound (with_message known m) → HoldsUnder hash state known strings → Holds hash (with_message known m) strings ⊎ HasPair hash strings
+    → IsSound known → IsSound (with_message known m) → HoldsUnder hash state known strings → HoldsKnown hash (with_message known m) strings ⊎ HasPair hash strings
 known-step hash size known m strings state among fits accepted sound sound2 under =
     let passes : PassesUnder hash state m = subst (λ (s : Option Header). first_fail (line_checks hash s m) ≡ Ok tt) under.is accepted.passes in
     let same : met_by m ≡ state = sym (is-state known.headers state (met_by m) under.kept (met-fits_at known.headers m (headers-fit known m accepted.agrees)) (meets hash state m passes).id) in
@@ -144,18 +144,18 @@ known-step hash size known m strings state among fits accepted sound sound2 unde
     ]
 
 holds-step : (hash : Hash) → GivesDigests hash → (known : Known) (m : Message) (strings : List (List ℕ)) → AreAmong (message_strings hash m) strings → IsMessage m → IsAccepted hash known m
-    → IsSound known → Holds hash known strings → Holds hash (with_message known m) strings ⊎ HasPair hash strings
+    → IsSound known → HoldsKnown hash known strings → HoldsKnown hash (with_message known m) strings ⊎ HasPair hash strings
 holds-step hash size known m strings among fits accepted sound holds =
     let sound2 = sound-step hash known m accepted sound in
     elim holds [
-      | inl none ↦ subst (λ (k : Known). IsAccepted hash k m → IsSound (with_message k m) → Holds hash (with_message k m) strings ⊎ HasPair hash strings) (sym none)
+      | inl none ↦ subst (λ (k : Known). IsAccepted hash k m → IsSound (with_message k m) → HoldsKnown hash (with_message k m) strings ⊎ HasPair hash strings) (sym none)
           (λ a s. inl (first-step hash size m strings among fits a s)) accepted sound2
       | inr under ↦ known-step hash size known m strings under.0 among fits accepted sound sound2 under.1
     ]
 
 -- so behind messages that are accepted one after the other
 holds-after : (hash : Hash) → GivesDigests hash → (strings : List (List ℕ)) (known : Known) (messages : List Message) → AreAmong (strings_of hash messages) strings → AllByRecursion IsMessage messages
-    → AreAccepted hash known messages → IsSound known → Holds hash known strings → Holds hash (known_after known messages) strings ⊎ HasPair hash strings
+    → AreAccepted hash known messages → IsSound known → HoldsKnown hash known strings → HoldsKnown hash (known_after known messages) strings ⊎ HasPair hash strings
 holds-after hash size strings known [] among fits accepted sound holds = inl holds
 holds-after hash size strings known (m ∷ messages) among fits accepted sound holds =
     let both : AreAmong (message_strings hash m ++ strings_of hash messages) strings = subst (λ l. AreAmong l strings) (flat_map-cons (message_strings hash) m messages) among in
@@ -166,7 +166,7 @@ holds-after hash size strings known (m ∷ messages) among fits accepted sound h
     ]
 
 -- so of a client
-pub client-holds : (hash : Hash) → GivesDigests hash → (known : Known) (strings : List (List ℕ)) → IsClient hash known → AreAmong (strings_of hash known.messages) strings → Holds hash known strings ⊎ HasPair hash strings
+pub client-holds : (hash : Hash) → GivesDigests hash → (known : Known) (strings : List (List ℕ)) → IsClient hash known → AreAmong (strings_of hash known.messages) strings → HoldsKnown hash known strings ⊎ HasPair hash strings
 client-holds hash size known strings client among =
-    subst (λ (k : Known). Holds hash k strings ⊎ HasPair hash strings) (sym client.led)
+    subst (λ (k : Known). HoldsKnown hash k strings ⊎ HasPair hash strings) (sym client.led)
     (holds-after hash size strings nothing known.messages among (recursion_from_All IsMessage known.messages client.fit) client.accepted nothing-sound (inl refl))

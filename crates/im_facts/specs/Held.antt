@@ -41,9 +41,9 @@ pub record HoldsUnder (hash : Hash) (state : Header) (known : Known) (strings : 
   pub entries : All (HoldsEntry hash known.headers strings) known.entries
 
 -- all that is known holds: nothing is known, or it holds under the state
-abbrev pub Holds : Hash → Known → List (List ℕ) → Type 0
-Holds hash known strings = (known ≡ nothing) ⊎ ((state : Header) × HoldsUnder hash state known strings)
+abbrev pub HoldsKnown : Hash → Known → List (List ℕ) → Type 0
+HoldsKnown hash known strings = (known ≡ nothing) ⊎ ((state : Header) × HoldsUnder hash state known strings)
 
 -- it does, or two unequal strings of one digest are among those hashed in checking the accepted messages
 abbrev pub HoldsOrPair : Hash → Known → Type 0
-HoldsOrPair hash known = Holds hash known (strings_of hash known.messages) ⊎ HasPair hash (strings_of hash known.messages)
+HoldsOrPair hash known = HoldsKnown hash known (strings_of hash known.messages) ⊎ HasPair hash (strings_of hash known.messages)

@@ -3,7 +3,7 @@ use Rattle.std.proofs.Common.{◌≡◌, ◌⊎◌, ℕ, List, [], ◌∷◌, �
 use Rattle.std.proofs.lemmas.List.{append_assoc}
 use Rattle.std.proofs.lemmas.List.Elements.{Contains-append_left, Contains-append_right, Contains-append_cases}
 use Rattle.im_hashed.specs.Messages.{HoldSame}
-use Rattle.im_hashed.specs.Added.{Adds}
+use Rattle.im_hashed.specs.Added.{AddsStrings}
 
 -- a list holds its own strings
 pub same-same : (xs : List (List ℕ)) → HoldSame xs xs
@@ -58,31 +58,31 @@ same-behind xs ys zs h = record {
 }
 
 -- nothing
-pub adds-none : (xs : List (List ℕ)) → Adds xs xs []
+pub adds-none : (xs : List (List ℕ)) → AddsStrings xs xs []
 adds-none xs = subst (λ l. HoldSame xs l) (sym (append-nil xs)) (same-same xs)
 
 -- these strings by another name
-pub adds-as : (a b s t : List (List ℕ)) → s ≡ t → Adds a b s → Adds a b t
-adds-as a b s t e h = subst (λ l. Adds a b l) e h
+pub adds-as : (a b s t : List (List ℕ)) → s ≡ t → AddsStrings a b s → AddsStrings a b t
+adds-as a b s t e h = subst (λ l. AddsStrings a b l) e h
 
 -- two parts, one behind the other
-pub adds-then : (a b c s t : List (List ℕ)) → Adds a b s → Adds b c t → Adds a c (s ++ t)
+pub adds-then : (a b c s t : List (List ℕ)) → AddsStrings a b s → AddsStrings b c t → AddsStrings a c (s ++ t)
 adds-then a b c s t h k =
     same-then c (b ++ t) (a ++ (s ++ t)) k
     (subst (λ l. HoldSame (b ++ t) l) (append_assoc a s t) (same-front b (a ++ s) t h))
 
 -- two parts whose order is free
-pub adds-swapped : (a b s t : List (List ℕ)) → Adds a b (s ++ t) → Adds a b (t ++ s)
+pub adds-swapped : (a b s t : List (List ℕ)) → AddsStrings a b (s ++ t) → AddsStrings a b (t ++ s)
 adds-swapped a b s t h = same-then b (a ++ (s ++ t)) (a ++ (t ++ s)) h (same-behind a (s ++ t) (t ++ s) (same-swapped s t))
 
 -- what stands behind the old strings
-pub adds-is : (a b s : List (List ℕ)) → b ≡ a ++ s → Adds a b s
+pub adds-is : (a b s : List (List ℕ)) → b ≡ a ++ s → AddsStrings a b s
 adds-is a b s e = subst (λ l. HoldSame l (a ++ s)) (sym e) (same-same (a ++ s))
 
 -- one string by another name
-pub adds-one : (a b : List (List ℕ)) (x s : List ℕ) → x ≡ s → Adds a b (x ∷ []) → Adds a b (s ∷ [])
-adds-one a b x s e h = subst (λ (y : List ℕ). Adds a b (y ∷ [])) e h
+pub adds-one : (a b : List (List ℕ)) (x s : List ℕ) → x ≡ s → AddsStrings a b (x ∷ []) → AddsStrings a b (s ∷ [])
+adds-one a b x s e h = subst (λ (y : List ℕ). AddsStrings a b (y ∷ [])) e h
 
 -- two strings, one behind the other
-pub adds-two : (a b c : List (List ℕ)) (x y s t : List ℕ) → x ≡ s → y ≡ t → Adds a b (x ∷ []) → Adds b c (y ∷ []) → Adds a c (s ∷ t ∷ [])
+pub adds-two : (a b c : List (List ℕ)) (x y s t : List ℕ) → x ≡ s → y ≡ t → AddsStrings a b (x ∷ []) → AddsStrings b c (y ∷ []) → AddsStrings a c (s ∷ t ∷ [])
 adds-two a b c x y s t e f h k = adds-then a b c (s ∷ []) (t ∷ []) (adds-one a b x s e h) (adds-one b c y t f k)

@@ -11,7 +11,7 @@ use Rattle.im_proof.specs.declared.proofs.DualProof.{DualProof}
 use Rattle.im_proof.specs.declared.faults.DualFault.{DualFault}
 use Rattle.im_carried.proofs.HeldLemmas.{both-shown}
 use Rattle.im_carried.proofs.PassLemmas.{far-hold, near-hold}
-use Rattle.im_hashed.specs.Added.{start_of, IsCounted}
+use Rattle.im_hashed.specs.Added.{terms_start, HasCountedLists}
 
 -- linear terms
 linear-long : (hash : Hash) (from to : ℕ) (a b : List ℕ) (terms : List (List ℕ)) → from ≤ to → first_fail (linear_checks hash from to a b terms) ≡ Ok tt → from + length terms ≡ to + 1
@@ -53,8 +53,8 @@ number-fits a e bound terms paths l fits fits2 = elim (cases_lt (a + 1) e) [
 ]
 
 -- of both
-counted-by : (p : DualProof) (end : ℕ) → start_of p.source.id p.target.bl_tx_id + length p.linear ≡ p.target.id + 1
-    → AdvanceLong p.source.bl_tx_id end p.linear_advance.terms p.linear_advance.inclusions → p.source.bl_tx_id < 2 ^ 64 → end < 2 ^ 64 → p.target.id < 2 ^ 64 → IsCounted p
+counted-by : (p : DualProof) (end : ℕ) → terms_start p.source.id p.target.bl_tx_id + length p.linear ≡ p.target.id + 1
+    → AdvanceLong p.source.bl_tx_id end p.linear_advance.terms p.linear_advance.inclusions → p.source.bl_tx_id < 2 ^ 64 → end < 2 ^ 64 → p.target.id < 2 ^ 64 → HasCountedLists p
 counted-by p end long l fits fits2 fits3 = record {
   linear = omega (arith, long, fits3);
   terms = number-fits p.source.bl_tx_id end (2 ^ 64) p.linear_advance.terms p.linear_advance.inclusions l fits fits2;
@@ -62,7 +62,7 @@ counted-by p end long l fits fits2 fits3 = record {
 }
 
 -- of a dual proof whose checks all hold
-pub counted : (hash : Hash) (p : DualProof) → p.target.id < 2 ^ 64 → first_fail (dual_checks hash p) ≡ Ok tt → IsCounted p
+pub counted : (hash : Hash) (p : DualProof) → p.target.id < 2 ^ 64 → first_fail (dual_checks hash p) ≡ Ok tt → HasCountedLists p
 counted hash p fits e =
     let a : List ℕ = alh hash p.source in
     let b : List ℕ = alh hash p.target in
@@ -75,13 +75,13 @@ counted hash p fits e =
     elim (cases_lt p.source.id p.target.bl_tx_id) [
       | inl far ↦ (
           let held = far-hold hash p a b far rest.1 in
-          let start : start_of p.source.id p.target.bl_tx_id ≡ p.target.bl_tx_id = ap (λ (t : Bool). if t then p.target.bl_tx_id else p.source.id) (lt-ltb p.source.id p.target.bl_tx_id far) in
+          let start : terms_start p.source.id p.target.bl_tx_id ≡ p.target.bl_tx_id = ap (λ (t : Bool). if t then p.target.bl_tx_id else p.source.id) (lt-ltb p.source.id p.target.bl_tx_id far) in
           let long : p.target.bl_tx_id + length p.linear ≡ p.target.id + 1 = linear-long hash p.target.bl_tx_id p.target.id p.target_bl_tx_alh b p.linear (omega arith) held.0 in
           counted-by p p.source.id (ap (λ (n : ℕ). n + length p.linear) start ∙ long)
           (advance-long hash p.source.bl_tx_id p.source.id p.target.bl_tx_id p.target.bl_root a p.linear_advance.terms p.linear_advance.inclusions held.1) (omega arith) (omega arith) fits)
       | inr near ↦ (
           let held = near-hold hash p a b near rest.1 in
-          let start : start_of p.source.id p.target.bl_tx_id ≡ p.source.id = ap (λ (t : Bool). if t then p.target.bl_tx_id else p.source.id) (le-ltb p.source.id p.target.bl_tx_id near) in
+          let start : terms_start p.source.id p.target.bl_tx_id ≡ p.source.id = ap (λ (t : Bool). if t then p.target.bl_tx_id else p.source.id) (le-ltb p.source.id p.target.bl_tx_id near) in
           let long : p.source.id + length p.linear ≡ p.target.id + 1 = linear-long hash p.source.id p.target.id a b p.linear order held.0 in
           counted-by p p.target.bl_tx_id (ap (λ (n : ℕ). n + length p.linear) start ∙ long)
           (advance-long hash p.source.bl_tx_id p.target.bl_tx_id p.target.bl_tx_id p.target.bl_root p.target_bl_tx_alh p.linear_advance.terms p.linear_advance.inclusions held.1) (omega arith) (omega arith) fits)

@@ -7,19 +7,19 @@ use Rattle.im_model.specs.Growth.{older, newer, grow_strings, consistency_string
 use Rattle.im_model.proofs.Reversed.{reverse-last, reverse-nothing}
 use Rattle.im_model.proofs.Steps.{grows-first, grows-left, grows-right}
 use Rattle.im_carried.specs.Hashed.{grown_strings}
-use Rattle.im_hashed.specs.Added.{Adds}
+use Rattle.im_hashed.specs.Added.{AddsStrings}
 use Rattle.im_hashed.proofs.AddLemmas.{adds-as, adds-none, adds-then, adds-swapped}
 
 -- the list has no term behind the first
-pub grows-none : (hash : Hash) (m n : ℕ) (first : List ℕ) (terms a : List (List ℕ)) → length terms ≡ 0 → Adds a a (grow_strings hash m n first (reverse terms))
+pub grows-none : (hash : Hash) (m n : ℕ) (first : List ℕ) (terms a : List (List ℕ)) → length terms ≡ 0 → AddsStrings a a (grow_strings hash m n first (reverse terms))
 grows-none hash m n first terms a none =
     adds-as a a [] (grow_strings hash m n first (reverse terms))
     (sym (ap (λ ts. grow_strings hash m n first ts) (reverse-nothing terms none) ∙ grows-first hash m n first)) (adds-none a)
 
 -- the older size is in the left part
 pub grows-beside : (hash : Hash) (m n k : ℕ) (first term root : List ℕ) (terms front a b c : List (List ℕ)) → terms ≡ front ++ term ∷ [] → k ≡ split_of n → m ≤ k
-    → root ≡ newer hash m k first (reverse front) → Adds a b (grow_strings hash m k first (reverse front)) → Adds b c (node_string root term ∷ [])
-    → Adds a c (grow_strings hash m n first (reverse terms))
+    → root ≡ newer hash m k first (reverse front) → AddsStrings a b (grow_strings hash m k first (reverse front)) → AddsStrings b c (node_string root term ∷ [])
+    → AddsStrings a c (grow_strings hash m n first (reverse terms))
 grows-beside hash m n k first term root terms front a b c cut same side is below top =
     let lower : List (List ℕ) = grow_strings hash m k first (reverse front) in
     let all : grow_strings hash m n first (reverse terms) ≡ node_string root term ∷ lower =
@@ -32,8 +32,8 @@ grows-beside hash m n k first term root terms front a b c cut same side is below
 -- it reaches into the right part
 pub grows-below : (hash : Hash) (m n k : ℕ) (first term o w : List ℕ) (terms front a b c : List (List ℕ)) → terms ≡ front ++ term ∷ [] → k ≡ split_of n → k < m
     → o ≡ older hash (m - k) (n - k) first (reverse front) → w ≡ newer hash (m - k) (n - k) first (reverse front)
-    → Adds a b (grow_strings hash (m - k) (n - k) first (reverse front)) → Adds b c (node_string term o ∷ node_string term w ∷ [])
-    → Adds a c (grow_strings hash m n first (reverse terms))
+    → AddsStrings a b (grow_strings hash (m - k) (n - k) first (reverse front)) → AddsStrings b c (node_string term o ∷ node_string term w ∷ [])
+    → AddsStrings a c (grow_strings hash m n first (reverse terms))
 grows-below hash m n k first term o w terms front a b c cut same side old new below top =
     let lower : List (List ℕ) = grow_strings hash (m - k) (n - k) first (reverse front) in
     let all : grow_strings hash m n first (reverse terms) ≡ node_string term o ∷ node_string term w ∷ lower =
@@ -49,16 +49,16 @@ grows-below hash m n k first term o w terms front a b c cut same side old new be
 pub grown-not_due : (hash : Hash) (m n : ℕ) (list : List (List ℕ)) → (nat_lt 0 m && nat_lt m n) ≡ false → [] ≡ grown_strings hash m n list
 grown-not_due hash m n list e = ap (λ (b : Bool). if b then consistency_strings hash m n list else []) (sym e)
 
-pub grown-of_none : (hash : Hash) (m n : ℕ) (list a : List (List ℕ)) → m ≡ 0 → Adds a a (grown_strings hash m n list)
+pub grown-of_none : (hash : Hash) (m n : ℕ) (list a : List (List ℕ)) → m ≡ 0 → AddsStrings a a (grown_strings hash m n list)
 grown-of_none hash m n list a z = adds-as a a [] (grown_strings hash m n list) (grown-not_due hash m n list (ap (λ (b : Bool). b && nat_lt m n) (le-ltb 0 m (omega arith)))) (adds-none a)
 
-pub grown-of_same : (hash : Hash) (m n : ℕ) (list a : List (List ℕ)) → 0 < m → n ≤ m → Adds a a (grown_strings hash m n list)
+pub grown-of_same : (hash : Hash) (m n : ℕ) (list a : List (List ℕ)) → 0 < m → n ≤ m → AddsStrings a a (grown_strings hash m n list)
 grown-of_same hash m n list a some past =
     adds-as a a [] (grown_strings hash m n list)
     (grown-not_due hash m n list (ap (λ (b : Bool). b && nat_lt m n) (lt-ltb 0 m some) ∙ le-ltb m n past)) (adds-none a)
 
 -- one is
-pub grown-due : (hash : Hash) (m n : ℕ) (list a b : List (List ℕ)) → 0 < m → m < n → Adds a b (consistency_strings hash m n list) → Adds a b (grown_strings hash m n list)
+pub grown-due : (hash : Hash) (m n : ℕ) (list a b : List (List ℕ)) → 0 < m → m < n → AddsStrings a b (consistency_strings hash m n list) → AddsStrings a b (grown_strings hash m n list)
 grown-due hash m n list a b some less h =
     let due : (nat_lt 0 m && nat_lt m n) ≡ true = ap (λ (t : Bool). t && nat_lt m n) (lt-ltb 0 m some) ∙ lt-ltb m n less in
     adds-as a b (consistency_strings hash m n list) (grown_strings hash m n list) (ap (λ (t : Bool). if t then consistency_strings hash m n list else []) (sym due)) h

@@ -7,11 +7,11 @@ use Rattle.std.proofs.lemmas.List.Concat.{flat_map-cons}
 use Rattle.im_digest.specs.Digests.{Hash}
 use Rattle.im_wire.specs.declared.messages.Message.{Message}
 use Rattle.im_hashed.specs.Messages.{HoldSame, ProofsHold, message_strings, strings_of}
-use Rattle.im_hashed.specs.Added.{Adds}
+use Rattle.im_hashed.specs.Added.{AddsStrings}
 use Rattle.im_hashed.proofs.AddLemmas.{same-then, same-front}
 
 -- one more
-pub messages-more : (hash : Hash) (messages : List Message) (m : Message) (out new : List (List ℕ)) → HoldSame out (strings_of hash messages) → Adds out new (message_strings hash m)
+pub messages-more : (hash : Hash) (messages : List Message) (m : Message) (out new : List (List ℕ)) → HoldSame out (strings_of hash messages) → AddsStrings out new (message_strings hash m)
     → HoldSame new (strings_of hash (messages ++ m ∷ []))
 messages-more hash messages m out new h added =
     let own : List (List ℕ) = message_strings hash m in
@@ -21,7 +21,7 @@ messages-more hash messages m out new h added =
 
 -- the next of a list
 pub messages-next : (hash : Hash) (kept : List Message) (n : ℕ) (m : Message) (out new : List (List ℕ)) → n < length kept → m ≡ get_or kept n m → HoldSame out (strings_of hash (take n kept))
-    → Adds out new (message_strings hash m) → HoldSame new (strings_of hash (take (n + 1) kept))
+    → AddsStrings out new (message_strings hash m) → HoldSame new (strings_of hash (take (n + 1) kept))
 messages-next hash kept n m out new less at h added =
     let cut : take (n + 1) kept ≡ take n kept ++ m ∷ [] = take_more kept n m less ∙ ap (λ (x : Message). take n kept ++ x ∷ []) (sym at) in
     subst (λ l. HoldSame new (strings_of hash l)) (sym cut) (messages-more hash (take n kept) m out new h added)

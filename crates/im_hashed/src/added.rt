@@ -1,6 +1,6 @@
 ghost use Rattle.std.specs.Prelude.{◌≡◌, ◌∷◌, [], IfOk, OnOk};
 ghost use Rattle.im_model.specs.Trees.{node, node_string};
-ghost use Rattle.im_hashed.specs.Added.{Adds};
+ghost use Rattle.im_hashed.specs.Added.{AddsStrings};
 
 use im_digest::{D32, Hash32};
 use im_model::trees::node_digest;
@@ -10,7 +10,7 @@ use std::alloc::{AllocError, Global};
 
 // Adds a string.
 pub(crate) fn add(out: &mut Vec<Octets>, octets: Octets) -> Result<(), AllocError>
-    ensures { OnOk result (Adds out.old.items out.new.items (octets ∷ [])) }
+    ensures { OnOk result (AddsStrings out.old.items out.new.items (octets ∷ [])) }
 {
     out.push(octets)?;
     Ok(())
@@ -24,7 +24,7 @@ pub(crate) fn add_node<H: Hash32>(
     children: &Children,
 ) -> Result<D32, AllocError>
     ensures digest { IfOk result (λ digest. digest ≡ node (H.digest hash.now) children.now.left children.now.right) }
-    ensures strings { OnOk result (Adds out.old.items out.new.items (node_string children.now.left children.now.right ∷ [])) }
+    ensures strings { OnOk result (AddsStrings out.old.items out.new.items (node_string children.now.left children.now.right ∷ [])) }
 {
     let octets = node_octets(alloc, children)?;
     add(out, octets)?;

@@ -1,7 +1,7 @@
 ghost use Rattle.std.specs.Prelude.{◌≡◌, ◌<◌, ◌≤◌, ◌+◌, ◌-◌, ◌^◌, ◌∷◌, [], IfOk, OnOk, length};
 ghost use Rattle.im_model.specs.Chains.{link_string, chain_strings};
 ghost use Rattle.im_carried.specs.Hashed.{path_strings, linear_strings, walk_strings, advance_strings};
-ghost use Rattle.im_hashed.specs.Added.{Adds};
+ghost use Rattle.im_hashed.specs.Added.{AddsStrings};
 
 use crate::added::add;
 use crate::parts::add_path;
@@ -22,7 +22,7 @@ pub(crate) fn add_path_of<H: Hash32>(
     alh: &D32,
     path: &[D32],
 ) -> Result<(), AllocError>
-    ensures { OnOk result (Adds out.old.items out.new.items (path_strings (H.digest hash.now) size k alh.now path.now)) }
+    ensures { OnOk result (AddsStrings out.old.items out.new.items (path_strings (H.digest hash.now) size k alh.now path.now)) }
 {
     let index = k.saturating_sub(1);
     add_path(alloc, hash, out, size as usize, index as usize, alh, path)?;
@@ -38,7 +38,7 @@ pub(crate) fn add_linear<H: Hash32>(
     terms: &[D32],
 ) -> Result<(), AllocError>
     requires { from + length terms.now ≤ 2 ^ 64 }
-    ensures { OnOk result (Adds out.old.items out.new.items (linear_strings (H.digest hash.now) from terms.now)) }
+    ensures { OnOk result (AddsStrings out.old.items out.new.items (linear_strings (H.digest hash.now) from terms.now)) }
 {
     match terms.split_first() {
         None => Ok(()),
@@ -58,7 +58,7 @@ pub(crate) fn add_advance<H: Hash32>(
 ) -> Result<(), AllocError>
     requires number { a + length terms.now < 2 ^ 64 }
     requires paths { length paths.now ≡ length terms.now - 1 }
-    ensures { OnOk result (Adds out.old.items out.new.items (advance_strings (H.digest hash.now) a size terms.now paths.now)) }
+    ensures { OnOk result (AddsStrings out.old.items out.new.items (advance_strings (H.digest hash.now) a size terms.now paths.now)) }
 {
     match terms.split_first() {
         None => Ok(()),
@@ -76,7 +76,7 @@ fn add_chain<H: Hash32>(
     inners: &[D32],
 ) -> Result<(), AllocError>
     requires { from + length inners.now < 2 ^ 64 }
-    ensures { OnOk result (Adds out.old.items out.new.items (chain_strings (H.digest hash.now) start.now from inners.now)) }
+    ensures { OnOk result (AddsStrings out.old.items out.new.items (chain_strings (H.digest hash.now) start.now from inners.now)) }
 {
     let mut alh = *start;
     let mut k = from;
@@ -101,7 +101,7 @@ fn add_walk<H: Hash32>(
 ) -> Result<(), AllocError>
     requires number { from + length inners.now < 2 ^ 64 }
     requires paths { length paths.now ≡ length inners.now }
-    ensures { OnOk result (Adds out.old.items out.new.items (walk_strings (H.digest hash.now) size from start.now inners.now paths.now)) }
+    ensures { OnOk result (AddsStrings out.old.items out.new.items (walk_strings (H.digest hash.now) size from start.now inners.now paths.now)) }
 {
     let mut alh = *start;
     let mut k = from;
@@ -123,7 +123,7 @@ fn add_link<H: Hash32>(
     inner: &D32,
 ) -> Result<D32, AllocError>
     ensures digest { IfOk result (λ alh. alh ≡ H.digest hash.now (link_string k previous.now inner.now)) }
-    ensures strings { OnOk result (Adds out.old.items out.new.items (link_string k previous.now inner.now ∷ [])) }
+    ensures strings { OnOk result (AddsStrings out.old.items out.new.items (link_string k previous.now inner.now ∷ [])) }
 {
     let octets = link_octets(alloc, k, previous, inner)?;
     let digest = digest_of(hash, &octets);

@@ -2,7 +2,7 @@ ghost use Rattle.std.specs.Prelude.{◌≡◌, ◌++◌, ◌<◌, ◌^◌, OnOk,
 ghost use Rattle.im_mtree.specs.Checks.{first_fail};
 ghost use Rattle.im_proof.specs.Duals.{dual_checks};
 ghost use Rattle.im_carried.specs.Hashed.{inclusion_strings, grown_strings, last_strings, linear_strings, advance_strings, dual_strings};
-ghost use Rattle.im_hashed.specs.Added.{Adds, IsCounted, start_of};
+ghost use Rattle.im_hashed.specs.Added.{AddsStrings, HasCountedLists, terms_start};
 
 use crate::chains::{add_advance, add_linear, add_path_of};
 use crate::lists::add_consistency;
@@ -20,7 +20,7 @@ pub(crate) fn add_dual<H: Hash32>(
     dual: &DualProof,
 ) -> Result<(), AllocError>
     requires { first_fail (dual_checks (H.digest hash.now) dual.now) ≡ Ok tt }
-    ensures { OnOk result (Adds out.old.items out.new.items (dual_strings (H.digest hash.now) dual.now)) }
+    ensures { OnOk result (AddsStrings out.old.items out.new.items (dual_strings (H.digest hash.now) dual.now)) }
 {
     number_fits(dual.target.id);
     let alh = add_header(alloc, hash, out, &dual.source)?;
@@ -45,7 +45,7 @@ fn add_trees<H: Hash32>(
     dual: &DualProof,
     alh: &D32,
 ) -> Result<(), AllocError>
-    ensures { OnOk result (Adds out.old.items out.new.items (inclusion_strings (H.digest hash.now) dual.now.source.id dual.now.target.bl_tx_id alh.now dual.now.inclusion ++ (grown_strings (H.digest hash.now) dual.now.source.bl_tx_id dual.now.target.bl_tx_id dual.now.consistency ++ last_strings (H.digest hash.now) dual.now.target.bl_tx_id dual.now.target_bl_tx_alh dual.now.last_inclusion))) }
+    ensures { OnOk result (AddsStrings out.old.items out.new.items (inclusion_strings (H.digest hash.now) dual.now.source.id dual.now.target.bl_tx_id alh.now dual.now.inclusion ++ (grown_strings (H.digest hash.now) dual.now.source.bl_tx_id dual.now.target.bl_tx_id dual.now.consistency ++ last_strings (H.digest hash.now) dual.now.target.bl_tx_id dual.now.target_bl_tx_alh dual.now.last_inclusion))) }
 {
     let size = dual.target.bl_tx_id;
     let inclusion = dual.inclusion.as_slice();
@@ -67,7 +67,7 @@ fn add_inclusion<H: Hash32>(
     alh: &D32,
     path: &[D32],
 ) -> Result<(), AllocError>
-    ensures { OnOk result (Adds out.old.items out.new.items (inclusion_strings (H.digest hash.now) s size alh.now path.now)) }
+    ensures { OnOk result (AddsStrings out.old.items out.new.items (inclusion_strings (H.digest hash.now) s size alh.now path.now)) }
 {
     if s >= size {
         return Ok(());
@@ -84,7 +84,7 @@ fn add_last<H: Hash32>(
     alh: &D32,
     path: &[D32],
 ) -> Result<(), AllocError>
-    ensures { OnOk result (Adds out.old.items out.new.items (last_strings (H.digest hash.now) size alh.now path.now)) }
+    ensures { OnOk result (AddsStrings out.old.items out.new.items (last_strings (H.digest hash.now) size alh.now path.now)) }
 {
     if size == 0 {
         return Ok(());
@@ -99,8 +99,8 @@ fn add_chains<H: Hash32>(
     out: &mut Vec<Octets>,
     dual: &DualProof,
 ) -> Result<(), AllocError>
-    requires { IsCounted dual.now }
-    ensures { OnOk result (Adds out.old.items out.new.items (linear_strings (H.digest hash.now) (start_of dual.now.source.id dual.now.target.bl_tx_id) dual.now.linear ++ advance_strings (H.digest hash.now) dual.now.source.bl_tx_id dual.now.target.bl_tx_id dual.now.linear_advance.terms dual.now.linear_advance.inclusions)) }
+    requires { HasCountedLists dual.now }
+    ensures { OnOk result (AddsStrings out.old.items out.new.items (linear_strings (H.digest hash.now) (terms_start dual.now.source.id dual.now.target.bl_tx_id) dual.now.linear ++ advance_strings (H.digest hash.now) dual.now.source.bl_tx_id dual.now.target.bl_tx_id dual.now.linear_advance.terms dual.now.linear_advance.inclusions)) }
 {
     let size = dual.target.bl_tx_id;
     let linear = dual.linear.as_slice();
@@ -113,7 +113,7 @@ fn add_chains<H: Hash32>(
 
 // The number that the linear terms begin with.
 fn start(s: u64, size: u64) -> u64
-    ensures { result ≡ start_of s size }
+    ensures { result ≡ terms_start s size }
 {
     if s < size { size } else { s }
 }

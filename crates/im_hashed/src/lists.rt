@@ -2,7 +2,7 @@ ghost use Rattle.std.specs.Prelude.{◌≡◌, ◌∷◌, [], IfOk, OnOk, revers
 ghost use Rattle.im_model.specs.Growth.{older, newer, grow_strings};
 ghost use Rattle.im_model.specs.Trees.{node, node_string};
 ghost use Rattle.im_carried.specs.Hashed.{grown_strings};
-ghost use Rattle.im_hashed.specs.Added.{Adds};
+ghost use Rattle.im_hashed.specs.Added.{AddsStrings};
 
 use crate::added::add_node;
 use im_digest::{D32, Hash32};
@@ -21,7 +21,7 @@ pub(crate) fn add_consistency<H: Hash32>(
     n: u64,
     list: &[D32],
 ) -> Result<(), AllocError>
-    ensures { OnOk result (Adds out.old.items out.new.items (grown_strings (H.digest hash.now) m n list.now)) }
+    ensures { OnOk result (AddsStrings out.old.items out.new.items (grown_strings (H.digest hash.now) m n list.now)) }
 {
     if m == 0 || m >= n {
         return Ok(());
@@ -48,7 +48,7 @@ fn add_growth<H: Hash32>(
 ) -> Result<Roots, AllocError>
     ensures older { IfOk result (λ roots. roots.older ≡ older (H.digest hash.now) m n first.now (reverse terms.now)) }
     ensures newer { IfOk result (λ roots. roots.newer ≡ newer (H.digest hash.now) m n first.now (reverse terms.now)) }
-    ensures strings { OnOk result (Adds out.old.items out.new.items (grow_strings (H.digest hash.now) m n first.now (reverse terms.now))) }
+    ensures strings { OnOk result (AddsStrings out.old.items out.new.items (grow_strings (H.digest hash.now) m n first.now (reverse terms.now))) }
 {
     match terms.split_last() {
         None => Ok(Roots {
@@ -77,7 +77,7 @@ fn add_beside<H: Hash32>(
     term: &D32,
 ) -> Result<Roots, AllocError>
     ensures roots { IfOk result (λ over. over ≡ record { older = roots.now.older; newer = node (H.digest hash.now) roots.now.newer term.now }) }
-    ensures strings { OnOk result (Adds out.old.items out.new.items (node_string roots.now.newer term.now ∷ [])) }
+    ensures strings { OnOk result (AddsStrings out.old.items out.new.items (node_string roots.now.newer term.now ∷ [])) }
 {
     let children = Children {
         left: roots.newer,
@@ -99,7 +99,7 @@ fn add_below<H: Hash32>(
     term: &D32,
 ) -> Result<Roots, AllocError>
     ensures roots { IfOk result (λ over. over ≡ record { older = node (H.digest hash.now) term.now roots.now.older; newer = node (H.digest hash.now) term.now roots.now.newer }) }
-    ensures strings { OnOk result (Adds out.old.items out.new.items (node_string term.now roots.now.older ∷ node_string term.now roots.now.newer ∷ [])) }
+    ensures strings { OnOk result (AddsStrings out.old.items out.new.items (node_string term.now roots.now.older ∷ node_string term.now roots.now.newer ∷ [])) }
 {
     let children = Children {
         left: *term,

@@ -1,5 +1,5 @@
 ghost use Rattle.std.specs.Prelude.{◌++◌, ◌∷◌, [], All, IfOk, OnOk};
-ghost use Rattle.im_hashed.specs.Added.{Adds};
+ghost use Rattle.im_hashed.specs.Added.{AddsStrings};
 ghost use Rattle.im_hashed.specs.Messages.{HoldSame, ProofsHold, AnchorHolds, anchor_strings, item_strings, message_strings, strings_of};
 
 use crate::duals::add_dual;
@@ -40,7 +40,7 @@ fn add_message<H: Hash32>(
     message: &Message,
 ) -> Result<(), AllocError>
     requires { ProofsHold (H.digest hash.now) message.now }
-    ensures { OnOk result (Adds out.old.items out.new.items (message_strings (H.digest hash.now) message.now)) }
+    ensures { OnOk result (AddsStrings out.old.items out.new.items (message_strings (H.digest hash.now) message.now)) }
 {
     match message {
         Message::State { header } => {
@@ -75,7 +75,7 @@ fn add_anchor<H: Hash32>(
     anchor: &Option<DualProof>,
 ) -> Result<(), AllocError>
     requires { AnchorHolds (H.digest hash.now) anchor.now }
-    ensures { OnOk result (Adds out.old.items out.new.items (anchor_strings (H.digest hash.now) anchor.now)) }
+    ensures { OnOk result (AddsStrings out.old.items out.new.items (anchor_strings (H.digest hash.now) anchor.now)) }
 {
     match anchor {
         None => Ok(()),
@@ -93,7 +93,7 @@ fn add_item<H: Hash32>(
     width: u32,
     path: &[D32],
 ) -> Result<(), AllocError>
-    ensures { OnOk result (Adds out.old.items out.new.items (item_strings (H.digest hash.now) entry.now index width path.now)) }
+    ensures { OnOk result (AddsStrings out.old.items out.new.items (item_strings (H.digest hash.now) entry.now index width path.now)) }
 {
     let digest = add_entry(alloc, hash, out, entry)?;
     add_path(

@@ -3,7 +3,7 @@ ghost use Rattle.im_model.specs.Entries.{entry_digest, entry_strings};
 ghost use Rattle.im_model.specs.Headers.{alh, header_strings};
 ghost use Rattle.im_model.specs.Paths.{up, up_strings};
 ghost use Rattle.im_model.specs.Trees.{leaf, leaf_string};
-ghost use Rattle.im_hashed.specs.Added.{Adds};
+ghost use Rattle.im_hashed.specs.Added.{AddsStrings};
 
 use crate::added::{add, add_node};
 use im_digest::{D32, Hash32};
@@ -23,7 +23,7 @@ pub(crate) fn add_header<H: Hash32>(
     header: &Header,
 ) -> Result<D32, AllocError>
     ensures digest { IfOk result (λ digest. digest ≡ alh (H.digest hash.now) header.now) }
-    ensures strings { OnOk result (Adds out.old.items out.new.items (header_strings (H.digest hash.now) header.now)) }
+    ensures strings { OnOk result (AddsStrings out.old.items out.new.items (header_strings (H.digest hash.now) header.now)) }
 {
     let whole = alh_octets(alloc, hash, header)?;
     let digest = digest_of(hash, &whole);
@@ -41,7 +41,7 @@ pub(crate) fn add_entry<H: Hash32>(
     entry: &Entry,
 ) -> Result<D32, AllocError>
     ensures digest { IfOk result (λ digest. digest ≡ entry_digest (H.digest hash.now) entry.now) }
-    ensures strings { OnOk result (Adds out.old.items out.new.items (entry_strings (H.digest hash.now) entry.now)) }
+    ensures strings { OnOk result (AddsStrings out.old.items out.new.items (entry_strings (H.digest hash.now) entry.now)) }
 {
     let whole = entry_octets(alloc, hash, entry)?;
     let digest = digest_of(hash, &whole);
@@ -63,7 +63,7 @@ pub(crate) fn add_path<H: Hash32>(
     path: &[D32],
 ) -> Result<D32, AllocError>
     ensures root { IfOk result (λ root. root ≡ up (H.digest hash.now) n i digest.now (reverse path.now)) }
-    ensures strings { OnOk result (Adds out.old.items out.new.items (up_strings (H.digest hash.now) n i digest.now (reverse path.now))) }
+    ensures strings { OnOk result (AddsStrings out.old.items out.new.items (up_strings (H.digest hash.now) n i digest.now (reverse path.now))) }
 {
     match path.split_last() {
         None => add_leaf(alloc, hash, out, digest),
@@ -90,7 +90,7 @@ fn add_leaf<H: Hash32>(
     digest: &D32,
 ) -> Result<D32, AllocError>
     ensures digest { IfOk result (λ root. root ≡ leaf (H.digest hash.now) digest.now) }
-    ensures strings { OnOk result (Adds out.old.items out.new.items (leaf_string digest.now ∷ [])) }
+    ensures strings { OnOk result (AddsStrings out.old.items out.new.items (leaf_string digest.now ∷ [])) }
 {
     let octets = leaf_octets(alloc, digest)?;
     add(out, octets)?;

@@ -4,7 +4,7 @@ use Rattle.im_model.specs.Trees.{node}
 use Rattle.im_model.specs.Growth.{older, newer, grow_strings}
 use Rattle.im_model.proofs.Reversed.{older-nothing, newer-nothing, older-last-left, older-last-right, newer-last-left, newer-last-right}
 use Rattle.im_pathmove.specs.declared.roots.Roots.{Roots}
-use Rattle.im_hashed.specs.Added.{Adds}
+use Rattle.im_hashed.specs.Added.{AddsStrings}
 use Rattle.im_hashed.proofs.ListLemmas.{grows-none, grows-beside, grows-below}
 use Rattle.im_hashed.proofs.lists.+add_growth.Goals as goal
 
@@ -68,5 +68,5 @@ returns-in_ok-roots-in-Some-2-clause-strings g t c =
     c.args.out.now.items c.add_growth-in-Some.new.out.items c.add_below.new.out.items c.in-Some.ensures.cases.0 c.split-k.ensures.value c.if-m-k.false
     (c.in_ok-roots-in-Some-2.ensures.older ∙ ap (λ j. older (g.H.Hash32.digest c.args.hash.now) (c.args.m - c.split-k.result) j c.args.first.now (reverse c.in-Some.front.now)) rest)
     (c.in_ok-roots-in-Some-2.ensures.newer ∙ ap (λ j. newer (g.H.Hash32.digest c.args.hash.now) (c.args.m - c.split-k.result) j c.args.first.now (reverse c.in-Some.front.now)) rest)
-    (subst (λ j. Adds c.args.out.now.items c.add_growth-in-Some.new.out.items (grow_strings (g.H.Hash32.digest c.args.hash.now) (c.args.m - c.split-k.result) j c.args.first.now (reverse c.in-Some.front.now))) rest c.in_ok-roots-in-Some-2.ensures.strings) h)
+    (subst (λ j. AddsStrings c.args.out.now.items c.add_growth-in-Some.new.out.items (grow_strings (g.H.Hash32.digest c.args.hash.now) (c.args.m - c.split-k.result) j c.args.first.now (reverse c.in-Some.front.now))) rest c.in_ok-roots-in-Some-2.ensures.strings) h)
     c.add_below.ensures.strings

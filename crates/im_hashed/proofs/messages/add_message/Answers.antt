@@ -1,21 +1,21 @@
 use Rattle.std.proofs.Common.{subst, sym}
 use Rattle.im_carried.specs.Hashed.{dual_strings}
 use Rattle.im_wire.specs.declared.messages.Message.{Message}
-use Rattle.im_hashed.specs.Added.{Adds}
+use Rattle.im_hashed.specs.Added.{AddsStrings}
 use Rattle.im_hashed.specs.Messages.{anchor_strings, item_strings, message_strings}
 use Rattle.im_hashed.proofs.AddLemmas.{adds-then}
 use Rattle.im_hashed.proofs.messages.add_message.Goals as goal
 
 pub returns-in_ok-add_anchor-in-Advance : goal.returns-in_ok-add_anchor-in-Advance
 returns-in_ok-add_anchor-in-Advance g c =
-    subst (λ (m : Message). Adds c.args.out.now.items c.add_anchor.new.out.items (message_strings (g.H.Hash32.digest c.args.hash.now) m)) (sym c.in-Advance.is)
+    subst (λ (m : Message). AddsStrings c.args.out.now.items c.add_anchor.new.out.items (message_strings (g.H.Hash32.digest c.args.hash.now) m)) (sym c.in-Advance.is)
     (adds-then c.args.out.now.items c.add_dual-in-Advance.new.out.items c.add_anchor.new.out.items (dual_strings (g.H.Hash32.digest c.args.hash.now) c.in-Advance.dual) (anchor_strings (g.H.Hash32.digest c.args.hash.now) c.in-Advance.anchor)
     c.in_ok-add_dual-in-Advance.ensures c.in_ok-add_anchor-in-Advance.ensures)
 
 pub returns-in_ok-add_item-in-Item : goal.returns-in_ok-add_item-in-Item
 returns-in_ok-add_item-in-Item g c =
-    subst (λ (m : Message). Adds c.args.out.now.items c.add_item.new.out.items (message_strings (g.H.Hash32.digest c.args.hash.now) m)) (sym c.in-Item.is)
+    subst (λ (m : Message). AddsStrings c.args.out.now.items c.add_item.new.out.items (message_strings (g.H.Hash32.digest c.args.hash.now) m)) (sym c.in-Item.is)
     (adds-then c.args.out.now.items c.add_dual-in-Item.new.out.items c.add_item.new.out.items (dual_strings (g.H.Hash32.digest c.args.hash.now) c.in-Item.dual)
     (item_strings (g.H.Hash32.digest c.args.hash.now) c.in-Item.entry c.in-Item.index c.in-Item.dual.source.nentries c.in-Item.path)
     c.in_ok-add_dual-in-Item.ensures
-    (subst (λ l. Adds c.add_dual-in-Item.new.out.items c.add_item.new.out.items (item_strings (g.H.Hash32.digest c.args.hash.now) c.in-Item.entry c.in-Item.index c.in-Item.dual.source.nentries l)) c.as_slice.ensures c.in_ok-add_item-in-Item.ensures))
+    (subst (λ l. AddsStrings c.add_dual-in-Item.new.out.items c.add_item.new.out.items (item_strings (g.H.Hash32.digest c.args.hash.now) c.in-Item.entry c.in-Item.index c.in-Item.dual.source.nentries l)) c.as_slice.ensures c.in_ok-add_item-in-Item.ensures))

@@ -3,7 +3,7 @@ use Rattle.std.proofs.lemmas.Result.{IfOk-weaker}
 use Rattle.im_model.specs.Trees.{node}
 use Rattle.im_model.specs.Paths.{up, up_strings}
 use Rattle.im_model.proofs.Reversed.{up-nothing, up-last-left, up-last-right}
-use Rattle.im_hashed.specs.Added.{Adds}
+use Rattle.im_hashed.specs.Added.{AddsStrings}
 use Rattle.im_hashed.proofs.PathLemmas.{path-none, path-left, path-right}
 use Rattle.im_hashed.proofs.parts.+add_path.Goals as goal
 
@@ -49,5 +49,5 @@ returns-in_ok-right-in-Some-clause-strings g t c =
     (λ r h. path-right (g.H.Hash32.digest c.args.hash.now) c.args.n c.args.i c.split-k.result c.args.digest.now c.in_ok-right-in-Some.right c.in-Some.term.now c.args.path.now c.in-Some.front.now
     c.args.out.now.items c.add_path-in-Some.new.out.items c.add_node-in-Some.new.out.items c.in-Some.ensures.cases.0 c.split-k.ensures.value c.if-i-k.false
     (c.in_ok-right-in-Some.ensures.root ∙ ap (λ j. up (g.H.Hash32.digest c.args.hash.now) j (c.args.i - c.split-k.result) c.args.digest.now (reverse c.in-Some.front.now)) rest)
-    (subst (λ j. Adds c.args.out.now.items c.add_path-in-Some.new.out.items (up_strings (g.H.Hash32.digest c.args.hash.now) j (c.args.i - c.split-k.result) c.args.digest.now (reverse c.in-Some.front.now))) rest c.in_ok-right-in-Some.ensures.strings) h)
+    (subst (λ j. AddsStrings c.args.out.now.items c.add_path-in-Some.new.out.items (up_strings (g.H.Hash32.digest c.args.hash.now) j (c.args.i - c.split-k.result) c.args.digest.now (reverse c.in-Some.front.now))) rest c.in_ok-right-in-Some.ensures.strings) h)
     c.add_node-in-Some.ensures.strings
