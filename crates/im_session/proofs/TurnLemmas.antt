@@ -24,7 +24,7 @@ use Rattle.im_script.specs.declared.commands.Command.TheVariants.{Set, Get, Scan
 use Rattle.im_report.proofs.PlacedLemmas.{advance-not-placed, get-not-placed, header-not-placed, history-not-placed, item-not-placed, linked-not-placed, place-not-placed, prove-not-placed, refused-not-placed, reserved-not-placed, scanned-not-placed, state-not-placed, tx-placed}
 use Rattle.im_report.proofs.ReportLemmas.{Standing, Standing-next}
 use Rattle.im_ledger.specs.Ledgers.{Held, IsLedger}
-use Rattle.im_session.specs.Turns.{Answers, HasTime, IsLooking, Placed, Turn}
+use Rattle.im_session.specs.Turns.{Answers, HasTime, Placed, Turn}
 
 -- a reply that places nothing answers over the history as it stands
 pub kept-answers : (hash : Hash) (constant : Option ℤ) (command : Command) (before after : Held) (reply : List ℕ)
@@ -160,6 +160,19 @@ unplaced-answers hash constant pres drafts why held reply l refuses told free ar
     let A : List Transaction → Type 0 = λ txs. place_refusal txs pres ≡ Some why in
     kept-answers hash constant (Set pres drafts) held held reply refl l (inr (free, inr (are, inl (why, subst A (sym (take-length held.transactions)) refuses, e))))
     (ap (λ (r : List ℕ). bytes_eq r (tx_reply n)) e ∙ place-not-placed why n told) refl
+
+-- a command that looks for keys: its reply is read off the index
+abbrev pub IsLooking : Command → Type 0
+IsLooking (Set pres drafts) = ⊥
+IsLooking (Get key at) = Unit {0}
+IsLooking (Scan prefix at) = Unit {0}
+IsLooking (History key) = Unit {0}
+IsLooking (Header k) = ⊥
+IsLooking State = ⊥
+IsLooking (Prove s t) = ⊥
+IsLooking (Advance s t) = ⊥
+IsLooking (Item t i under) = ⊥
+IsLooking (Link count) = ⊥
 
 -- what is looked for is read off the whole history, and says nothing of a transaction that was placed
 pub looked-answers : (hash : Hash) (constant : Option ℤ) (command : Command) (held : Held) (reply : List ℕ) → IsLooking command → IsLedger hash held

@@ -34,31 +34,18 @@ pub record Placed (hash : Hash) (constant : Option ℤ) (entries : List Entry) (
   pub ledger : IsLedger hash after
   pub told : reply ≡ tx_reply (length after.transactions)
 
--- a command that changes nothing, and looks for no key: its reply is read off the ledger
-abbrev pub IsReading : Command → Type 0
-IsReading (Set pres drafts) = ⊥
-IsReading (Get key at) = ⊥
-IsReading (Scan prefix at) = ⊥
-IsReading (History key) = ⊥
-IsReading (Header k) = Unit {0}
-IsReading State = Unit {0}
-IsReading (Prove s t) = Unit {0}
-IsReading (Advance s t) = Unit {0}
-IsReading (Item t i under) = Unit {0}
-IsReading (Link count) = ⊥
-
--- a command that looks for keys: its reply is read off the index
-abbrev pub IsLooking : Command → Type 0
-IsLooking (Set pres drafts) = ⊥
-IsLooking (Get key at) = Unit {0}
-IsLooking (Scan prefix at) = Unit {0}
-IsLooking (History key) = Unit {0}
-IsLooking (Header k) = ⊥
-IsLooking State = ⊥
-IsLooking (Prove s t) = ⊥
-IsLooking (Advance s t) = ⊥
-IsLooking (Item t i under) = ⊥
-IsLooking (Link count) = ⊥
+-- a command that changes nothing: its reply is read off the ledger, or off the index
+abbrev pub IsShowing : Command → Type 0
+IsShowing (Set pres drafts) = ⊥
+IsShowing (Get key at) = Unit {0}
+IsShowing (Scan prefix at) = Unit {0}
+IsShowing (History key) = Unit {0}
+IsShowing (Header k) = Unit {0}
+IsShowing State = Unit {0}
+IsShowing (Prove s t) = Unit {0}
+IsShowing (Advance s t) = Unit {0}
+IsShowing (Item t i under) = Unit {0}
+IsShowing (Link count) = ⊥
 
 -- the index is that of the first transactions of a history
 pub record IsIndexWithin (index : Indexed) (history : List Transaction) : Type 0 where

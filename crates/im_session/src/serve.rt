@@ -11,9 +11,7 @@ ghost use Rattle.im_ledger.specs.declared.errors.CommitError.TheVariants.{DiskFa
 ghost use Rattle.im_session.specs.Moves.{MayPlace, StandsBetween};
 ghost use Rattle.im_session.specs.Put.{IsKeptPut};
 ghost use Rattle.im_session.specs.Served.{ReachesDisk, Serves, ServesAll, ServesFront};
-ghost use Rattle.im_session.specs.Turns.{Answers, AskedFor, IsIndexWithin, IsLooking, IsReading, Turn};
-ghost use Rattle.im_report.specs.Report.{IsAnswer};
-ghost use Rattle.im_digest.specs.Digests.{Hash};
+ghost use Rattle.im_session.specs.Turns.{Answers, AskedFor, IsIndexWithin, IsShowing, Turn};
 
 use crate::answers::{answer_link, answer_set, header_text};
 use crate::proofs::{advance_text, item_text, prove_text, state_text};
@@ -29,19 +27,37 @@ use im_report::replies::reply_text;
 use im_script::commands::{Command, Line};
 use std::alloc::{AllocError, Global};
 
-// Answers a command that changes nothing: its reply is read off the ledger.
-fn read<H: Hash32>(
+// Answers a command that changes nothing: its reply is read off the ledger, or off the index, brought to the last
+// transaction.
+fn show<H: Hash32>(
     alloc: Global,
     hash: &H,
     ledger: &Ledger,
+    keys: &mut Index,
     command: Command,
 ) -> Result<Vec<u8>, AllocError>
     requires ledger { IsLedger (H.digest hash.now) ledger.now }
-    requires reading { IsReading command }
+    requires few { length ledger.now.transactions ≤ 1048576 }
+    requires within { IsIndexWithin keys.old ledger.now.transactions }
+    requires shows { IsShowing command }
     ensures answers { (constant : Option ℤ) → IfOk result (λ reply. Answers (H.digest hash.now) constant command ledger.now ledger.now reply.items) }
     ensures again { IfOk result (λ reply. IsReadBack (H.digest hash.now) ledger.now.transactions command reply.items) }
+    ensures within { OnOk result (IsIndexWithin keys.new ledger.now.transactions) }
 {
+    let count = ledger.count();
     match command {
+        Command::Get { key, at } => {
+            catch_up(alloc, keys, ledger)?;
+            get_text(alloc, keys, count, key.as_slice(), at)
+        }
+        Command::Scan { prefix, at } => {
+            catch_up(alloc, keys, ledger)?;
+            scan_shown(alloc, keys, count, prefix.as_slice(), at)
+        }
+        Command::History { key } => {
+            catch_up(alloc, keys, ledger)?;
+            history_shown(alloc, keys, count, key.as_slice())
+        }
         Command::Header { number } => header_text(alloc, ledger, number),
         Command::State => state_text(alloc, ledger),
         Command::Prove { source, target } => prove_text(alloc, hash, ledger, source, target),
@@ -51,40 +67,7 @@ fn read<H: Hash32>(
             index,
             under,
         } => item_text(alloc, hash, ledger, number, index, under),
-        Command::Set { .. }
-        | Command::Get { .. }
-        | Command::Scan { .. }
-        | Command::History { .. }
-        | Command::Link { .. } => unreachable!(),
-    }
-}
-
-// Answers a command that looks for keys, over the index brought to the last transaction.
-fn look(
-    alloc: Global,
-    ledger: &Ledger,
-    index: &mut Index,
-    command: Command,
-) -> Result<Vec<u8>, AllocError>
-    requires few { length ledger.now.transactions ≤ 1048576 }
-    requires within { IsIndexWithin index.old ledger.now.transactions }
-    requires looking { IsLooking command }
-    ensures answer { (hash : Hash) → IfOk result (λ reply. IsAnswer hash ledger.now.transactions command (length ledger.now.transactions) reply.items) }
-    ensures within { OnOk result (IsIndexWithin index.new ledger.now.transactions) }
-{
-    catch_up(alloc, index, ledger)?;
-    let count = ledger.count();
-    match command {
-        Command::Get { key, at } => get_text(alloc, index, count, key.as_slice(), at),
-        Command::Scan { prefix, at } => scan_shown(alloc, index, count, prefix.as_slice(), at),
-        Command::History { key } => history_shown(alloc, index, count, key.as_slice()),
-        Command::Set { .. }
-        | Command::Header { .. }
-        | Command::State
-        | Command::Prove { .. }
-        | Command::Advance { .. }
-        | Command::Item { .. }
-        | Command::Link { .. } => unreachable!(),
+        Command::Set { .. } | Command::Link { .. } => unreachable!(),
     }
 }
 
@@ -117,10 +100,7 @@ fn answer<D: Disk, H: Hash32, C: Clock>(
             answer_set(alloc, hash, clock, kept, pres, drafts.into_vec())
         }
         Command::Link { count } => Ok(answer_link(alloc, hash, kept, count)?),
-        command @ (Command::Get { .. } | Command::Scan { .. } | Command::History { .. }) => {
-            Ok(look(alloc, kept.ledger(), index, command)?)
-        }
-        command => Ok(read(alloc, hash, kept.ledger(), command)?),
+        command => Ok(show(alloc, hash, kept.ledger(), index, command)?),
     }
 }
 

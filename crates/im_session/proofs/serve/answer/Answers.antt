@@ -1,4 +1,4 @@
-use Rattle.std.proofs.Common.{ℤ, ℕ, List, Option, Err, Ok, length, ap, inl, inr, refl, subst, sym, ◌∙◌}
+use Rattle.std.proofs.Common.{ℤ, ℕ, List, Option, Err, Ok, ap, refl, subst, ◌∙◌}
 use Rattle.std.proofs.lemmas.Result.{err_from_is_err_and}
 use Rattle.im_octet.proofs.Common.{ok-isnt}
 use Rattle.im_accept.specs.Messages.{IsReadBack}
@@ -7,13 +7,10 @@ use Rattle.im_disk.proofs.Growing.{grows_none}
 use Rattle.im_ledger.specs.Histories.{KeptHistory}
 use Rattle.im_ledger.specs.Ledgers.{Held}
 use Rattle.im_ledger.specs.declared.errors.CommitError.TheVariants.{DiskFault}
-use Rattle.im_report.specs.Report.{IsAnswer}
-use Rattle.im_script.specs.declared.commands.Command.{Command}
-use Rattle.im_session.specs.Turns.{Answers, IsLooking}
+use Rattle.im_session.specs.Turns.{Answers, IsIndexWithin}
 use Rattle.im_session.proofs.KeptLemmas.{between-same, memory-alone, memory-cause, never-fault, never-ok, nothing-placed, ok-cause}
 use Rattle.im_session.proofs.PutLemmas.{put-same}
 use Rattle.im_session.proofs.TimeLemmas.{asked-same}
-use Rattle.im_session.proofs.TurnLemmas.{looked-answers}
 use Rattle.im_session.proofs.serve.answer.Goals as goal
 
 pub returns-in_err-answer_link-in-Link-clause-left : goal.returns-in_err-answer_link-in-Link-clause-left
@@ -34,43 +31,11 @@ pub returns-in_ok-answer_link-in-Link-clause-put : goal.returns-in_ok-answer_lin
 returns-in_ok-answer_link-in-Link-clause-put g c w n first p =
     put-same g.D.Disk.told (g.H.Hash32.digest c.args.hash.now) w n first c.args.kept.now c.answer_link.new.kept c.answer_link.ensures.journal c.in_ok-answer_link-in-Link.ensures.same c.answer_link.ensures.logs p
 
-pub returns-in_err-look-in-Get-clause-left : goal.returns-in_err-look-in-Get-clause-left
-returns-in_err-look-in-Get-clause-left g c =
+pub returns-in_err-show-in_default : goal.returns-in_err-show-in_default
+returns-in_err-show-in_default g c =
     let kept : KeptHistory g.row.D.Denot = c.args.kept.now in
-    nothing-placed g.D.Disk.told (g.H.Hash32.digest c.args.hash.now) kept c.requires.kept (g.C.Clock.constant c.args.clock.now) (g.C.Clock.given c.args.clock.now) c.args.command kept.journal
-    c.from_residual-in_err-look-in-Get.result refl (memory-alone c.from_residual-in_err-look-in-Get.result c.from_residual-in_err-look-in-Get.ensures.1)
-
-pub returns-in_ok-look-in-Get-clause-answers : goal.returns-in_ok-look-in-Get-clause-answers
-returns-in_ok-look-in-Get-clause-answers g c =
-    let hash : Hash = g.H.Hash32.digest c.args.hash.now in
-    let held : Held = c.args.kept.now.held in
-    let done = c.in_ok-look-in-Get in
-    let reply : List ℕ = done.field-0.items in
-    let L : Command → Type 0 = λ k. IsLooking k in
-    let A : Held → Type 0 = λ h. IsAnswer hash h.transactions c.args.command (length h.transactions) reply in
-    let looks : L c.args.command = elim c.in-Get.is [
-      | inl (key, at, is) ↦ subst L (sym is) tt
-      | inr (inl (prefix, at, is)) ↦ subst L (sym is) tt
-      | inr (inr (key, is)) ↦ subst L (sym is) tt
-    ] in
-    looked-answers hash (g.C.Clock.constant c.args.clock.now) c.args.command held reply looks c.requires.kept.ledger (subst A c.ledger.ensures (done.ensures.answer hash))
-
-pub returns-in_ok-look-in-Get-clause-moments : goal.returns-in_ok-look-in-Get-clause-moments
-returns-in_ok-look-in-Get-clause-moments g c =
-    let kept : KeptHistory g.row.D.Denot = c.args.kept.now in
-    between-same g.D.Disk.told (g.H.Hash32.digest c.args.hash.now) kept c.requires.kept kept refl refl
-
-pub returns-in_ok-look-in-Get-clause-left : goal.returns-in_ok-look-in-Get-clause-left
-returns-in_ok-look-in-Get-clause-left g c =
-    let kept : KeptHistory g.row.D.Denot = c.args.kept.now in
-    nothing-placed g.D.Disk.told (g.H.Hash32.digest c.args.hash.now) kept c.requires.kept (g.C.Clock.constant c.args.clock.now) (g.C.Clock.given c.args.clock.now) c.args.command kept.journal
-    (Ok c.in_ok-look-in-Get.field-0) refl (ok-isnt c.in_ok-look-in-Get.field-0 DiskFault)
-
-pub returns-in_err-read-in_default : goal.returns-in_err-read-in_default
-returns-in_err-read-in_default g c =
-    let kept : KeptHistory g.row.D.Denot = c.args.kept.now in
-    let given = c.from_residual-in_err-read-in_default.result in
-    let error = err_from_is_err_and given c.from_residual-in_err-read-in_default.ensures.1 in
+    let given = c.from_residual-in_err-show-in_default.result in
+    let error = err_from_is_err_and given c.from_residual-in_err-show-in_default.ensures.1 in
     record {
       answers = never-ok _ given error.0 error.1;
       again = never-ok _ given error.0 error.1;
@@ -80,28 +45,28 @@ returns-in_err-read-in_default g c =
       put = λ w n first p. never-ok _ given error.0 error.1;
       moments = never-ok _ given error.0 error.1;
       left = nothing-placed g.D.Disk.told (g.H.Hash32.digest c.args.hash.now) kept c.requires.kept (g.C.Clock.constant c.args.clock.now) (g.C.Clock.given c.args.clock.now) c.args.command kept.journal given refl
-          (memory-alone given c.from_residual-in_err-read-in_default.ensures.1);
+          (memory-alone given c.from_residual-in_err-show-in_default.ensures.1);
       grows = grows_none (g.D.Disk.told kept.journal.disk);
       cause = memory-cause (g.D.Disk.faults kept.journal.disk) given (error.1 ∙ ap Err error.2);
       why = λ fault. absurd (never-fault given (error.1 ∙ ap Err error.2) fault);
       same = refl;
     }
 
-pub returns-in_ok-read-in_default : goal.returns-in_ok-read-in_default
-returns-in_ok-read-in_default g c =
+pub returns-in_ok-show-in_default : goal.returns-in_ok-show-in_default
+returns-in_ok-show-in_default g c =
     let hash : Hash = g.H.Hash32.digest c.args.hash.now in
     let constant : Option ℤ = g.C.Clock.constant c.args.clock.now in
     let kept : KeptHistory g.row.D.Denot = c.args.kept.now in
-    let done = c.in_ok-read-in_default in
+    let done = c.in_ok-show-in_default in
     let reply : List ℕ = done.field-0.items in
     let A : Held → Type 0 = λ h. Answers hash constant c.args.command h h reply in
     let R : Held → Type 0 = λ h. IsReadBack hash h.transactions c.args.command reply in
     record {
-      answers = subst A c.ledger-in_default.ensures (done.ensures.answers constant);
-      again = subst R c.ledger-in_default.ensures done.ensures.again;
+      answers = subst A c.ledger.ensures (done.ensures.answers constant);
+      again = subst R c.ledger.ensures done.ensures.again;
       kept = c.requires.kept;
       times = asked-same kept.held.transactions kept.held.transactions (g.C.Clock.given c.args.clock.now) refl;
-      within = c.requires.within;
+      within = subst (λ (h : Held). IsIndexWithin c.show.new.keys h.transactions) c.ledger.ensures done.ensures.within;
       put = λ w n first p. p;
       moments = between-same g.D.Disk.told hash kept c.requires.kept kept refl refl;
       left = nothing-placed g.D.Disk.told hash kept c.requires.kept constant (g.C.Clock.given c.args.clock.now) c.args.command kept.journal (Ok done.field-0) refl (ok-isnt done.field-0 DiskFault);
@@ -110,9 +75,6 @@ returns-in_ok-read-in_default g c =
       why = λ fault. absurd (ok-isnt done.field-0 DiskFault fault);
       same = refl;
     }
-
-pub returns-in_ok-look-in-Get-clause-times : goal.returns-in_ok-look-in-Get-clause-times
-returns-in_ok-look-in-Get-clause-times g c = asked-same c.args.kept.now.held.transactions c.args.kept.now.held.transactions (g.C.Clock.given c.args.clock.now) refl
 
 pub returns-in_ok-answer_link-in-Link-clause-times : goal.returns-in_ok-answer_link-in-Link-clause-times
 returns-in_ok-answer_link-in-Link-clause-times g c =
