@@ -20,13 +20,13 @@ part_first old now front back e = part-is old now front back (front ++ back) e r
 
 -- so are the first two of three
 pub part_two : (old now one two back : List ℕ) → now ≡ old ++ one ++ two → (n : ℕ) × (now ≡ old ++ take n (one ++ two ++ back))
-part_two old now one two back e = part-is old now (one ++ two) back (one ++ two ++ back) e (append_assoc one two back)
+part_two old now one two back e = part-is old now (one ++ two) back (one ++ two ++ back) (e ∙ append_assoc old one two) refl
 
 -- and the first three of four
 pub part_three : (old now one two three back : List ℕ) → now ≡ old ++ one ++ two ++ three → (n : ℕ) × (now ≡ old ++ take n (one ++ two ++ three ++ back))
 part_three old now one two three back e =
-    let whole : (one ++ two ++ three) ++ back ≡ one ++ two ++ three ++ back = simp append_assoc in
-    part-is old now (one ++ two ++ three) back (one ++ two ++ three ++ back) e whole
+    let joined : old ++ one ++ two ++ three ≡ old ++ (one ++ two ++ three) = simp append_assoc in
+    part-is old now (one ++ two ++ three) back (one ++ two ++ three ++ back) (e ∙ joined) refl
 
 -- a front part of the first of two texts is one of both
 pub part_front : (old now one back : List ℕ) (n : ℕ) → now ≡ old ++ take n one → (k : ℕ) × (now ≡ old ++ take k (one ++ back))
@@ -46,16 +46,11 @@ part_behind old mid now front back n first second =
 
 -- and of three texts a front part of the first two
 pub part_within : (old now one two back : List ℕ) (n : ℕ) → now ≡ old ++ take n (one ++ two) → (k : ℕ) × (now ≡ old ++ take k (one ++ two ++ back))
-part_within old now one two back n e =
-    let whole : take n (one ++ two) ++ (drop n (one ++ two) ++ back) ≡ one ++ (two ++ back) =
-    sym (append_assoc (take n (one ++ two)) (drop n (one ++ two)) back) ∙ ap (λ (l : List ℕ). l ++ back) (take-append-drop n (one ++ two)) ∙ append_assoc one two back in
-    part-is old now (take n (one ++ two)) (drop n (one ++ two) ++ back) (one ++ (two ++ back)) e whole
+part_within old now one two back n e = part_front old now (one ++ two) back n e
 
 -- and a front part of the third, behind the first two
 pub part_after : (old mid now one two back : List ℕ) (n : ℕ) → mid ≡ old ++ one ++ two → now ≡ mid ++ take n back → (k : ℕ) × (now ≡ old ++ take k (one ++ two ++ back))
-part_after old mid now one two back n first second =
-    let both = part_behind old mid now (one ++ two) back n first second in
-    (both.0, both.1 ∙ ap (λ (l : List ℕ). old ++ take both.0 l) (append_assoc one two back))
+part_after old mid now one two back n first second = part_behind old mid now (one ++ two) back n (first ∙ append_assoc old one two) second
 
 -- and of the second of three, behind the first
 pub part_between : (old mid now one two back : List ℕ) (n : ℕ) → mid ≡ old ++ one → now ≡ mid ++ take n two → (k : ℕ) × (now ≡ old ++ take k (one ++ two ++ back))
@@ -67,9 +62,8 @@ part_between old mid now one two back n first second =
 pub part_fifth : (old mid now one two three four back : List ℕ) (n : ℕ) → mid ≡ old ++ one ++ two ++ three ++ four → now ≡ mid ++ take n back
     → (k : ℕ) × (now ≡ old ++ take k (one ++ two ++ three ++ four ++ back))
 part_fifth old mid now one two three four back n first second =
-    let both = part_behind old mid now (one ++ two ++ three ++ four) back n first second in
-    let joined : (one ++ two ++ three ++ four) ++ back ≡ one ++ two ++ three ++ four ++ back = simp append_assoc in
-    (both.0, both.1 ∙ ap (λ (l : List ℕ). old ++ take both.0 l) joined)
+    let joined : old ++ one ++ two ++ three ++ four ≡ old ++ (one ++ two ++ three ++ four) = simp append_assoc in
+    part_behind old mid now (one ++ two ++ three ++ four) back n (first ∙ joined) second
 
 -- of an answer that is an error
 pub on-err : {T E P : Type 0} (r : Result T E) → P → OnErr r P
@@ -96,7 +90,4 @@ fifth-err (Err e) old mid now one two three four back first part = part_fifth ol
 
 -- a front part of four texts is one of five
 pub part-of-five : (old now one two three four back : List ℕ) (n : ℕ) → now ≡ old ++ take n (one ++ two ++ three ++ four) → (k : ℕ) × (now ≡ old ++ take k (one ++ two ++ three ++ four ++ back))
-part-of-five old now one two three four back n e =
-    let both = part_front old now (one ++ two ++ three ++ four) back n e in
-    let joined : (one ++ two ++ three ++ four) ++ back ≡ one ++ two ++ three ++ four ++ back = simp append_assoc in
-    (both.0, both.1 ∙ ap (λ (l : List ℕ). old ++ take both.0 l) joined)
+part-of-five old now one two three four back n e = part_front old now (one ++ two ++ three ++ four) back n e
