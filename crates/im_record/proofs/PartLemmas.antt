@@ -1,4 +1,4 @@
--- What was added of entries before writing stopped.
+-- What was added of a record before writing stopped.
 use Rattle.std.proofs.Common.{◌≡◌, ◌<◌, ◌+◌, ◌++◌, ◌∷◌, ℕ, List, length, take, drop, get_or, ap, sym, ◌∙◌, append_assoc}
 use Rattle.std.proofs.lemmas.List.{append_cancel_left, drop_more, take-append-drop}
 use Rattle.std.specs.Prelude.{OnErr, Result, Ok, Err}
@@ -6,6 +6,17 @@ use Rattle.im_octet.proofs.PartLemmas.{part-is}
 use Rattle.im_model.specs.declared.entries.Entry.{Entry}
 use Rattle.im_format.specs.Records.{entries_octets, entry_octets}
 use Rattle.im_format.specs.declared.references.ValueRef.{ValueRef}
+
+-- the first of four texts is a front part of them
+pub part_one_of_four : (old now one two three four : List ℕ) → now ≡ old ++ one → (n : ℕ) × (now ≡ old ++ take n (one ++ two ++ three ++ four))
+part_one_of_four old now one two three four e =
+    let whole : one ++ (two ++ three ++ four) ≡ one ++ two ++ three ++ four = simp append_assoc in
+    part-is old now one (two ++ three ++ four) (one ++ two ++ three ++ four) e whole
+
+-- so are the first two of them
+pub part_two_of_four : (old now one two three four : List ℕ) → now ≡ old ++ one ++ two → (n : ℕ) × (now ≡ old ++ take n (one ++ two ++ three ++ four))
+part_two_of_four old now one two three four e =
+    part-is old now (one ++ two) (three ++ four) (one ++ two ++ three ++ four) (e ∙ append_assoc old one two) (sym (append_assoc (one ++ two) three four))
 
 -- behind the entries before place i, of which these are the octets, a front part of the octets of the entry there
 pub part_reached : {T E : Type 0} (r : Result T E) (old mid now part : List ℕ) (entries : List Entry) (refs : List ValueRef) (i n : ℕ) (entry : Entry) (ref default : ValueRef)
