@@ -226,9 +226,9 @@ fn accepted_text(alloc: Global, n: u64, message: &Message) -> Result<Vec<u8>, Al
     Ok(out)
 }
 
-// The line of one that was refused.
+/// What is written of line n, with its LF, where a check of it fails.
 #[tactic(auto, unfolding(crate::specs::Texts::refused_line))]
-fn refused_text(alloc: Global, n: u64, fault: &LineFault) -> Result<Vec<u8>, AllocError>
+pub fn refused_text(alloc: Global, n: u64, fault: &LineFault) -> Result<Vec<u8>, AllocError>
     ensures { IfOk result (λ text. text.items ≡ refused_line n fault.now) }
 {
     let mut out = Vec::new(alloc);

@@ -4,3 +4,4 @@ pub mod Accepted
 pub mod Copies
 pub mod Folds
 pub mod Held
+pub mod Texts

@@ -8,3 +8,4 @@ mod copies;
 pub mod facts;
 pub mod laws;
 pub mod taken;
+pub mod texts;
