@@ -1,6 +1,7 @@
 pub mod AgainLemmas
 pub mod FateLemmas
 pub mod FoldLemmas
+pub mod ForkLemmas
 pub mod KeepLemmas
 pub mod PrintLemmas
 pub mod RunLemmas

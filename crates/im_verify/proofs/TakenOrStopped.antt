@@ -1,72 +1,87 @@
--- Kept lines are all taken, or they stop at the first that is refused.
-use Rattle.std.proofs.Common.{◌⊎◌, ◌<◌, ℕ, suc, List, [], ◌∷◌, length, take, get_or, Option, None, inl, inr, arith}
+-- Kept lines are all taken, or they stop at the first that is refused or forked.
+use Rattle.std.proofs.Common.{◌⊎◌, ◌<◌, ℕ, suc, List, [], ◌∷◌, length, take, get_or, refl, inl, inr, arith}
+use Rattle.std.specs.List.{All}
 use Rattle.std.proofs.lemmas.List.Elements.{All-nil, All-cons}
 use Rattle.im_digest.specs.Digests.{Hash}
-use Rattle.im_model.specs.declared.headers.Header.{Header}
-use Rattle.im_client.specs.Folds.{IsFold, IsOutcome, IsRefused, state_after, state_by}
-use Rattle.im_client.specs.declared.faults.LineFault.{LineFault}
-use Rattle.im_client.specs.declared.outcomes.Outcome.{Outcome}
-use Rattle.im_client.specs.declared.outcomes.Outcome.TheVariants.{Passed, Accepted, Refused}
-use Rattle.im_client.proofs.OutcomeSome.{outcome-exists}
-use Rattle.im_verify.specs.Judged.{AreTaken, NoneRefused, StopsKept}
+use Rattle.im_pairs.specs.Pairs.{GivesDigests}
+use Rattle.im_wire.specs.Fits.{IsMessage}
+use Rattle.im_facts.specs.Accepted.{IsClient}
+use Rattle.im_facts.specs.Facts.{Known, nothing}
+use Rattle.im_facts.specs.Folds.{AreVerdicts, IsVerdict, known_by, known_by_all}
+use Rattle.im_facts.specs.Verdicts.{Verdict, Passed, Accepted, Refused, Forked}
+use Rattle.im_facts.proofs.VerdictSome.{client-by, line-fits}
+use Rattle.im_verify.specs.Judged.{AreTaken, IsRejected, StopsKept}
+use Rattle.im_verify.proofs.ForkLemmas.{a-verdict}
 
--- from a state on, the lines have a fold without a refusal
-record TakenFrom (hash : Hash) (state : Option Header) (lines : List (List ℕ)) : Type 0 where
-  outcomes : List Outcome
-  fold : IsFold hash state lines outcomes
-  accepted : NoneRefused outcomes
+-- from what is known on, the lines have verdicts, none of which rejects
+record TakenFrom (hash : Hash) (known : Known) (lines : List (List ℕ)) : Type 0 where
+  verdicts : List Verdict
+  fold : AreVerdicts hash known lines verdicts
+  accepted : All (λ (v : Verdict). IsRejected v → ⊥) verdicts
 
--- or the first n of them have one, and the next one is refused
-record StoppedFrom (hash : Hash) (state : Option Header) (lines : List (List ℕ)) : Type 0 where
+-- or the first n of them have such, and the next one is refused or forked
+record StoppedFrom (hash : Hash) (known : Known) (lines : List (List ℕ)) : Type 0 where
   n : ℕ
   within : n < length lines
-  before : List Outcome
-  fold : IsFold hash state (take n lines) before
-  accepted : NoneRefused before
-  fault : LineFault
-  refused : IsOutcome hash (state_after state before) (get_or lines n []) (Refused fault)
+  before : List Verdict
+  fold : AreVerdicts hash known (take n lines) before
+  accepted : All (λ (v : Verdict). IsRejected v → ⊥) before
+  next : Verdict
+  rejected : IsRejected next
+  is : IsVerdict hash (known_by_all known before) (get_or lines n []) next
 
-more-taken : (hash : Hash) (state : Option Header) (line : List ℕ) (lines : List (List ℕ)) (o : Outcome) → IsOutcome hash state line o → (IsRefused o → ⊥)
-    → TakenFrom hash (state_by state o) lines ⊎ StoppedFrom hash (state_by state o) lines → TakenFrom hash state (line ∷ lines) ⊎ StoppedFrom hash state (line ∷ lines)
-more-taken hash state line lines o is fine (inl t) = inl (record {
-  outcomes = o ∷ t.outcomes;
+more-taken : (hash : Hash) (known : Known) (line : List ℕ) (lines : List (List ℕ)) (o : Verdict) → IsVerdict hash known line o → (IsRejected o → ⊥)
+    → TakenFrom hash (known_by known o) lines ⊎ StoppedFrom hash (known_by known o) lines → TakenFrom hash known (line ∷ lines) ⊎ StoppedFrom hash known (line ∷ lines)
+more-taken hash known line lines o is fine (inl t) = inl (record {
+  verdicts = o ∷ t.verdicts;
   fold = (is, t.fold);
-  accepted = All-cons (λ (x : Outcome). IsRefused x → ⊥) o t.outcomes fine t.accepted;
+  accepted = All-cons (λ (x : Verdict). IsRejected x → ⊥) o t.verdicts fine t.accepted;
 })
-more-taken hash state line lines o is fine (inr s) = let within : s.n < length lines = s.within in inr (record {
+more-taken hash known line lines o is fine (inr s) = let within : s.n < length lines = s.within in inr (record {
   n = suc s.n;
   within = omega (arith, within);
   before = o ∷ s.before;
   fold = (is, s.fold);
-  accepted = All-cons (λ (x : Outcome). IsRefused x → ⊥) o s.before fine s.accepted;
-  fault = s.fault;
-  refused = s.refused;
+  accepted = All-cons (λ (x : Verdict). IsRejected x → ⊥) o s.before fine s.accepted;
+  next = s.next;
+  rejected = s.rejected;
+  is = s.is;
 })
 
-one-line : (hash : Hash) (state : Option Header) (line : List ℕ) (lines : List (List ℕ)) → ((next : Option Header) → TakenFrom hash next lines ⊎ StoppedFrom hash next lines)
-    → (o : Outcome) → IsOutcome hash state line o → TakenFrom hash state (line ∷ lines) ⊎ StoppedFrom hash state (line ∷ lines)
-one-line hash state line lines rest Passed is = more-taken hash state line lines Passed is (λ r. r) (rest state)
-one-line hash state line lines rest (Accepted m) is = more-taken hash state line lines (Accepted m) is (λ r. r) (rest (state_by state (Accepted m)))
-one-line hash state line lines rest (Refused fault) is = inr (record {
+-- a line that is rejected stops the taking
+stopped : (hash : Hash) (known : Known) (line : List ℕ) (lines : List (List ℕ)) (o : Verdict) → IsVerdict hash known line o → IsRejected o → StoppedFrom hash known (line ∷ lines)
+stopped hash known line lines o is r = record {
   n = 0;
   within = omega arith;
   before = [];
   fold = tt;
-  accepted = All-nil (λ (x : Outcome). IsRefused x → ⊥);
-  fault = fault;
-  refused = is;
-})
+  accepted = All-nil (λ (x : Verdict). IsRejected x → ⊥);
+  next = o;
+  rejected = r;
+  is = is;
+}
 
-taken-or-stopped : (hash : Hash) (state : Option Header) (lines : List (List ℕ)) → TakenFrom hash state lines ⊎ StoppedFrom hash state lines
-taken-or-stopped hash state [] = inl (record { outcomes = []; fold = tt; accepted = All-nil (λ (x : Outcome). IsRefused x → ⊥) })
-taken-or-stopped hash state (line ∷ lines) =
-    let first = outcome-exists hash state line in
-    one-line hash state line lines (λ next. taken-or-stopped hash next lines) first.0 first.1
+one-line : (hash : Hash) (known : Known) (line : List ℕ) (lines : List (List ℕ)) → ((next : Known) → IsClient hash next → TakenFrom hash next lines ⊎ StoppedFrom hash next lines)
+    → (o : Verdict) → IsVerdict hash known line o → IsClient hash (known_by known o) → TakenFrom hash known (line ∷ lines) ⊎ StoppedFrom hash known (line ∷ lines)
+one-line hash known line lines rest Passed is client = more-taken hash known line lines Passed is (λ r. r) (rest known client)
+one-line hash known line lines rest (Accepted m) is client = more-taken hash known line lines (Accepted m) is (λ r. r) (rest (known_by known (Accepted m)) client)
+one-line hash known line lines rest (Refused fault) is client = inr (stopped hash known line lines (Refused fault) is tt)
+one-line hash known line lines rest (Forked x y) is client = inr (stopped hash known line lines (Forked x y) is tt)
+
+taken-or-stopped : (hash : Hash) → GivesDigests hash → (known : Known) (lines : List (List ℕ)) → IsClient hash known → TakenFrom hash known lines ⊎ StoppedFrom hash known lines
+taken-or-stopped hash size known [] client = inl (record { verdicts = []; fold = tt; accepted = All-nil (λ (x : Verdict). IsRejected x → ⊥) })
+taken-or-stopped hash size known (line ∷ lines) client =
+    let first = a-verdict hash size known line client in
+    one-line hash known line lines (λ next is. taken-or-stopped hash size next lines is) first.0 first.1 (client-by hash known line first.0 (line-fits line) client first.1)
+
+-- nothing is known under any hash function
+nothing-client : (hash : Hash) → IsClient hash nothing
+nothing-client hash = record { fit = All-nil IsMessage; accepted = tt; led = refl }
 
 -- kept lines are taken, or they stop
-pub kept-or-stops : (hash : Hash) (kept : List (List ℕ)) → ((outcomes : List Outcome) × AreTaken hash kept outcomes) ⊎ ((n : ℕ) × StopsKept hash kept n)
-kept-or-stops hash kept = go (taken-or-stopped hash None kept)
+pub kept-or-stops : (hash : Hash) (kept : List (List ℕ)) → GivesDigests hash → ((verdicts : List Verdict) × AreTaken hash kept verdicts) ⊎ ((n : ℕ) × StopsKept hash kept n)
+kept-or-stops hash kept size = go (taken-or-stopped hash size nothing kept (nothing-client hash))
   where
-    go : TakenFrom hash None kept ⊎ StoppedFrom hash None kept → ((outcomes : List Outcome) × AreTaken hash kept outcomes) ⊎ ((n : ℕ) × StopsKept hash kept n)
-    go (inl t) = inl (t.outcomes, record { fold = t.fold; accepted = t.accepted })
-    go (inr s) = inr (s.n, record { within = s.within; before = s.before; taken = record { fold = s.fold; accepted = s.accepted }; fault = s.fault; refused = s.refused })
+    go : TakenFrom hash nothing kept ⊎ StoppedFrom hash nothing kept → ((verdicts : List Verdict) × AreTaken hash kept verdicts) ⊎ ((n : ℕ) × StopsKept hash kept n)
+    go (inl t) = inl (t.verdicts, record { fold = t.fold; accepted = t.accepted })
+    go (inr s) = inr (s.n, record { within = s.within; before = s.before; taken = record { fold = s.fold; accepted = s.accepted }; next = s.next; rejected = s.rejected; is = s.is })

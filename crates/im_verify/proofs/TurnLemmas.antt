@@ -1,25 +1,32 @@
 -- How far the lines of a stream were taken, and one line more.
-use Rattle.std.proofs.Common.{◌≡◌, ◌+◌, ◌<◌, ℕ, List, [], ◌∷◌, ◌++◌, length, take, Bool, true, false, ◌||◌, ◌==◌, Option, Some, None, Ok, Err, refl, sym, ap, subst, ◌∙◌, arith, append_assoc, append-nil, length-append}
+use Rattle.std.proofs.Common.{◌≡◌, ◌+◌, ◌<◌, ℕ, List, [], ◌∷◌, ◌++◌, length, take, Bool, true, false, ◌||◌, ◌==◌, ◌-◌, Option, Some, None, Ok, Err, refl, sym, ap, subst, ◌∙◌, arith, append_assoc, append-nil, length-append}
+use Rattle.std.specs.Prelude.{◌↔◌, IfOk, IsTrue, OnOk, Result, slice_get}
 use Rattle.std.specs.Option.{option_map}
 use Rattle.std.specs.Io.KnownBytes.{Appends}
 use Rattle.std.proofs.KnownBytes.{Appends-nil, Appends-trans}
 use Rattle.std.proofs.Math.Seq.{take-append_seam}
-use Rattle.std.proofs.lemmas.Bool.{eqb-true}
+use Rattle.std.proofs.lemmas.Bool.{both_ways, eqb-true}
 use Rattle.std.proofs.lemmas.List.Elements.{All-nil, All-push}
 use Rattle.std.proofs.lemmas.List.Quantifiers.{Any-push}
 use Rattle.std.proofs.lemmas.List.{get_or_append_left}
 use Rattle.im_digest.specs.Digests.{Hash}
-use Rattle.im_model.specs.declared.headers.Header.{Header}
 use Rattle.im_text.specs.Lines.{AreTexts, IsFirstText}
 use Rattle.im_text.proofs.LineLemmas.{texts-exist, texts-more}
 use Rattle.im_wire.specs.declared.messages.Message.{Message}
-use Rattle.im_client.specs.Folds.{IsFold, IsOutcome, IsRefused, kept_text, kept_texts, state_after, state_by}
-use Rattle.im_client.specs.Texts.{outcome_line, outcome_lines}
-use Rattle.im_client.specs.declared.outcomes.Outcome.{Outcome}
-use Rattle.im_client.specs.declared.outcomes.Outcome.TheVariants.{Accepted}
-use Rattle.im_verify.specs.Judged.{NoneRefused, SomeRefused}
-use Rattle.im_verify.specs.Turns.{WritesAndKeeps, WrittenAndKept, HalfTurn, TakesAll, TakesAt, TakesInto, TakesSome, LineTurn}
-use Rattle.im_verify.proofs.FoldLemmas.{fold-push, lines-push, state-push, texts-push}
+use Rattle.im_pairs.specs.Pairs.{GivesDigests}
+use Rattle.im_facts.specs.Accepted.{IsClient}
+use Rattle.im_facts.specs.Facts.{Known}
+use Rattle.im_facts.specs.Folds.{AreVerdicts, IsVerdict, known_by, known_by_all}
+use Rattle.im_facts.specs.Texts.{answer_line, verdict_line, verdict_lines}
+use Rattle.im_facts.specs.Verdicts.{Verdict, Passed, Accepted, Refused, Forked, IsForked, taken_of}
+use Rattle.im_facts.specs.declared.taken.Taken.{Taken}
+use Rattle.im_verify.specs.Judged.{kept_text, kept_texts, up_to_fork, IsRefused, NoneForked, NoneRefused, SomeRefused}
+use Rattle.im_verify.specs.Turns.{end_by, end_of, last_accepted, message_text, WritesAndKeeps, AddsPart, WrittenAndKept, EndsStream, HalfTurn, TakesAll, TakesAt, TakesInto, TakesSome, LineTurn}
+use Rattle.im_verify.specs.declared.lines.LineEnd.{LineEnd}
+use Rattle.im_verify.specs.declared.lines.LineEnd.TheVariants as the
+use Rattle.im_verify.specs.declared.stops.Stop.{Stop}
+use Rattle.im_verify.proofs.FoldLemmas.{fold-append, fold-push, lines-push, known-push, texts-push}
+use Rattle.im_verify.proofs.ForkLemmas.{all-verdicts, some-here, up-forked, up-none}
 
 keeps-nil : (kept : Option (List (List ℕ))) → kept ≡ option_map (λ xs. xs ++ []) kept
 keeps-nil None = refl
@@ -40,40 +47,142 @@ adds-trans x y a b from mid to p q = record {
   keeps = q.keeps ∙ ap (option_map (λ (xs : List (List ℕ)). xs ++ b)) p.keeps ∙ keeps-twice from.kept a b;
 }
 
--- the lines of a stream before its rest were judged from a state on, told and kept
-pub record Progress (hash : Hash) (state : Option Header) (stream rest : List ℕ) (number : ℕ) (refused : Bool) (next : Option Header) (from to : WrittenAndKept) : Type 0 where
+-- which ends are whose
+refused-end : (v : Verdict) → IsRefused v → end_of (taken_of v) ≡ the.Refused
+refused-end Passed r = absurd r
+refused-end (Accepted m) r = absurd r
+refused-end (Refused fault) r = refl
+refused-end (Forked x y) r = absurd r
+
+end-refused : (v : Verdict) → end_of (taken_of v) ≡ the.Refused → IsRefused v
+end-refused Passed e = absurd cc
+end-refused (Accepted m) e = absurd cc
+end-refused (Refused fault) e = tt
+end-refused (Forked x y) e = absurd cc
+
+forked-end : (v : Verdict) → IsForked v → end_of (taken_of v) ≡ the.Forked
+forked-end Passed f = absurd f
+forked-end (Accepted m) f = absurd f
+forked-end (Refused fault) f = absurd f
+forked-end (Forked x y) f = refl
+
+end-forked : (v : Verdict) → end_of (taken_of v) ≡ the.Forked → IsForked v
+end-forked Passed e = absurd cc
+end-forked (Accepted m) e = absurd cc
+end-forked (Refused fault) e = absurd cc
+end-forked (Forked x y) e = tt
+
+-- the last of messages with one more
+last-more : (ms : List Message) (m : Message) → slice_get (ms ++ m ∷ []) (length (ms ++ m ∷ []) - 1) ≡ Some m
+last-more ms m =
+    let size : length (ms ++ m ∷ []) ≡ length ms + 1 = length-append ms (m ∷ []) in
+    let at : length (ms ++ m ∷ []) - 1 ≡ length ms = omega arith in
+    ap (slice_get (ms ++ m ∷ [])) at ∙ last-at ms m
+  where
+    last-at : (ms : List Message) (m : Message) → slice_get (ms ++ m ∷ []) (length ms) ≡ Some m
+    last-at [] m = refl
+    last-at (n ∷ ms) m = last-at ms m
+
+-- the text that is kept of a line is that of its accepted message
+kept-last : (known : Known) (v : Verdict) → message_text (last_accepted (taken_of v) (known_by known v).messages) ≡ kept_text v
+kept-last known Passed = refl
+kept-last known (Accepted m) = ap message_text (last-more known.messages m)
+kept-last known (Refused fault) = refl
+kept-last known (Forked x y) = refl
+
+accepted-is : (v : Verdict) (messages : List Message) (m : Message) → last_accepted (taken_of v) messages ≡ Some m → (next : Message) × (v ≡ Accepted next)
+accepted-is Passed messages m e = absurd cc
+accepted-is (Accepted next) messages m e = (next, refl)
+accepted-is (Refused fault) messages m e = absurd cc
+accepted-is (Forked x y) messages m e = absurd cc
+
+-- what a client told of a line
+abbrev pub Told : Hash → Known → Known → List ℕ → Option Taken → Type 0
+Told hash known next line taken = (verdict : Verdict) × IsVerdict hash known line verdict × (taken ≡ taken_of verdict) × (next ≡ known_by known verdict)
+
+-- so the text that is kept, by the answer
+kept-told : (known next : Known) (taken : Option Taken) (messages : List Message) (message : Option Message) (v : Verdict) → taken ≡ taken_of v → next ≡ known_by known v
+    → messages ≡ next.messages → message ≡ last_accepted taken messages → message_text message ≡ kept_text v
+kept-told known next taken messages message v answer follows lent last =
+    ap message_text last
+    ∙ ap (λ (t : Option Taken). message_text (last_accepted t messages)) answer
+    ∙ ap (λ (ms : List Message). message_text (last_accepted (taken_of v) ms)) lent
+    ∙ ap (λ (k : Known). message_text (last_accepted (taken_of v) k.messages)) follows
+    ∙ kept-last known v
+
+turn-of : (hash : Hash) (number : ℕ) (line : List ℕ) (known next : Known) (taken : Option Taken) (messages : List Message) (message : Option Message) (end : LineEnd) (from to : WrittenAndKept)
+    → Told hash known next line taken → messages ≡ next.messages → message ≡ last_accepted taken messages → end ≡ end_of taken
+    → WritesAndKeeps (answer_line number taken) (message_text message) from to → LineTurn hash number line end known next from to
+turn-of hash number line known next taken messages message end from to (v, is, answer, follows) lent last e adds = record {
+  verdict = v;
+  is = is;
+  tells = subst (λ (ts : List (List ℕ)). WritesAndKeeps (verdict_line number v) ts from to) (kept-told known next taken messages message v answer follows lent last)
+      (subst (λ (t : Option Taken). WritesAndKeeps (answer_line number t) (message_text message) from to) answer adds);
+  follows = follows;
+  ends = e ∙ ap end_of answer;
+}
+
+-- a line was taken, told and kept
+pub turn-told : (hash : Hash) (number : ℕ) (line : List ℕ) (known next : Known) (taken : Option Taken) (messages : List Message) (message : Option Message) (from to : WrittenAndKept) (result : Result LineEnd Stop)
+    → Told hash known next line taken → messages ≡ next.messages → message ≡ last_accepted taken messages → IfOk result (λ end. end ≡ end_of taken)
+    → OnOk result (WritesAndKeeps (answer_line number taken) (message_text message) from to) → IfOk result (λ end. LineTurn hash number line end known next from to)
+turn-told hash number line known next taken messages message from to (Ok end) told lent last e adds = turn-of hash number line known next taken messages message end from to told lent last e adds
+turn-told hash number line known next taken messages message from to (Err stop) told lent last e adds = tt
+
+-- it was told in part
+pub half-told : (hash : Hash) (number : ℕ) (line : List ℕ) (known next : Known) (taken : Option Taken) (messages : List Message) (message : Option Message) (from to : WrittenAndKept)
+    → Told hash known next line taken → messages ≡ next.messages → message ≡ last_accepted taken messages
+    → AddsPart (answer_line number taken) (message_text message) from to → HalfTurn hash number line known from to
+half-told hash number line known next taken messages message from to (v, is, answer, follows) lent last adds = record {
+  verdict = v;
+  is = is;
+  tells = subst (λ (ts : List (List ℕ)). AddsPart (verdict_line number v) ts from to) (kept-told known next taken messages message v answer follows lent last)
+      (subst (λ (t : Option Taken). AddsPart (answer_line number t) (message_text message) from to) answer adds);
+}
+
+-- its message was accepted
+pub accepted-told : (hash : Hash) (line : List ℕ) (known next : Known) (taken : Option Taken) (messages : List Message) (message : Option Message)
+    → Told hash known next line taken → message ≡ last_accepted taken messages → (m : Message) × (message ≡ Some m) → (m : Message) × IsVerdict hash known line (Accepted m)
+accepted-told hash line known next taken messages message (v, is, answer, follows) last (m, some) =
+    let found = accepted-is v messages m (ap (λ (t : Option Taken). last_accepted t messages) (sym answer) ∙ sym last ∙ some) in
+    (found.0, subst (λ (w : Verdict). IsVerdict hash known line w) found.1 is)
+
+-- the lines of a stream before its rest were judged from what is known on, none of them a fork, told and kept
+pub record Progress (hash : Hash) (known : Known) (stream rest : List ℕ) (number : ℕ) (refused : Bool) (next : Known) (from to : WrittenAndKept) : Type 0 where
   pub lines : List (List ℕ)
-  pub outcomes : List Outcome
-  pub fold : IsFold hash state lines outcomes
-  pub follows : next ≡ state_after state outcomes
-  pub count : number ≡ length outcomes
+  pub verdicts : List Verdict
+  pub fold : AreVerdicts hash known lines verdicts
+  pub follows : next ≡ known_by_all known verdicts
+  pub count : number ≡ length verdicts
   pub behind : (more : List (List ℕ)) → AreTexts rest more → AreTexts stream (lines ++ more)
-  pub adds : WritesAndKeeps (outcome_lines 1 outcomes) (kept_texts outcomes) from to
-  pub accepted : refused ≡ false → NoneRefused outcomes
-  pub some : refused ≡ true → SomeRefused outcomes
+  pub adds : WritesAndKeeps (verdict_lines 1 verdicts) (kept_texts verdicts) from to
+  pub accepted : refused ≡ false → NoneRefused verdicts
+  pub some : refused ≡ true → SomeRefused verdicts
+  pub none : NoneForked verdicts
 
 -- before the first line
-pub progress-first : (hash : Hash) (state : Option Header) (stream : List ℕ) (d : WrittenAndKept) → Progress hash state stream stream 0 false state d d
-progress-first hash state stream d = record {
+pub progress-first : (hash : Hash) (known : Known) (stream : List ℕ) (d : WrittenAndKept) → Progress hash known stream stream 0 false known d d
+progress-first hash known stream d = record {
   lines = [];
-  outcomes = [];
+  verdicts = [];
   fold = tt;
   follows = refl;
   count = refl;
   behind = λ more h. h;
   adds = adds-nil d;
-  accepted = λ e. All-nil (λ (o : Outcome). IsRefused o → ⊥);
+  accepted = λ e. All-nil (λ (o : Verdict). IsRefused o → ⊥);
   some = λ e. absurd cc;
+  none = All-nil (λ (o : Verdict). IsForked o → ⊥);
 }
 
 -- what tells the lines with the next one
-told-push : (os : List Outcome) (number : ℕ) (o : Outcome) → number ≡ length os → outcome_lines 1 os ++ outcome_line (number + 1) o ≡ outcome_lines 1 (os ++ o ∷ [])
+told-push : (os : List Verdict) (number : ℕ) (o : Verdict) → number ≡ length os → verdict_lines 1 os ++ verdict_line (number + 1) o ≡ verdict_lines 1 (os ++ o ∷ [])
 told-push os number o same =
     let n : number + 1 ≡ 1 + length os = omega arith in
-    ap (λ k. outcome_lines 1 os ++ outcome_line k o) n ∙ sym (lines-push 1 os o)
+    ap (λ k. verdict_lines 1 os ++ verdict_line k o) n ∙ sym (lines-push 1 os o)
 
 -- some line is still refused
-some-more : (os : List Outcome) (o : Outcome) → SomeRefused os → SomeRefused (os ++ o ∷ [])
+some-more : (os : List Verdict) (o : Verdict) → SomeRefused os → SomeRefused (os ++ o ∷ [])
 some-more os o (k, x, within, at, is) =
     let size : length (os ++ o ∷ []) ≡ length os + 1 = length-append os (o ∷ []) in
     (k, x, omega arith, get_or_append_left os (o ∷ []) x k within ∙ at, is)
@@ -82,37 +191,65 @@ none-before : (a b : Bool) → (a || b) ≡ false → (a ≡ false) × (b ≡ fa
 none-before true b e = absurd cc
 none-before false b e = (refl, e)
 
-none-push : (os : List Outcome) (o : Outcome) (a b : Bool) → (a ≡ false → NoneRefused os) → (b ≡ false → IsRefused o → ⊥) → (a || b) ≡ false → NoneRefused (os ++ o ∷ [])
+none-push : (os : List Verdict) (o : Verdict) (a b : Bool) → (a ≡ false → NoneRefused os) → (b ≡ false → IsRefused o → ⊥) → (a || b) ≡ false → NoneRefused (os ++ o ∷ [])
 none-push os o a b old new e =
     let parts = none-before a b e in
-    All-push (λ (x : Outcome). IsRefused x → ⊥) os o (old parts.0) (new parts.1)
+    All-push (λ (x : Verdict). IsRefused x → ⊥) os o (old parts.0) (new parts.1)
 
-some-push : (os : List Outcome) (o : Outcome) (a b : Bool) → (a ≡ true → SomeRefused os) → (b ≡ true → IsRefused o) → (a || b) ≡ true → SomeRefused (os ++ o ∷ [])
+some-push : (os : List Verdict) (o : Verdict) (a b : Bool) → (a ≡ true → SomeRefused os) → (b ≡ true → IsRefused o) → (a || b) ≡ true → SomeRefused (os ++ o ∷ [])
 some-push os o true b old new e = some-more os o (old refl)
 some-push os o false b old new e = Any-push IsRefused os o (new e)
 
--- one line more
-pub progress-next : (hash own : Hash) (state : Option Header) (stream rest line behind : List ℕ) (number : ℕ) (refused r : Bool) (now next : Option Header) (from mid to : WrittenAndKept)
-    → own ≡ hash → 0 < length rest → IsFirstText rest line behind → Progress hash state stream rest number refused now from mid → LineTurn own (number + 1) line r now next mid to
-    → Progress hash state stream behind (number + 1) (refused || r) next from to
-progress-next hash own state stream rest line behind number refused r now next from mid to own_is some first p t =
-    let is : IsOutcome hash (state_after state p.outcomes) line t.outcome = subst (λ (s : Option Header). IsOutcome hash s line t.outcome) p.follows (subst (λ (h : Hash). IsOutcome h now line t.outcome) own_is t.is) in
-    let size : length (p.outcomes ++ t.outcome ∷ []) ≡ length p.outcomes + 1 = length-append p.outcomes (t.outcome ∷ []) in
-    let same : number ≡ length p.outcomes = p.count in
-    let both : WritesAndKeeps (outcome_lines 1 p.outcomes ++ outcome_line (number + 1) t.outcome) (kept_texts p.outcomes ++ kept_text t.outcome) from to =
-    adds-trans _ _ _ _ from mid to p.adds t.tells in
-    let A : List ℕ → List (List ℕ) → Type 0 = λ x a. WritesAndKeeps x a from to in
+-- what is told and kept of the lines, and then of one more
+adds-next : (os : List Verdict) (o : Verdict) (number : ℕ) (from mid to : WrittenAndKept) → number ≡ length os → WritesAndKeeps (verdict_lines 1 os) (kept_texts os) from mid
+    → WritesAndKeeps (verdict_line (number + 1) o) (kept_text o) mid to → WritesAndKeeps (verdict_lines 1 (os ++ o ∷ [])) (kept_texts (os ++ o ∷ [])) from to
+adds-next os o number from mid to same p q =
+    let both : WritesAndKeeps (verdict_lines 1 os ++ verdict_line (number + 1) o) (kept_texts os ++ kept_text o) from to = adds-trans _ _ _ _ from mid to p q in
+    subst (λ (x : List ℕ). WritesAndKeeps x (kept_texts (os ++ o ∷ [])) from to) (told-push os number o same)
+    (subst (λ (a : List (List ℕ)). WritesAndKeeps (verdict_lines 1 os ++ verdict_line (number + 1) o) a from to) (sym (texts-push os o)) both)
+
+-- one line more that isn't forked
+pub progress-next : (hash : Hash) (known : Known) (stream rest line behind : List ℕ) (number : ℕ) (refused r : Bool) (end : LineEnd) (now next : Known) (from mid to : WrittenAndKept)
+    → 0 < length rest → IsFirstText rest line behind → Progress hash known stream rest number refused now from mid → LineTurn hash (number + 1) line end now next mid to
+    → (end ≡ the.Forked → ⊥) → (IsTrue r ↔ (end ≡ the.Refused))
+    → Progress hash known stream behind (number + 1) (refused || r) next from to
+progress-next hash known stream rest line behind number refused r end now next from mid to some first p t unforked is_refused =
+    let is : IsVerdict hash (known_by_all known p.verdicts) line t.verdict = subst (λ (s : Known). IsVerdict hash s line t.verdict) p.follows t.is in
+    let size : length (p.verdicts ++ t.verdict ∷ []) ≡ length p.verdicts + 1 = length-append p.verdicts (t.verdict ∷ []) in
+    let same : number ≡ length p.verdicts = p.count in
     record {
       lines = p.lines ++ line ∷ [];
-      outcomes = p.outcomes ++ t.outcome ∷ [];
-      fold = fold-push hash state p.lines p.outcomes line t.outcome p.fold is;
-      follows = t.follows ∙ ap (λ (s : Option Header). state_by s t.outcome) p.follows ∙ sym (state-push state p.outcomes t.outcome);
+      verdicts = p.verdicts ++ t.verdict ∷ [];
+      fold = fold-push hash known p.lines p.verdicts line t.verdict p.fold is;
+      follows = t.follows ∙ ap (λ (s : Known). known_by s t.verdict) p.follows ∙ sym (known-push known p.verdicts t.verdict);
       count = omega arith;
       behind = λ more h. subst (λ (ls : List (List ℕ)). AreTexts stream ls) (sym (append_assoc p.lines (line ∷ []) more)) (p.behind (line ∷ more) (texts-more rest line behind more some first h));
-      adds = subst (λ (x : List ℕ). A x (kept_texts (p.outcomes ++ t.outcome ∷ []))) (told-push p.outcomes number t.outcome p.count)
-          (subst (λ (a : List (List ℕ)). A (outcome_lines 1 p.outcomes ++ outcome_line (number + 1) t.outcome) a) (sym (texts-push p.outcomes t.outcome)) both);
-      accepted = none-push p.outcomes t.outcome refused r p.accepted t.accepted;
-      some = some-push p.outcomes t.outcome refused r p.some t.was;
+      adds = adds-next p.verdicts t.verdict number from mid to p.count p.adds t.tells;
+      accepted = none-push p.verdicts t.verdict refused r p.accepted (λ e is. both_ways r e (is_refused.1 (t.ends ∙ refused-end t.verdict is)));
+      some = some-push p.verdicts t.verdict refused r p.some (λ e. end-refused t.verdict (sym t.ends ∙ is_refused.0 e));
+      none = All-push (λ (o : Verdict). IsForked o → ⊥) p.verdicts t.verdict p.none (λ f. unforked (t.ends ∙ forked-end t.verdict f));
+    }
+
+-- one line more that is forked, behind which nothing is told
+pub takes-fork : (hash : Hash) (known : Known) (stream rest line behind : List ℕ) (number : ℕ) (refused : Bool) (end : LineEnd) (now next : Known) (from mid to : WrittenAndKept)
+    → GivesDigests hash → IsClient hash next → 0 < length rest → IsFirstText rest line behind → Progress hash known stream rest number refused now from mid
+    → LineTurn hash (number + 1) line end now next mid to → end ≡ the.Forked → TakesAll hash known stream the.Forked from to
+takes-fork hash known stream rest line behind number refused end now next from mid to size client some first p t e =
+    let more = texts-exist behind in
+    let v : Verdict = t.verdict in
+    let forked : IsForked v = end-forked v (sym t.ends ∙ e) in
+    let is : IsVerdict hash (known_by_all known p.verdicts) line v = subst (λ (s : Known). IsVerdict hash s line v) p.follows t.is in
+    let after = all-verdicts hash size next more.0 client in
+    let left : AreVerdicts hash (known_by (known_by_all known p.verdicts) v) more.0 after.0 =
+    subst (λ (s : Known). AreVerdicts hash s more.0 after.0) (t.follows ∙ ap (λ (s : Known). known_by s v) p.follows) after.1 in
+    record {
+      texts = p.lines ++ line ∷ more.0;
+      are = p.behind (line ∷ more.0) (texts-more rest line behind more.0 some first more.1);
+      verdicts = p.verdicts ++ v ∷ after.0;
+      fold = fold-append hash known p.lines (line ∷ more.0) p.verdicts (v ∷ after.0) p.fold (is, left);
+      adds = subst (λ (vs : List Verdict). WritesAndKeeps (verdict_lines 1 vs) (kept_texts vs) from to) (sym (up-forked p.verdicts after.0 v p.none forked))
+          (adds-next p.verdicts v number from mid to p.count p.adds t.tells);
+      ends = some-here IsForked p.verdicts after.0 v forked;
     }
 
 -- a value isn't an error
@@ -124,32 +261,37 @@ pub no-octets : (octets : List ℕ) → (length octets == 0) ≡ true → octets
 no-octets [] e = refl
 no-octets (o ∷ octets) e = absurd (let z : length (o ∷ octets) ≡ 0 = eqb-true _ _ e in omega arith)
 
+-- how they end then
+ends-by : (refused : Bool) (vs : List Verdict) → (refused ≡ false → NoneRefused vs) → (refused ≡ true → SomeRefused vs) → NoneForked vs → EndsStream (end_by refused) vs
+ends-by true vs accepted some none = (some refl, none)
+ends-by false vs accepted some none = (accepted refl, none)
+
 -- no line is left
-pub takes-all : (hash : Hash) (state : Option Header) (stream rest : List ℕ) (number : ℕ) (refused : Bool) (next : Option Header) (from to : WrittenAndKept)
-    → rest ≡ [] → Progress hash state stream rest number refused next from to → TakesAll hash state stream refused from to
-takes-all hash state stream rest number refused next from to none p = record {
+pub takes-all : (hash : Hash) (known : Known) (stream rest : List ℕ) (number : ℕ) (refused : Bool) (next : Known) (from to : WrittenAndKept)
+    → rest ≡ [] → Progress hash known stream rest number refused next from to → TakesAll hash known stream (end_by refused) from to
+takes-all hash known stream rest number refused next from to none p = record {
   texts = p.lines;
   are = subst (λ (ls : List (List ℕ)). AreTexts stream ls) (append-nil p.lines) (p.behind [] none);
-  outcomes = p.outcomes;
+  verdicts = p.verdicts;
   fold = p.fold;
-  adds = p.adds;
-  accepted = p.accepted;
-  some = p.some;
+  adds = subst (λ (vs : List Verdict). WritesAndKeeps (verdict_lines 1 vs) (kept_texts vs) from to) (sym (up-none p.verdicts p.none)) p.adds;
+  ends = ends-by refused p.verdicts p.accepted p.some p.none;
 }
 
 -- nothing was done of the next line
-pub takes-some : (hash : Hash) (state : Option Header) (stream rest : List ℕ) (number : ℕ) (refused : Bool) (next : Option Header) (from mid to : WrittenAndKept)
-    → to.written ≡ mid.written → to.kept ≡ mid.kept → Progress hash state stream rest number refused next from mid → TakesSome hash state stream from to
-takes-some hash state stream rest number refused next from mid to written kept p =
+pub takes-some : (hash : Hash) (known : Known) (stream rest : List ℕ) (number : ℕ) (refused : Bool) (next : Known) (from mid to : WrittenAndKept)
+    → to.written ≡ mid.written → to.kept ≡ mid.kept → Progress hash known stream rest number refused next from mid → TakesSome hash known stream from to
+takes-some hash known stream rest number refused next from mid to written kept p =
     let more = texts-exist rest in
     record {
       texts = p.lines ++ more.0;
       are = p.behind more.0 more.1;
       count = length p.lines;
-      outcomes = p.outcomes;
-      fold = subst (λ (ls : List (List ℕ)). IsFold hash state ls p.outcomes) (sym (take-append_seam p.lines more.0)) p.fold;
+      verdicts = p.verdicts;
+      fold = subst (λ (ls : List (List ℕ)). AreVerdicts hash known ls p.verdicts) (sym (take-append_seam p.lines more.0)) p.fold;
+      none = p.none;
       adds = record {
-        told = subst (λ (w : Option (List ℕ)). Appends from.written w (outcome_lines 1 p.outcomes)) (sym written) p.adds.told;
+        told = subst (λ (w : Option (List ℕ)). Appends from.written w (verdict_lines 1 p.verdicts)) (sym written) p.adds.told;
         keeps = kept ∙ p.adds.keeps;
       };
     }
@@ -159,13 +301,13 @@ front-and-next front line more =
     ap (take (length (front ++ line ∷ []))) (sym (append_assoc front (line ∷ []) more)) ∙ take-append_seam (front ++ line ∷ []) more
 
 -- nothing was done of the next line, which is accepted
-pub takes-at : (hash own : Hash) (state : Option Header) (stream rest line behind : List ℕ) (number : ℕ) (refused : Bool) (now : Option Header) (from mid to : WrittenAndKept)
-    → own ≡ hash → 0 < length rest → IsFirstText rest line behind → to.written ≡ mid.written → to.kept ≡ mid.kept → Progress hash state stream rest number refused now from mid
-    → (next : Message) × IsOutcome own now line (Accepted next) → TakesAt hash state stream from to
-takes-at hash own state stream rest line behind number refused now from mid to own_is some first written kept p (next, accepted) =
+pub takes-at : (hash : Hash) (known : Known) (stream rest line behind : List ℕ) (number : ℕ) (refused : Bool) (now : Known) (from mid to : WrittenAndKept)
+    → 0 < length rest → IsFirstText rest line behind → to.written ≡ mid.written → to.kept ≡ mid.kept → Progress hash known stream rest number refused now from mid
+    → (next : Message) × IsVerdict hash now line (Accepted next) → TakesAt hash known stream from to
+takes-at hash known stream rest line behind number refused now from mid to some first written kept p (next, accepted) =
     let more = texts-exist behind in
-    let is : IsOutcome hash (state_after state p.outcomes) line (Accepted next) = subst (λ (s : Option Header). IsOutcome hash s line (Accepted next)) p.follows (subst (λ (h : Hash). IsOutcome h now line (Accepted next)) own_is accepted) in
-    let fold : IsFold hash state (p.lines ++ line ∷ []) (p.outcomes ++ Accepted next ∷ []) = fold-push hash state p.lines p.outcomes line (Accepted next) p.fold is in
+    let is : IsVerdict hash (known_by_all known p.verdicts) line (Accepted next) = subst (λ (s : Known). IsVerdict hash s line (Accepted next)) p.follows accepted in
+    let fold : AreVerdicts hash known (p.lines ++ line ∷ []) (p.verdicts ++ Accepted next ∷ []) = fold-push hash known p.lines p.verdicts line (Accepted next) p.fold is in
     let all : length (p.lines ++ line ∷ more.0) ≡ length p.lines + length (line ∷ more.0) = length-append p.lines (line ∷ more.0) in
     let size : length (p.lines ++ line ∷ []) ≡ length p.lines + 1 = length-append p.lines (line ∷ []) in
     let front : take (length p.lines + 1) (p.lines ++ line ∷ more.0) ≡ p.lines ++ line ∷ [] =
@@ -175,36 +317,38 @@ takes-at hash own state stream rest line behind number refused now from mid to o
       are = p.behind (line ∷ more.0) (texts-more rest line behind more.0 some first more.1);
       count = length p.lines;
       within = omega arith;
-      outcomes = p.outcomes;
+      verdicts = p.verdicts;
       next = next;
-      fold = subst (λ (ls : List (List ℕ)). IsFold hash state ls (p.outcomes ++ Accepted next ∷ [])) (sym front) fold;
+      fold = subst (λ (ls : List (List ℕ)). AreVerdicts hash known ls (p.verdicts ++ Accepted next ∷ [])) (sym front) fold;
+      none = p.none;
       adds = record {
-        told = subst (λ (w : Option (List ℕ)). Appends from.written w (outcome_lines 1 p.outcomes)) (sym written) p.adds.told;
+        told = subst (λ (w : Option (List ℕ)). Appends from.written w (verdict_lines 1 p.verdicts)) (sym written) p.adds.told;
         keeps = kept ∙ p.adds.keeps;
       };
     }
 
 -- the next line was told in part
-pub takes-into : (hash own : Hash) (state : Option Header) (stream rest line behind : List ℕ) (number : ℕ) (refused : Bool) (now : Option Header) (from mid to : WrittenAndKept)
-    → own ≡ hash → 0 < length rest → IsFirstText rest line behind → Progress hash state stream rest number refused now from mid → HalfTurn own (number + 1) line now mid to
-    → TakesInto hash state stream from to
-takes-into hash own state stream rest line behind number refused now from mid to own_is some first p t =
+pub takes-into : (hash : Hash) (known : Known) (stream rest line behind : List ℕ) (number : ℕ) (refused : Bool) (now : Known) (from mid to : WrittenAndKept)
+    → 0 < length rest → IsFirstText rest line behind → Progress hash known stream rest number refused now from mid → HalfTurn hash (number + 1) line now mid to
+    → TakesInto hash known stream from to
+takes-into hash known stream rest line behind number refused now from mid to some first p t =
     let more = texts-exist behind in
-    let is : IsOutcome hash (state_after state p.outcomes) line t.outcome = subst (λ (s : Option Header). IsOutcome hash s line t.outcome) p.follows (subst (λ (h : Hash). IsOutcome h now line t.outcome) own_is t.is) in
-    let fold : IsFold hash state (p.lines ++ line ∷ []) (p.outcomes ++ t.outcome ∷ []) = fold-push hash state p.lines p.outcomes line t.outcome p.fold is in
-    let n : number + 1 ≡ length p.outcomes + 1 = ap (λ k. k + 1) p.count in
-    let both : WritesAndKeeps (outcome_lines 1 p.outcomes ++ take t.tells.0 (outcome_line (number + 1) t.outcome)) (kept_texts p.outcomes ++ kept_text t.outcome) from to =
+    let is : IsVerdict hash (known_by_all known p.verdicts) line t.verdict = subst (λ (s : Known). IsVerdict hash s line t.verdict) p.follows t.is in
+    let fold : AreVerdicts hash known (p.lines ++ line ∷ []) (p.verdicts ++ t.verdict ∷ []) = fold-push hash known p.lines p.verdicts line t.verdict p.fold is in
+    let n : number + 1 ≡ length p.verdicts + 1 = ap (λ k. k + 1) p.count in
+    let both : WritesAndKeeps (verdict_lines 1 p.verdicts ++ take t.tells.0 (verdict_line (number + 1) t.verdict)) (kept_texts p.verdicts ++ kept_text t.verdict) from to =
     adds-trans _ _ _ _ from mid to p.adds t.tells.2 in
     let A : List ℕ → List (List ℕ) → Type 0 = λ x a. WritesAndKeeps x a from to in
     record {
       texts = p.lines ++ line ∷ more.0;
       are = p.behind (line ∷ more.0) (texts-more rest line behind more.0 some first more.1);
       count = length (p.lines ++ line ∷ []);
-      outcomes = p.outcomes;
-      last = t.outcome;
-      fold = subst (λ (ls : List (List ℕ)). IsFold hash state ls (p.outcomes ++ t.outcome ∷ [])) (sym (front-and-next p.lines line more.0)) fold;
+      verdicts = p.verdicts;
+      last = t.verdict;
+      fold = subst (λ (ls : List (List ℕ)). AreVerdicts hash known ls (p.verdicts ++ t.verdict ∷ [])) (sym (front-and-next p.lines line more.0)) fold;
       part = t.tells.0;
-      unfinished = subst (λ k. t.tells.0 < length (outcome_line k t.outcome)) n t.tells.1;
-      adds = subst (λ k. A (outcome_lines 1 p.outcomes ++ take t.tells.0 (outcome_line k t.outcome)) (kept_texts (p.outcomes ++ t.outcome ∷ []))) n
-          (subst (λ (a : List (List ℕ)). A (outcome_lines 1 p.outcomes ++ take t.tells.0 (outcome_line (number + 1) t.outcome)) a) (sym (texts-push p.outcomes t.outcome)) both);
+      unfinished = subst (λ k. t.tells.0 < length (verdict_line k t.verdict)) n t.tells.1;
+      none = p.none;
+      adds = subst (λ k. A (verdict_lines 1 p.verdicts ++ take t.tells.0 (verdict_line k t.verdict)) (kept_texts (p.verdicts ++ t.verdict ∷ []))) n
+          (subst (λ (a : List (List ℕ)). A (verdict_lines 1 p.verdicts ++ take t.tells.0 (verdict_line (number + 1) t.verdict)) a) (sym (texts-push p.verdicts t.verdict)) both);
     }

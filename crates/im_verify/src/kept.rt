@@ -1,13 +1,13 @@
 ghost use Rattle.std.specs.Prelude.{◌≡◌, ◌+◌, ◌≤◌, ℕ, Err, IfOk, IsTrue, ◌↔◌};
-ghost use Rattle.im_client.specs.Folds.{IsRefused};
 ghost use Rattle.im_edge.specs.Counts.{Rose};
+ghost use Rattle.im_facts.specs.Accepted.{IsClient};
 ghost use Rattle.im_verify.specs.Judged.{StopsHeld, StopsKept};
-ghost use Rattle.im_verify.specs.Turns.{TakesHeld, TakesKept};
+ghost use Rattle.im_verify.specs.Turns.{IsRejection, TakesHeld, TakesKept};
 
-use im_client::clients::Client;
-use im_client::outcomes::Outcome;
 use im_digest::Hash32;
 use im_edge::keeper::{Keeper, KeeperError};
+use im_facts::clients::FactClient;
+use im_facts::taken::Taken;
 use im_octet::octets::Octets;
 use std::alloc::{AllocError, Global};
 
@@ -18,7 +18,7 @@ pub(crate) enum KeptError {
     KeeperFault,
     /// Memory ran out.
     Memory,
-    /// The number, from 1, of the first kept line that is refused.
+    /// The number, from 1, of the first kept line that is refused or forked.
     Line(u64),
 }
 
@@ -45,45 +45,48 @@ impl From<KeeperError> for KeptError {
     }
 }
 
-// Whether a line was refused.
-pub(crate) fn is_refused(outcome: &Outcome) -> bool
-    ensures { IsTrue result ↔ IsRefused outcome.now }
+// Whether a line was refused or forked.
+fn is_rejected(taken: &Option<Taken>) -> bool
+    ensures { IsTrue result ↔ IsRejection taken.now }
 {
-    matches!(outcome, Outcome::Refused { .. })
+    matches!(
+        taken,
+        Some(Taken::Refused { .. }) | Some(Taken::Forked { .. })
+    )
 }
 
-// The client behind kept lines, or the first of them that is refused.
-fn follow_lines<'h, H: Hash32>(
+// The client behind kept lines, or the first of them that is refused or forked.
+fn follow_lines<H: Hash32>(
     alloc: Global,
-    hash: &'h H,
+    hash: &H,
     lines: &[Octets],
-) -> Result<Client<'h, H>, KeptError>
-    ensures ok { IfOk result (λ client. TakesKept (H.digest hash.now) lines.now client.state) }
-    ensures hash { IfOk result (λ client. client.hash ≡ hash.now) }
+) -> Result<FactClient, KeptError>
+    ensures ok { IfOk result (λ client. TakesKept (H.digest hash.now) lines.now client) }
+    ensures client { IfOk result (IsClient (H.digest hash.now)) }
     ensures line { (k : ℕ) → result ≡ Err (KeptError.Line k) → (n : ℕ) × (k ≡ n + 1) × StopsKept (H.digest hash.now) lines.now n }
     ensures keeper { result ≡ Err KeptError.KeeperFault → ⊥ }
 {
-    let mut client = Client::new(hash);
+    let mut client = FactClient::new(alloc);
     for (i, line) in lines.iter().enumerate() {
-        let outcome = client.judge(alloc, line.as_slice())?;
-        if is_refused(&outcome) {
-            drop(outcome);
+        let taken = client.take_line(alloc, hash, line.as_slice())?;
+        if is_rejected(&taken) {
+            drop(taken);
             return Err(KeptError::Line(i as u64 + 1));
         }
-        client.follow(outcome);
+        drop(taken);
     }
     Ok(client)
 }
 
-/// The client behind the lines that a keeper holds, from no state on. The keeper's lines stay.
+/// The client behind the lines that a keeper holds, from knowing nothing on. The keeper's lines stay.
 #[tactic(auto, using(crate::proofs::KeepLemmas::takes_held, crate::proofs::KeepLemmas::stops_held))]
-pub(crate) fn take_kept<'h, H: Hash32, P: Keeper>(
+pub(crate) fn take_kept<H: Hash32, P: Keeper>(
     alloc: Global,
-    hash: &'h H,
+    hash: &H,
     keeper: &mut P,
-) -> Result<Client<'h, H>, KeptError>
-    ensures ok { IfOk result (λ client. TakesHeld (H.digest hash.now) (P.kept keeper.old) client.state) }
-    ensures hash { IfOk result (λ client. client.hash ≡ hash.now) }
+) -> Result<FactClient, KeptError>
+    ensures ok { IfOk result (λ client. TakesHeld (H.digest hash.now) (P.kept keeper.old) client) }
+    ensures client { IfOk result (IsClient (H.digest hash.now)) }
     ensures line { (k : ℕ) → result ≡ Err (KeptError.Line k) → StopsHeld (H.digest hash.now) (P.kept keeper.old) k }
     ensures kept { P.kept keeper.new ≡ P.kept keeper.old }
     ensures fault { result ≡ Err KeptError.KeeperFault → Rose (P.faults keeper.old) (P.faults keeper.new) }

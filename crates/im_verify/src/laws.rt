@@ -1,8 +1,12 @@
-ghost use Rattle.std.specs.Prelude.{◌≡◌, ◌⊎◌, ◌++◌, ℕ, List, Option, None};
+ghost use Rattle.std.specs.Prelude.{◌≡◌, ◌⊎◌, ◌++◌, ℕ, List, [], ◌∷◌, Option};
 ghost use Rattle.im_digest.specs.Digests.{Hash};
-ghost use Rattle.im_client.specs.Folds.{kept_texts, state_after};
-ghost use Rattle.im_client.specs.declared.outcomes.Outcome.{Outcome};
-ghost use Rattle.im_verify.specs.Judged.{AreJudged, AreTaken, StopsKept};
+ghost use Rattle.im_pairs.specs.Pairs.{GivesDigests, IsPair};
+ghost use Rattle.im_hashed.specs.Messages.{strings_of};
+ghost use Rattle.im_wire.specs.declared.messages.Message.{Message};
+ghost use Rattle.im_facts.specs.Facts.{nothing};
+ghost use Rattle.im_facts.specs.Folds.{known_by_all};
+ghost use Rattle.im_facts.specs.Verdicts.{Verdict, Forked};
+ghost use Rattle.im_verify.specs.Judged.{kept_texts, up_to_fork, AreJudged, AreTaken, StopsKept};
 ghost use Rattle.im_verify.specs.Runs.{BreaksAt, BreaksInto, BreaksOff, KeepsFirst};
 
 /// However a run breaks off, each line that is written whole has its message kept.
@@ -17,17 +21,25 @@ pub fn a_told_message_is_kept()
 
 /// Kept lines are all taken, or they stop at one line, and not both.
 pub fn kept_lines_are_taken_or_stop()
-    ensures one_of_both { (hash : Hash) (kept : List (List ℕ))
-        → ((outcomes : List Outcome) × AreTaken hash kept outcomes) ⊎ ((n : ℕ) × StopsKept hash kept n) }
-    ensures not_both { (hash : Hash) (kept : List (List ℕ)) (outcomes : List Outcome) (n : ℕ)
-        → AreTaken hash kept outcomes → StopsKept hash kept n → ⊥ }
+    ensures one_of_both { (hash : Hash) (kept : List (List ℕ)) → GivesDigests hash
+        → ((verdicts : List Verdict) × AreTaken hash kept verdicts) ⊎ ((n : ℕ) × StopsKept hash kept n) }
+    ensures not_both { (hash : Hash) (kept : List (List ℕ)) (verdicts : List Verdict) (n : ℕ)
+        → AreTaken hash kept verdicts → StopsKept hash kept n → ⊥ }
     ensures one_stop { (hash : Hash) (kept : List (List ℕ)) (m n : ℕ) → StopsKept hash kept m → StopsKept hash kept n → m ≡ n }
 {}
 
-/// What a run kept, the next one takes: no kept line of it is refused, and behind them the client is in the
-/// state that the run left it in.
+/// What a run kept, the next one takes: no kept line of it is refused or forked, and behind them the client knows all that
+/// it knew behind the run.
 pub fn what_is_kept_is_taken()
-    ensures { (hash : Hash) (kept texts : List (List ℕ)) (outcomes : List Outcome) (judged : AreJudged hash kept texts outcomes)
-        → (again : List Outcome) × AreTaken hash (kept ++ kept_texts outcomes) again
-        × (state_after None again ≡ state_after (state_after None judged.before) outcomes) }
+    ensures { (hash : Hash) (kept texts : List (List ℕ)) (verdicts : List Verdict) (judged : AreJudged hash kept texts verdicts)
+        → (again : List Verdict) × AreTaken hash (kept ++ kept_texts (up_to_fork verdicts)) again
+        × (known_by_all nothing again ≡ known_by_all (known_by_all nothing judged.before) (up_to_fork verdicts)) }
+{}
+
+/// The two strings that a run tells at a fork are unequal, have one digest, and are both among those hashed in checking the
+/// messages that are known there, which the kept lines and the lines of the stream before it gave, and the forked one.
+pub fn a_fork_is_of_the_lines()
+    ensures { (hash : Hash) (kept texts : List (List ℕ)) (verdicts front : List Verdict) (x y : List ℕ) (judged : AreJudged hash kept texts verdicts)
+        → up_to_fork verdicts ≡ front ++ Forked x y ∷ []
+        → (message : Message) × IsPair hash x y (strings_of hash ((known_by_all (known_by_all nothing judged.before) front).messages ++ message ∷ [])) }
 {}

@@ -1,5 +1,5 @@
 //! The verifier: it judges each line of a stream as a client that trusts nobody, tells what became of it,
-//! and keeps what was accepted.
+//! keeps what was accepted, and tells a fork by two unequal strings of one digest.
 #![tactic(auto)]
 
 pub mod ended;

@@ -1,35 +1,93 @@
-ghost use Rattle.std.specs.Prelude.{◌≡◌, ◌⊎◌, ◌++◌, ◌+◌, ◌≤◌, ℕ, Err, IfOk, OnOk, OnErr};
+ghost use Rattle.std.specs.Prelude.{◌≡◌, ◌⊎◌, ◌↔◌, ◌++◌, ◌+◌, ◌≤◌, ℕ, Some, Err, IfOk, OnOk, OnErr, IsTrue, option_copied};
 ghost use Rattle.std.specs.Option.{option_map};
-ghost use Rattle.im_client.specs.Folds.{IsOutcome, kept_text};
-ghost use Rattle.im_client.specs.declared.outcomes.Outcome.TheVariants.{Accepted};
 ghost use Rattle.im_edge.specs.Counts.{Rose};
-ghost use Rattle.im_wire.specs.declared.messages.Message.{Message};
-ghost use Rattle.im_verify.specs.Turns.{done, HalfTurn, TakesAll, TakesAt, TakesInto, TakesSome, TellsOutcome, TellsPart, LineTurn};
+ghost use Rattle.im_facts.specs.Accepted.{IsClient};
+ghost use Rattle.im_facts.specs.Folds.{IsVerdict};
+ghost use Rattle.im_facts.specs.Texts.{answer_line};
+ghost use Rattle.im_facts.specs.Verdicts.{Accepted};
+ghost use Rattle.im_wire.specs.declared.messages.Message.{Message as TheMessage};
+ghost use Rattle.im_verify.specs.Turns.{done, end_by, end_of, last_accepted, message_text, WritesAndKeeps, AddsPart, HalfTurn, TakesAll, TakesAt, TakesInto, TakesSome, LineTurn};
 
-use crate::kept::is_refused;
 use crate::stops::Stop;
-use im_client::clients::Client;
-use im_client::outcomes::Outcome;
-use im_client::texts::outcome_text;
 use im_digest::Hash32;
 use im_edge::keeper::Keeper;
 use im_edge::sink::{Sink, write_all};
+use im_facts::clients::FactClient;
+use im_facts::taken::Taken;
+use im_facts::texts::answer_text;
 use im_text::cuts::first_line;
+use im_wire::messages::Message;
 use im_wire::writing::write;
 use std::alloc::Global;
 
-// Keeps the text of an accepted message; what else became of a line keeps nothing. A failure of the
-// keeper comes only at an accepted message.
-fn keep<P: Keeper>(alloc: Global, keeper: &mut P, outcome: &Outcome) -> Result<(), Stop>
-    ensures ok { OnOk result (P.kept keeper.new ≡ option_map (λ xs. xs ++ kept_text outcome.now) (P.kept keeper.old)) }
+/// How a line ended, or all lines of a stream.
+#[derive(Clone, Copy, Debug, PartialEq, Eq)]
+pub(crate) enum LineEnd {
+    /// It was passed over or accepted; of a stream, each line was.
+    Fine,
+    /// It was refused; of a stream, some line was, and none forked.
+    Refused,
+    /// It was forked; of a stream, a line was, and those behind it weren't looked at.
+    Forked,
+}
+
+// How a line ends, by the client's answer to it.
+fn end_of(taken: &Option<Taken>) -> LineEnd
+    ensures { result ≡ end_of taken.now }
+{
+    match taken {
+        None | Some(Taken::Accepted { .. }) => LineEnd::Fine,
+        Some(Taken::Refused { .. }) => LineEnd::Refused,
+        Some(Taken::Forked { .. }) => LineEnd::Forked,
+    }
+}
+
+// Whether it is a fork.
+fn is_forked(end: LineEnd) -> bool
+    ensures { IsTrue result ↔ (end ≡ LineEnd.Forked) }
+{
+    matches!(end, LineEnd::Forked)
+}
+
+// Whether it is a refusal.
+fn is_refused(end: LineEnd) -> bool
+    ensures { IsTrue result ↔ (end ≡ LineEnd.Refused) }
+{
+    matches!(end, LineEnd::Refused)
+}
+
+// How lines end of which none was forked, by whether one was refused.
+fn end_by(refused: bool) -> LineEnd
+    ensures { result ≡ end_by refused }
+{
+    if refused {
+        LineEnd::Refused
+    } else {
+        LineEnd::Fine
+    }
+}
+
+// The message that an answer accepted: the last one of the client.
+fn accepted_last<'m>(messages: &'m [Message], taken: &Option<Taken>) -> Option<&'m Message>
+    ensures { option_copied result ≡ last_accepted taken.now messages.now }
+{
+    match taken {
+        Some(Taken::Accepted { .. }) => messages.last(),
+        _ => None,
+    }
+}
+
+// Keeps the text of an accepted message, if there is one. A failure of the keeper comes only where there is.
+fn keep<P: Keeper>(alloc: Global, keeper: &mut P, message: Option<&Message>) -> Result<(), Stop>
+    ensures ok { OnOk result (P.kept keeper.new ≡ option_map (λ xs. xs ++ message_text (option_copied message.entry)) (P.kept keeper.old)) }
     ensures err { OnErr result (P.kept keeper.new ≡ P.kept keeper.old) }
     ensures sink { result ≡ Err Stop.WriteFault → ⊥ }
-    ensures accepted { result ≡ Err Stop.KeeperFault → (next : Message) × (outcome.now ≡ Accepted next) }
+    ensures accepted { result ≡ Err Stop.KeeperFault → (next : TheMessage) × (option_copied message.entry ≡ Some next) }
     ensures fault { result ≡ Err Stop.KeeperFault → Rose (P.faults keeper.old) (P.faults keeper.new) }
     ensures count { (result ≡ Err Stop.KeeperFault → ⊥) → P.faults keeper.new ≡ P.faults keeper.old }
     ensures once { P.faults keeper.new ≤ P.faults keeper.old + 1 }
 {
-    let Outcome::Accepted { message } = outcome else {
+    let Some(message) = message else {
         return Ok(());
     };
     let text = write(alloc, message)?;
@@ -37,22 +95,24 @@ fn keep<P: Keeper>(alloc: Global, keeper: &mut P, outcome: &Outcome) -> Result<(
     Ok(())
 }
 
-// Keeps the text of an accepted message, and then tells what became of a line. An error of the keeper or of
-// memory comes before anything is done.
+// Keeps the text of an accepted message, if there is one, then tells the client's answer, and says how the line ended. An
+// error of the keeper or of memory comes before anything is done.
 fn keep_and_tell<K: Sink, P: Keeper>(
     alloc: Global,
     sink: &mut K,
     keeper: &mut P,
     number: u64,
-    outcome: &Outcome,
-) -> Result<(), Stop>
-    ensures ok { OnOk result (TellsOutcome number outcome.now
+    taken: &Option<Taken>,
+    message: Option<&Message>,
+) -> Result<LineEnd, Stop>
+    ensures end { IfOk result (λ end. end ≡ end_of taken.now) }
+    ensures ok { OnOk result (WritesAndKeeps (answer_line number taken.now) (message_text (option_copied message.entry))
         (done (K.written sink.old) (P.kept keeper.old)) (done (K.written sink.new) (P.kept keeper.new))) }
-    ensures part { result ≡ Err Stop.WriteFault → TellsPart number outcome.now
+    ensures part { result ≡ Err Stop.WriteFault → AddsPart (answer_line number taken.now) (message_text (option_copied message.entry))
         (done (K.written sink.old) (P.kept keeper.old)) (done (K.written sink.new) (P.kept keeper.new)) }
     ensures nothing { (result ≡ Err Stop.KeeperFault) ⊎ (result ≡ Err Stop.Memory) →
         (K.written sink.new ≡ K.written sink.old) × (P.kept keeper.new ≡ P.kept keeper.old) }
-    ensures accepted { result ≡ Err Stop.KeeperFault → (next : Message) × (outcome.now ≡ Accepted next) }
+    ensures accepted { result ≡ Err Stop.KeeperFault → (next : TheMessage) × (option_copied message.entry ≡ Some next) }
     ensures write { result ≡ Err Stop.WriteFault → Rose (K.faults sink.old) (K.faults sink.new) }
     ensures keep { result ≡ Err Stop.KeeperFault → Rose (P.faults keeper.old) (P.faults keeper.new) }
     ensures sink_count { (result ≡ Err Stop.WriteFault → ⊥) → K.faults sink.new ≡ K.faults sink.old }
@@ -60,29 +120,32 @@ fn keep_and_tell<K: Sink, P: Keeper>(
     ensures sink_once { K.faults sink.new ≤ K.faults sink.old + 1 }
     ensures keeper_once { P.faults keeper.new ≤ P.faults keeper.old + 1 }
 {
-    let told = outcome_text(alloc, number, outcome)?;
-    keep(alloc, keeper, outcome)?;
+    let told = answer_text(alloc, number, taken)?;
+    keep(alloc, keeper, message)?;
     write_all(sink, told.as_slice())?;
-    Ok(())
+    Ok(end_of(taken))
 }
 
-// Judges a line, keeps and tells what became of it, and follows. It says whether the line was refused.
+// Takes a line, keeps and tells what became of it, and says how it ended. Where memory runs out or the keeper fails, the
+// client may have taken the message by then.
 fn take_line<H: Hash32, K: Sink, P: Keeper>(
     alloc: Global,
-    client: &mut Client<'_, H>,
+    hash: &H,
+    client: &mut FactClient,
     sink: &mut K,
     keeper: &mut P,
     number: u64,
     line: &[u8],
-) -> Result<bool, Stop>
-    ensures ok { IfOk result (λ refused. LineTurn (H.digest client.old.hash) number line.now refused client.old.state client.new.state
+) -> Result<LineEnd, Stop>
+    requires { IsClient (H.digest hash.now) client.old }
+    ensures ok { IfOk result (λ end. LineTurn (H.digest hash.now) number line.now end client.old client.new
         (done (K.written sink.old) (P.kept keeper.old)) (done (K.written sink.new) (P.kept keeper.new))) }
-    ensures same { client.new.hash ≡ client.old.hash }
-    ensures part { result ≡ Err Stop.WriteFault → HalfTurn (H.digest client.old.hash) number line.now client.old.state
+    ensures client { IsClient (H.digest hash.now) client.new }
+    ensures part { result ≡ Err Stop.WriteFault → HalfTurn (H.digest hash.now) number line.now client.old
         (done (K.written sink.old) (P.kept keeper.old)) (done (K.written sink.new) (P.kept keeper.new)) }
     ensures nothing { (result ≡ Err Stop.KeeperFault) ⊎ (result ≡ Err Stop.Memory) →
         (K.written sink.new ≡ K.written sink.old) × (P.kept keeper.new ≡ P.kept keeper.old) }
-    ensures accepted { result ≡ Err Stop.KeeperFault → (next : Message) × IsOutcome (H.digest client.old.hash) client.old.state line.now (Accepted next) }
+    ensures accepted { result ≡ Err Stop.KeeperFault → (next : TheMessage) × IsVerdict (H.digest hash.now) client.old line.now (Accepted next) }
     ensures write { result ≡ Err Stop.WriteFault → Rose (K.faults sink.old) (K.faults sink.new) }
     ensures keep { result ≡ Err Stop.KeeperFault → Rose (P.faults keeper.old) (P.faults keeper.new) }
     ensures sink_count { (result ≡ Err Stop.WriteFault → ⊥) → K.faults sink.new ≡ K.faults sink.old }
@@ -90,32 +153,31 @@ fn take_line<H: Hash32, K: Sink, P: Keeper>(
     ensures sink_once { K.faults sink.new ≤ K.faults sink.old + 1 }
     ensures keeper_once { P.faults keeper.new ≤ P.faults keeper.old + 1 }
 {
-    let outcome = client.judge(alloc, line)?;
-    if let Err(stop) = keep_and_tell(alloc, sink, keeper, number, &outcome) {
-        drop(outcome);
-        return Err(stop);
-    }
-    let refused = is_refused(&outcome);
-    client.follow(outcome);
-    Ok(refused)
+    let taken = client.take_line(alloc, hash, line)?;
+    let message = accepted_last(client.messages(), &taken);
+    let end = keep_and_tell(alloc, sink, keeper, number, &taken, message);
+    drop(taken);
+    end
 }
 
-/// Judges the lines of a stream in order, keeps and tells what became of each, and says whether some line
-/// was refused. Lines are numbered from 1, and empty ones count.
+/// Takes the lines of a stream in order, up to the first that is forked, keeps and tells what became of each, and says how
+/// they ended. Lines are numbered from 1, and empty ones count.
 pub(crate) fn take_lines<H: Hash32, K: Sink, P: Keeper>(
     alloc: Global,
-    client: &mut Client<'_, H>,
+    hash: &H,
+    client: &mut FactClient,
     sink: &mut K,
     keeper: &mut P,
     stream: &[u8],
-) -> Result<bool, Stop>
-    ensures ok { IfOk result (λ refused. TakesAll (H.digest client.old.hash) client.old.state stream.now refused
+) -> Result<LineEnd, Stop>
+    requires { IsClient (H.digest hash.now) client.old }
+    ensures ok { IfOk result (λ end. TakesAll (H.digest hash.now) client.old stream.now end
         (done (K.written sink.old) (P.kept keeper.old)) (done (K.written sink.new) (P.kept keeper.new))) }
-    ensures into { result ≡ Err Stop.WriteFault → TakesInto (H.digest client.old.hash) client.old.state stream.now
+    ensures into { result ≡ Err Stop.WriteFault → TakesInto (H.digest hash.now) client.old stream.now
         (done (K.written sink.old) (P.kept keeper.old)) (done (K.written sink.new) (P.kept keeper.new)) }
-    ensures some { result ≡ Err Stop.Memory → TakesSome (H.digest client.old.hash) client.old.state stream.now
+    ensures some { result ≡ Err Stop.Memory → TakesSome (H.digest hash.now) client.old stream.now
         (done (K.written sink.old) (P.kept keeper.old)) (done (K.written sink.new) (P.kept keeper.new)) }
-    ensures accepted { result ≡ Err Stop.KeeperFault → TakesAt (H.digest client.old.hash) client.old.state stream.now
+    ensures accepted { result ≡ Err Stop.KeeperFault → TakesAt (H.digest hash.now) client.old stream.now
         (done (K.written sink.old) (P.kept keeper.old)) (done (K.written sink.new) (P.kept keeper.new)) }
     ensures write { result ≡ Err Stop.WriteFault → Rose (K.faults sink.old) (K.faults sink.new) }
     ensures keep { result ≡ Err Stop.KeeperFault → Rose (P.faults keeper.old) (P.faults keeper.new) }
@@ -130,8 +192,12 @@ pub(crate) fn take_lines<H: Hash32, K: Sink, P: Keeper>(
     while !rest.is_empty() {
         let (line, behind) = first_line(rest);
         number += 1;
-        refused |= take_line(alloc, client, sink, keeper, number, line)?;
+        let end = take_line(alloc, hash, client, sink, keeper, number, line)?;
+        if is_forked(end) {
+            return Ok(LineEnd::Forked);
+        }
+        refused |= is_refused(end);
         rest = behind;
     }
-    Ok(refused)
+    Ok(end_by(refused))
 }

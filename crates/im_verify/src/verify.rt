@@ -7,7 +7,7 @@ ghost use Rattle.im_verify.specs.Runs.{BreaksAt, BreaksInto, BreaksOff, Verifies
 
 use crate::ended::Ended;
 use crate::kept::{KeptError, take_kept};
-use crate::lines::take_lines;
+use crate::lines::{LineEnd, take_lines};
 use crate::stops::Stop;
 use im_digest::Hash32;
 use im_edge::keeper::Keeper;
@@ -24,7 +24,7 @@ fn verify_octets<H: Hash32, K: Sink, P: Keeper>(
     keeper: &mut P,
     stream: &[u8],
 ) -> Ended
-    ensures ok { (source : Option (List ℕ)) → IfSome source (λ octets. octets ≡ stream.now) → (result ≡ Ended.Ok) ⊎ (result ≡ Ended.Refused) →
+    ensures ok { (source : Option (List ℕ)) → IfSome source (λ octets. octets ≡ stream.now) → (result ≡ Ended.Ok) ⊎ (result ≡ Ended.Refused) ⊎ (result ≡ Ended.Forked) →
         Verifies (H.digest hash.now) result source (K.written sink.old) (K.written sink.new) (P.kept keeper.old) (P.kept keeper.new) }
     ensures into { (source : Option (List ℕ)) → IfSome source (λ octets. octets ≡ stream.now) → result ≡ Ended.WriteFault →
         BreaksInto (H.digest hash.now) source (K.written sink.old) (K.written sink.new) (P.kept keeper.old) (P.kept keeper.new) }
@@ -50,9 +50,10 @@ fn verify_octets<H: Hash32, K: Sink, P: Keeper>(
         Err(KeptError::Memory) => return Ended::Memory,
         Err(KeptError::Line(line)) => return Ended::Kept { line },
     };
-    match take_lines(alloc, &mut client, sink, keeper, stream) {
-        Ok(false) => Ended::Ok,
-        Ok(true) => Ended::Refused,
+    match take_lines(alloc, hash, &mut client, sink, keeper, stream) {
+        Ok(LineEnd::Fine) => Ended::Ok,
+        Ok(LineEnd::Refused) => Ended::Refused,
+        Ok(LineEnd::Forked) => Ended::Forked,
         Err(Stop::WriteFault) => Ended::WriteFault,
         Err(Stop::KeeperFault) => Ended::KeeperFault,
         Err(Stop::Memory) => Ended::Memory,
@@ -60,15 +61,17 @@ fn verify_octets<H: Hash32, K: Sink, P: Keeper>(
 }
 
 /// Reads a stream to its end, takes the lines that the keeper holds, and then judges each line of the
-/// stream, under the state behind the lines before it.
+/// stream, by what is known behind the lines before it: a state, and each header and entry that an accepted message showed.
 ///
 /// What became of a line is written to the sink at once, behind its number, from 1; a line that is passed over
 /// writes nothing. The text of an accepted message is kept before its line is written. A refused line
-/// changes no state, and the run goes on. Nothing is written and nothing kept before the stream was
-/// read and the kept lines were taken.
+/// changes nothing that is known, and the run goes on. A forked one, which passes every check but shows a fact that is
+/// unlike a kept one, is told with two unequal strings of one digest, and ends the run. Nothing is written and nothing
+/// kept before the stream was read and the kept lines were taken.
 ///
-/// The stream and the kept lines are held in memory. Each line is read and checked once; the sink gets the text of
-/// each that isn't passed over, and the keeper one line for each accepted message.
+/// The stream, the kept lines and all accepted messages are held in memory. Each line is read and checked once, and costs what
+/// `FactClient::take` says; the sink gets the text of each that isn't passed over, and the keeper one line for each accepted
+/// message.
 pub fn verify<H: Hash32, S: Source, K: Sink, P: Keeper>(
     alloc: Global,
     hash: &H,
@@ -79,8 +82,8 @@ pub fn verify<H: Hash32, S: Source, K: Sink, P: Keeper>(
     // In these records the stream is what the source held and the kept lines are those that the keeper held, where they
     // tell it, and else some.
 
-    // Done: each line of the stream was told, and each accepted message kept.
-    ensures ok { (result ≡ Ended.Ok) ⊎ (result ≡ Ended.Refused) →
+    // Done: each line of the stream was told, up to the first fork, and each accepted message kept.
+    ensures ok { (result ≡ Ended.Ok) ⊎ (result ≡ Ended.Refused) ⊎ (result ≡ Ended.Forked) →
         Verifies (H.digest hash.now) result (S.left source.old) (K.written sink.old) (K.written sink.new) (P.kept keeper.old) (P.kept keeper.new) }
 
     // The sink failed: the first lines were told, and the next one in part, never whole; the messages of them all are kept.
@@ -105,7 +108,7 @@ pub fn verify<H: Hash32, S: Source, K: Sink, P: Keeper>(
     // A stream past its limit touches neither the sink nor the keeper, at any end.
     ensures too_long { IfSome (S.left source.old) (λ stream. 67108864 < length stream → (sink.new ≡ sink.old) × (keeper.new ≡ keeper.old)) }
 
-    // The first kept line that is refused.
+    // The first kept line that is refused or forked.
     ensures kept { (k : ℕ) → result ≡ Ended.Kept k → StopsHeld (H.digest hash.now) (P.kept keeper.old) k }
 
     // The stream is read to its end, within its limit, before anything else is done.

@@ -1,21 +1,30 @@
-use Rattle.std.proofs.Common.{◌≡◌, ◌+◌, ◌<◌, ℕ, List, length, subst, ap, ◌∙◌, arith}
+use Rattle.std.proofs.Common.{◌≡◌, ◌+◌, ◌<◌, ℕ, List, length, subst, sym, arith}
 use Rattle.std.proofs.lemmas.Bool.{both_ways}
-use Rattle.im_digest.specs.Digests.{Hash}
-use Rattle.im_client.specs.Folds.{IsOutcome}
-use Rattle.im_verify.proofs.KeepLemmas.{kept-next, kept-stops}
+use Rattle.im_facts.specs.Folds.{IsVerdict}
+use Rattle.im_verify.specs.Judged.{IsRejected}
+use Rattle.im_verify.specs.Turns.{IsRejection}
+use Rattle.im_verify.proofs.KeepLemmas.{kept-next, kept-none, kept-stops, rejected-by, rejection-of}
 use Rattle.im_verify.proofs.kept.follow_lines.Goals as goal
 
-pub returns-then-is_refused-clause-line : goal.returns-then-is_refused-clause-line
-returns-then-is_refused-clause-line g c = λ k e.
+pub loop-i-init : goal.loop-i-init
+loop-i-init g c =
+    let hash : List ℕ → List ℕ = g.H.Hash32.digest c.args.hash.now in
+    record {
+      takes = kept-none hash c.new.result c.new.ensures.empty;
+      client = c.new.ensures.client hash;
+    }
+
+pub returns-then-is_rejected-clause-line : goal.returns-then-is_rejected-clause-line
+returns-then-is_rejected-clause-line g c = λ k e.
     let hash : List ℕ → List ℕ = g.H.Hash32.digest c.args.hash.now in
     let line : List ℕ = c.index-lines-i.result in
     let within : c.loop-i.i < length c.args.lines.now = omega arith in
     let number : k ≡ c.loop-i.i + 1 = cc in
     let same : c.as_slice.result.now ≡ line = c.as_slice.ensures in
-    let own : IsOutcome hash c.loop-i.client.state c.as_slice.result.now c.in_ok-outcome.outcome =
-    subst (λ (h : Hash). IsOutcome h c.loop-i.client.state c.as_slice.result.now c.in_ok-outcome.outcome) (ap g.H.Hash32.digest c.loop-i.invariant.hash) c.in_ok-outcome.ensures in
-    let is = subst (λ (l : List ℕ). IsOutcome hash c.loop-i.client.state l c.in_ok-outcome.outcome) same own in
-    (c.loop-i.i, number, kept-stops hash c.args.lines.now c.loop-i.i line c.loop-i.client.state c.in_ok-outcome.outcome within c.index-lines-i.is c.loop-i.invariant.takes is (c.is_refused.ensures.0 c.if-is_refused.true))
+    let told = c.in_ok-taken.ensures.told in
+    let is : IsVerdict hash c.loop-i.client line told.0 = subst (λ (l : List ℕ). IsVerdict hash c.loop-i.client l told.0) same told.1 in
+    let rejected : IsRejected told.0 = rejected-by told.0 (subst IsRejection told.2 (c.is_rejected.ensures.0 c.if-is_rejected.true)) in
+    (c.loop-i.i, number, kept-stops hash c.args.lines.now c.loop-i.i line c.loop-i.client told.0 within c.index-lines-i.is c.loop-i.invariant.takes is rejected)
 
 pub loop-i-preserved : goal.loop-i-preserved
 loop-i-preserved g c =
@@ -23,11 +32,10 @@ loop-i-preserved g c =
     let line : List ℕ = c.index-lines-i.result in
     let within : c.loop-i.i < length c.args.lines.now = omega arith in
     let same : c.as_slice.result.now ≡ line = c.as_slice.ensures in
-    let own : IsOutcome hash c.loop-i.client.state c.as_slice.result.now c.in_ok-outcome.outcome =
-    subst (λ (h : Hash). IsOutcome h c.loop-i.client.state c.as_slice.result.now c.in_ok-outcome.outcome) (ap g.H.Hash32.digest c.loop-i.invariant.hash) c.in_ok-outcome.ensures in
-    let is = subst (λ (l : List ℕ). IsOutcome hash c.loop-i.client.state l c.in_ok-outcome.outcome) same own in
+    let told = c.in_ok-taken.ensures.told in
+    let is : IsVerdict hash c.loop-i.client line told.0 = subst (λ (l : List ℕ). IsVerdict hash c.loop-i.client l told.0) same told.1 in
     record {
-      takes = kept-next hash c.args.lines.now c.loop-i.i line c.loop-i.client.state c.follow.new.self.state c.in_ok-outcome.outcome within c.index-lines-i.is c.loop-i.invariant.takes is
-          (λ r. both_ways c.is_refused.result c.if-is_refused.false (c.is_refused.ensures.1 r)) c.follow.ensures.state;
-      hash = c.follow.ensures.hash ∙ c.loop-i.invariant.hash;
+      takes = kept-next hash c.args.lines.now c.loop-i.i line c.loop-i.client c.take_line.new.self told.0 within c.index-lines-i.is c.loop-i.invariant.takes is
+          (λ r. both_ways c.is_rejected.result c.if-is_rejected.false (c.is_rejected.ensures.1 (subst IsRejection (sym told.2) (rejection-of told.0 r)))) told.3;
+      client = c.take_line.ensures.client;
     }

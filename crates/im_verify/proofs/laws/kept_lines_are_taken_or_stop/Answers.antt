@@ -6,7 +6,7 @@ pub returns-clause-one_of_both : goal.returns-clause-one_of_both
 returns-clause-one_of_both c = kept-or-stops
 
 pub returns-clause-not_both : goal.returns-clause-not_both
-returns-clause-not_both c = λ hash kept outcomes n taken stops. stop-not-taken hash kept outcomes n stops taken
+returns-clause-not_both c = λ hash kept verdicts n taken stops. stop-not-taken hash kept verdicts n stops taken
 
 pub returns-clause-one_stop : goal.returns-clause-one_stop
 returns-clause-one_stop c = one-stop
