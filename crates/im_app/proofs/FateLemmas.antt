@@ -46,6 +46,7 @@ runs-end hash disk the.DiskFault script e lines g = absurd (e.no_device refl)
 runs-end hash disk (the.Damaged damage) script e lines g = inr (inr (record { damage = damage; is = refl; first = e.damaged damage refl }))
 runs-end hash disk the.KeeperFault script e lines g = absurd e.ends
 runs-end hash disk the.Refused script e lines g = absurd e.ends
+runs-end hash disk the.Forked script e lines g = absurd e.ends
 runs-end hash disk the.Memory script e lines g = inr (inl refl)
 runs-end hash disk the.Long script e lines g = absurd (let short : length script ≤ 67108864 = g.short in let long : 67108864 < length script = e.long refl in omega arith)
 runs-end hash disk (the.Kept k) script e lines g = absurd e.ends
@@ -82,6 +83,7 @@ stops-end hash disk the.DiskFault script e n short s = absurd (e.no_device refl)
 stops-end hash disk (the.Damaged damage) script e n short s = absurd (let g = e.opened damage refl in read-or-stop script g.0 n g.1.read s)
 stops-end hash disk the.KeeperFault script e n short s = absurd e.ends
 stops-end hash disk the.Refused script e n short s = absurd e.ends
+stops-end hash disk the.Forked script e n short s = absurd e.ends
 stops-end hash disk the.Memory script e n short s = inr refl
 stops-end hash disk the.Long script e n short s = absurd (let long : 67108864 < length script = e.long refl in omega arith)
 stops-end hash disk (the.Kept k) script e n short s = absurd e.ends
@@ -96,6 +98,7 @@ long-end hash disk the.DiskFault script e long = absurd (e.no_device refl)
 long-end hash disk (the.Damaged damage) script e long = absurd (let g = e.opened damage refl in let short : length script ≤ 67108864 = g.1.short in omega arith)
 long-end hash disk the.KeeperFault script e long = absurd e.ends
 long-end hash disk the.Refused script e long = absurd e.ends
+long-end hash disk the.Forked script e long = absurd e.ends
 long-end hash disk the.Memory script e long = inr refl
 long-end hash disk the.Long script e long = inl refl
 long-end hash disk (the.Kept k) script e long = absurd e.ends
@@ -121,6 +124,7 @@ writing-run the.DiskFault e = tt
 writing-run (the.Damaged d) e = tt
 writing-run the.KeeperFault e = absurd e
 writing-run the.Refused e = absurd e
+writing-run the.Forked e = absurd e
 writing-run the.Memory e = tt
 writing-run the.Long e = tt
 writing-run (the.Kept k) e = absurd e
@@ -135,6 +139,7 @@ reading-run the.DiskFault e = tt
 reading-run (the.Damaged d) e = tt
 reading-run the.KeeperFault e = absurd e
 reading-run the.Refused e = absurd e
+reading-run the.Forked e = absurd e
 reading-run the.Memory e = tt
 reading-run the.Long e = tt
 reading-run (the.Kept k) e = absurd e

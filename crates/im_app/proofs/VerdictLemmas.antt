@@ -12,6 +12,7 @@ use Rattle.im_app.specs.declared.status.Status.TheVariants as the
 abbrev pub status_of : Ended → Status
 status_of ended.Ok = the.Ok
 status_of ended.Refused = the.Refused
+status_of ended.Forked = the.Forked
 status_of ended.ReadFault = the.ReadFault
 status_of ended.WriteFault = the.WriteFault
 status_of ended.KeeperFault = the.KeeperFault
@@ -24,18 +25,21 @@ either : (e a b : Ended) → (e ≡ a) ⊎ (e ≡ b) → (status_of e ≡ status
 either e a b (inl x) = inl (ap status_of x)
 either e a b (inr y) = inr (ap status_of y)
 
-one-of : (e a b c : Ended) → (e ≡ a) ⊎ (e ≡ b) ⊎ (e ≡ c) → (status_of e ≡ status_of a) ⊎ (status_of e ≡ status_of b) ⊎ (status_of e ≡ status_of c)
-one-of e a b c (inl x) = inl (ap status_of x)
-one-of e a b c (inr y) = inr (either e b c y)
+one-of : (e a b c d : Ended) → (e ≡ a) ⊎ (e ≡ b) ⊎ (e ≡ c) ⊎ (e ≡ d)
+    → (status_of e ≡ status_of a) ⊎ (status_of e ≡ status_of b) ⊎ (status_of e ≡ status_of c) ⊎ (status_of e ≡ status_of d)
+one-of e a b c d (inl x) = inl (ap status_of x)
+one-of e a b c d (inr (inl y)) = inr (inl (ap status_of y))
+one-of e a b c d (inr (inr z)) = inr (inr (either e c d z))
 
 -- what is said of an end is said of its status
 verdict : (hash : Hash) (e : Ended) (stream : List ℕ) (kept : List (List ℕ)) → HasFate hash e stream kept → HasVerdict hash (status_of e) stream kept
 verdict hash e stream kept f = record {
   too_long = λ long. either e ended.Long ended.Memory (f.too_long long);
   stops = λ n short s. either e (ended.Kept (n + 1)) ended.Memory (f.stops n short s);
-  runs = λ before short t. one-of e ended.Ok ended.Refused ended.Memory (f.runs before short t);
-  passes = λ outcomes short v none. either e ended.Ok ended.Memory (f.passes outcomes short v none);
-  refuses = λ outcomes short v some. either e ended.Refused ended.Memory (f.refuses outcomes short v some);
+  runs = λ before short t. one-of e ended.Ok ended.Refused ended.Forked ended.Memory (f.runs before short t);
+  passes = λ verdicts short v none unforked. either e ended.Ok ended.Memory (f.passes verdicts short v none unforked);
+  refuses = λ verdicts short v some unforked. either e ended.Refused ended.Memory (f.refuses verdicts short v some unforked);
+  forks = λ verdicts short v some. either e ended.Forked ended.Memory (f.forks verdicts short v some);
 }
 
 -- the same where the source and the keeper tell what they hold
@@ -50,7 +54,8 @@ memory : (hash : Hash) (stream : List ℕ) (kept : List (List ℕ)) → HasVerdi
 memory hash stream kept = record {
   too_long = λ long. inr refl;
   stops = λ n short s. inr refl;
-  runs = λ before short t. inr (inr refl);
-  passes = λ outcomes short v none. inr refl;
-  refuses = λ outcomes short v some. inr refl;
+  runs = λ before short t. inr (inr (inr refl));
+  passes = λ verdicts short v none unforked. inr refl;
+  refuses = λ verdicts short v some unforked. inr refl;
+  forks = λ verdicts short v some. inr refl;
 }

@@ -7,13 +7,13 @@ use Rattle.im_format.specs.Standing.{Stands}
 use Rattle.im_format.specs.declared.damages.Damage.{Damage}
 use Rattle.im_model.specs.declared.transactions.Transaction.{Transaction}
 use Rattle.im_mtree.specs.Checks.{first_fail}
-use Rattle.im_client.specs.declared.outcomes.Outcome.{Outcome}
+use Rattle.im_facts.specs.Verdicts.{Verdict}
 use Rattle.im_script.specs.Script.{StopsAfter}
 use Rattle.im_script.specs.declared.commands.Line.{Line}
-use Rattle.im_verify.specs.Judged.{AreTaken, IsVerified, NoneRefused, SomeRefused, StopsKept}
+use Rattle.im_verify.specs.Judged.{AreTaken, IsVerified, NoneForked, NoneRefused, SomeForked, SomeRefused, StopsKept}
 use Rattle.im_app.specs.Runs.{IsGiven}
 use Rattle.im_app.specs.declared.status.Status.{Status}
-use Rattle.im_app.specs.declared.status.Status.TheVariants.{Ok, Script, Damaged, Refused, Memory, Long, Kept}
+use Rattle.im_app.specs.declared.status.Status.TheVariants.{Ok, Script, Damaged, Refused, Forked, Memory, Long, Kept}
 
 -- the status tells a damage, and where the disk tells, it is the first check of its files that fails
 pub record IsDamaged (hash : Hash) (disk : Option Told) (status : Status) : Type 0 where
@@ -37,9 +37,11 @@ pub record HasRunFate (hash : Hash) (disk : Option Told) (status : Status) (scri
 pub record HasVerdict (hash : Hash) (status : Status) (stream : List ℕ) (kept : List (List ℕ)) : Type 0 where
   pub too_long : 67108864 < length stream → (status ≡ Long) ⊎ (status ≡ Memory)
   pub stops : (n : ℕ) → length stream ≤ 67108864 → StopsKept hash kept n → (status ≡ Kept (n + 1)) ⊎ (status ≡ Memory)
-  pub runs : (before : List Outcome) → length stream ≤ 67108864 → AreTaken hash kept before
-      → (status ≡ Ok) ⊎ (status ≡ Refused) ⊎ (status ≡ Memory)
-  pub passes : (outcomes : List Outcome) → length stream ≤ 67108864 → IsVerified hash kept stream outcomes
-      → NoneRefused outcomes → (status ≡ Ok) ⊎ (status ≡ Memory)
-  pub refuses : (outcomes : List Outcome) → length stream ≤ 67108864 → IsVerified hash kept stream outcomes
-      → SomeRefused outcomes → (status ≡ Refused) ⊎ (status ≡ Memory)
+  pub runs : (before : List Verdict) → length stream ≤ 67108864 → AreTaken hash kept before
+      → (status ≡ Ok) ⊎ (status ≡ Refused) ⊎ (status ≡ Forked) ⊎ (status ≡ Memory)
+  pub passes : (verdicts : List Verdict) → length stream ≤ 67108864 → IsVerified hash kept stream verdicts
+      → NoneRefused verdicts → NoneForked verdicts → (status ≡ Ok) ⊎ (status ≡ Memory)
+  pub refuses : (verdicts : List Verdict) → length stream ≤ 67108864 → IsVerified hash kept stream verdicts
+      → SomeRefused verdicts → NoneForked verdicts → (status ≡ Refused) ⊎ (status ≡ Memory)
+  pub forks : (verdicts : List Verdict) → length stream ≤ 67108864 → IsVerified hash kept stream verdicts
+      → SomeForked verdicts → (status ≡ Forked) ⊎ (status ≡ Memory)

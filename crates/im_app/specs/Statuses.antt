@@ -8,7 +8,7 @@ use Rattle.im_opening.specs.declared.errors.OpenError.{OpenError}
 use Rattle.im_opening.specs.declared.errors.OpenError.TheVariants as opened
 use Rattle.im_app.specs.Damages.{damage_words}
 use Rattle.im_app.specs.declared.status.Status.{Status}
-use Rattle.im_app.specs.declared.status.Status.TheVariants.{Ok, Usage, Script, ReadFault, WriteFault, DiskFault, Damaged, KeeperFault, Refused, Memory, Long, Kept}
+use Rattle.im_app.specs.declared.status.Status.TheVariants.{Ok, Usage, Script, ReadFault, WriteFault, DiskFault, Damaged, KeeperFault, Refused, Forked, Memory, Long, Kept}
 
 -- the program's exit status
 unfoldable pub code_of : Status → ℕ
@@ -21,6 +21,7 @@ code_of DiskFault = 6
 code_of (Damaged damage) = 7
 code_of KeeperFault = 8
 code_of Refused = 9
+code_of Forked = 10
 code_of Memory = 11
 code_of Long = 12
 code_of (Kept line) = 13
@@ -36,6 +37,7 @@ words_of DiskFault = codes "disk fault"
 words_of (Damaged damage) = codes "damaged"
 words_of KeeperFault = codes "keeper fault"
 words_of Refused = codes "refused"
+words_of Forked = codes "forked"
 words_of Memory = codes "memory"
 words_of Long = codes "long"
 words_of (Kept line) = codes "kept"
@@ -63,6 +65,7 @@ EndsRun DiskFault = Unit {0}
 EndsRun (Damaged damage) = Unit {0}
 EndsRun KeeperFault = ⊥
 EndsRun Refused = ⊥
+EndsRun Forked = ⊥
 EndsRun Memory = Unit {0}
 EndsRun Long = Unit {0}
 EndsRun (Kept line) = ⊥
@@ -78,6 +81,7 @@ EndsVerify DiskFault = ⊥
 EndsVerify (Damaged damage) = ⊥
 EndsVerify KeeperFault = Unit {0}
 EndsVerify Refused = Unit {0}
+EndsVerify Forked = Unit {0}
 EndsVerify Memory = Unit {0}
 EndsVerify Long = Unit {0}
 EndsVerify (Kept line) = Unit {0}
@@ -93,6 +97,7 @@ EndsReading DiskFault = ⊥
 EndsReading (Damaged damage) = ⊥
 EndsReading KeeperFault = ⊥
 EndsReading Refused = ⊥
+EndsReading Forked = ⊥
 EndsReading Memory = Unit {0}
 EndsReading Long = Unit {0}
 EndsReading (Kept line) = ⊥
@@ -108,6 +113,7 @@ EndsWriting DiskFault = Unit {0}
 EndsWriting (Damaged damage) = Unit {0}
 EndsWriting KeeperFault = ⊥
 EndsWriting Refused = ⊥
+EndsWriting Forked = ⊥
 EndsWriting Memory = Unit {0}
 EndsWriting Long = ⊥
 EndsWriting (Kept line) = ⊥
@@ -141,6 +147,7 @@ EndsGiven DiskFault = Unit {0}
 EndsGiven (Damaged damage) = Unit {0}
 EndsGiven KeeperFault = ⊥
 EndsGiven Refused = ⊥
+EndsGiven Forked = ⊥
 EndsGiven Memory = ⊥
 EndsGiven Long = ⊥
 EndsGiven (Kept line) = ⊥

@@ -25,13 +25,15 @@ pub enum Status {
     Damaged(Damage),
     /// 8: the keeper failed.
     KeeperFault,
-    /// 9: each line of the stream was told, and some failed a check.
+    /// 9: each line of the stream was told, and some failed a check, but none was forked.
     Refused,
+    /// 10: a line was forked, and told with two unequal strings of one digest. The lines behind it weren't looked at.
+    Forked,
     /// 11: memory ran out.
     Memory,
     /// 12: the source has more than 67,108,864 octets.
     Long,
-    /// 13: the number, from 1, of the first kept line that fails a check. Nothing was written or kept.
+    /// 13: the number, from 1, of the first kept line that fails a check or is forked. Nothing was written or kept.
     Kept { line: u64 },
 }
 
@@ -51,6 +53,7 @@ impl Status {
             Status::Damaged(_) => 7,
             Status::KeeperFault => 8,
             Status::Refused => 9,
+            Status::Forked => 10,
             Status::Memory => 11,
             Status::Long => 12,
             Status::Kept { .. } => 13,
@@ -72,6 +75,7 @@ impl Status {
             Status::Damaged(_) => "damaged",
             Status::KeeperFault => "keeper fault",
             Status::Refused => "refused",
+            Status::Forked => "forked",
             Status::Memory => "memory",
             Status::Long => "long",
             Status::Kept { .. } => "kept",

@@ -44,7 +44,8 @@ use std::alloc::Global;
 /// over the history that it finds there, and writes the report to the sink. Each transaction that is told is
 /// durable by then. `verify` reads a stream of lines from the source to its end, takes the lines that the keeper
 /// holds, and then judges each line of the stream as a client that trusts nobody: an accepted message is kept, and
-/// what became of each line is written to the sink. The gate isn't called yet.
+/// what became of each line is written to the sink, up to the first that shows a fact unlike a kept one, which it tells
+/// with two unequal strings of one digest. The gate isn't called yet.
 pub fn top<
     R,
     H: Hash32 + Sync,
@@ -115,12 +116,17 @@ pub fn top<
         (length script ≤ 67108864) × ((n : ℕ) × (k ≡ n + 1) × StopsAfter script n)) }
 
     // `verify`, done: the octets written tell what became of each line of the stream, behind the kept lines,
-    // and the text of each accepted message is kept. Some line was refused exactly at `Refused`. Of a source or a keeper
-    // that doesn't tell what it holds this is said of some stream and some lines.
+    // and the text of each accepted message is kept. No line was forked, and some was refused exactly at `Refused`. Of a
+    // source or a keeper that doesn't tell what it holds this is said of some stream and some lines.
     ensures accepted { AsksVerify (map string_bytes words.now) → result.status ≡ Status.Ok →
         Verifies (H.digest hash.now) ended.Ok (S.left source.old) (K.written sink.old) (K.written sink.new) (P.kept keeper.old) (P.kept keeper.new) }
     ensures some_refused { AsksVerify (map string_bytes words.now) → result.status ≡ Status.Refused →
         Verifies (H.digest hash.now) ended.Refused (S.left source.old) (K.written sink.old) (K.written sink.new) (P.kept keeper.old) (P.kept keeper.new) }
+
+    // Forked: the lines up to the first fork were told, and that one with two unequal strings of one digest, both among those
+    // hashed in checking what was accepted before it and that line.
+    ensures some_forked { AsksVerify (map string_bytes words.now) → result.status ≡ Status.Forked →
+        Verifies (H.digest hash.now) ended.Forked (S.left source.old) (K.written sink.old) (K.written sink.new) (P.kept keeper.old) (P.kept keeper.new) }
 
     // Where the sink failed, the first lines were told, and the next one in part, never whole; the accepted messages of
     // them all are kept. Where memory ran out, nothing was done, or the first lines were told and kept. Where the keeper
@@ -138,11 +144,11 @@ pub fn top<
     ensures no_verdict { AsksVerify (map string_bytes words.now) → (result.status ≡ Status.ReadFault) ⊎ ((result.status ≡ Status.Long) ⊎ ((k : ℕ) × (result.status ≡ Status.Kept k))) →
         (sink.new ≡ sink.old) × (P.kept keeper.new ≡ P.kept keeper.old) }
 
-    // The first kept line that fails a check.
+    // The first kept line that fails a check or is forked.
     ensures kept { (k : ℕ) → result.status ≡ Status.Kept k → StopsHeld (H.digest hash.now) (P.kept keeper.old) k }
 
     // At these ends, and at those of `given`, the source was read to its end.
-    ensures emptied { (result.status ≡ Status.Ok) ⊎ ((result.status ≡ Status.WriteFault) ⊎ ((result.status ≡ Status.KeeperFault) ⊎ ((result.status ≡ Status.Refused) ⊎ ((k : ℕ) × (result.status ≡ Status.Kept k))))) →
+    ensures emptied { (result.status ≡ Status.Ok) ⊎ ((result.status ≡ Status.WriteFault) ⊎ ((result.status ≡ Status.KeeperFault) ⊎ ((result.status ≡ Status.Refused) ⊎ ((result.status ≡ Status.Forked) ⊎ ((k : ℕ) × (result.status ≡ Status.Kept k)))))) →
         IfSome (S.left source.old) (λ _. S.left source.new ≡ Some []) }
     ensures long { result.status ≡ Status.Long → IfSome (S.left source.old) (λ octets. 67108864 < length octets) }
 

@@ -16,8 +16,8 @@ use im_verify::ended::Ended;
 use im_verify::verify::verify;
 use std::alloc::Global;
 
-/// Reads a stream to its end, judges its lines behind the kept ones, keeps what is accepted, and tells what
-/// became of each.
+/// Reads a stream to its end, judges its lines behind the kept ones up to the first that is forked, keeps what is accepted,
+/// and tells what became of each.
 pub(crate) fn verdict<H: Hash32, S: Source, K: Sink, P: Keeper>(
     alloc: Global,
     hash: &H,
@@ -29,6 +29,8 @@ pub(crate) fn verdict<H: Hash32, S: Source, K: Sink, P: Keeper>(
         Verifies (H.digest hash.now) ended.Ok (S.left source.old) (K.written sink.old) (K.written sink.new) (P.kept keeper.old) (P.kept keeper.new) }
     ensures refused { result ≡ Status.Refused →
         Verifies (H.digest hash.now) ended.Refused (S.left source.old) (K.written sink.old) (K.written sink.new) (P.kept keeper.old) (P.kept keeper.new) }
+    ensures forked { result ≡ Status.Forked →
+        Verifies (H.digest hash.now) ended.Forked (S.left source.old) (K.written sink.old) (K.written sink.new) (P.kept keeper.old) (P.kept keeper.new) }
     ensures into { result ≡ Status.WriteFault →
         BreaksInto (H.digest hash.now) (S.left source.old) (K.written sink.old) (K.written sink.new) (P.kept keeper.old) (P.kept keeper.new) }
     ensures off { result ≡ Status.Memory →
@@ -44,7 +46,7 @@ pub(crate) fn verdict<H: Hash32, S: Source, K: Sink, P: Keeper>(
     ensures never { result ≡ Status.Usage → ⊥ }
     ensures too_long { IfSome (S.left source.old) (λ stream. 67108864 < length stream → (sink.new ≡ sink.old) × (keeper.new ≡ keeper.old)) }
     ensures long { result ≡ Status.Long → IfSome (S.left source.old) (λ stream. 67108864 < length stream) }
-    ensures emptied { (result ≡ Status.Ok) ⊎ ((result ≡ Status.WriteFault) ⊎ ((result ≡ Status.KeeperFault) ⊎ ((result ≡ Status.Refused) ⊎ ((k : ℕ) × (result ≡ Status.Kept k))))) →
+    ensures emptied { (result ≡ Status.Ok) ⊎ ((result ≡ Status.WriteFault) ⊎ ((result ≡ Status.KeeperFault) ⊎ ((result ≡ Status.Refused) ⊎ ((result ≡ Status.Forked) ⊎ ((k : ℕ) × (result ≡ Status.Kept k)))))) →
         IfSome (S.left source.old) (λ _. S.left source.new ≡ Some []) }
     ensures taken { TakesAtMost 67112960 (S.left source.old) (S.left source.new) }
     ensures read { result ≡ Status.ReadFault → Rose (S.faults source.old) (S.faults source.new) }
@@ -63,6 +65,7 @@ pub(crate) fn verdict<H: Hash32, S: Source, K: Sink, P: Keeper>(
     match verify(alloc, hash, source, sink, keeper) {
         Ended::Ok => Status::Ok,
         Ended::Refused => Status::Refused,
+        Ended::Forked => Status::Forked,
         Ended::ReadFault => Status::ReadFault,
         Ended::WriteFault => Status::WriteFault,
         Ended::KeeperFault => Status::KeeperFault,

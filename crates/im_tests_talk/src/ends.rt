@@ -6,8 +6,9 @@ use im_words::{Link, Request, WordsError, read_words};
 use std::alloc::{AllocError, Global};
 use std::test::Fail;
 
-// Want of memory, two digests where the third file begins, and a line of the greatest number.
-const ENDS: [(Status, u8, &str, &[u8]); 3] = [
+// A fork, want of memory, two digests where the third file begins, and a line of the greatest number.
+const ENDS: [(Status, u8, &str, &[u8]); 4] = [
+    (Status::Forked, 10, "forked", b"im: forked\n"),
     (Status::Memory, 11, "memory", b"im: memory\n"),
     (
         Status::Damaged(Damage {

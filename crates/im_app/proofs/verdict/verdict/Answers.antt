@@ -20,6 +20,14 @@ returns-in-Refused-clause-fate g c = λ source sink keeper.
     let P : Ended → Type 0 = λ e. IfSome left (λ s. IfSome kept (HasVerdict hash (status_of e) s)) in
     subst P c.in-Refused.is (verdict-told hash c.verify.result left kept (c.verify.ensures.complete source sink keeper))
 
+pub returns-in-Forked-clause-fate : goal.returns-in-Forked-clause-fate
+returns-in-Forked-clause-fate g c = λ source sink keeper.
+    let hash : List ℕ → List ℕ = g.H.Hash32.digest c.args.hash.now in
+    let left = g.S.Source.left c.args.source.now in
+    let kept = g.P.Keeper.kept c.args.keeper.now in
+    let P : Ended → Type 0 = λ e. IfSome left (λ s. IfSome kept (HasVerdict hash (status_of e) s)) in
+    subst P c.in-Forked.is (verdict-told hash c.verify.result left kept (c.verify.ensures.complete source sink keeper))
+
 pub returns-in-Kept-clause-fate : goal.returns-in-Kept-clause-fate
 returns-in-Kept-clause-fate g c = λ source sink keeper.
     let hash : List ℕ → List ℕ = g.H.Hash32.digest c.args.hash.now in
