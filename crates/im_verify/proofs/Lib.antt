@@ -5,5 +5,6 @@ pub mod ForkLemmas
 pub mod KeepLemmas
 pub mod PrintLemmas
 pub mod RunLemmas
+pub mod ShowLemmas
 pub mod TakenOrStopped
 pub mod TurnLemmas

@@ -1,5 +1,6 @@
 pub mod Ends
 pub mod Judged
 pub mod Runs
+pub mod Shows
 pub mod Stops
 pub mod Turns

@@ -6,5 +6,7 @@ pub mod ended;
 mod kept;
 pub mod laws;
 mod lines;
+pub mod show;
+mod show_text;
 mod stops;
 pub mod verify;
