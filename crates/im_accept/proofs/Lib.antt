@@ -1,5 +1,6 @@
 pub mod CutLemmas
 pub mod DigitLemmas
+pub mod FactLemmas
 pub mod LfLemmas
 pub mod PassLemmas
 pub mod ReplyLemmas

@@ -1,6 +1,7 @@
 -- Each message of a report is taken.
 use Rattle.std.proofs.Common.{◌≡◌, ◌≤◌, ℕ, List, true, length, take, map, refl, arith, ap, subst, ◌∙◌, sym, inl, inr, Option, Some, None, Ok, All, get_or, append_assoc}
 use Rattle.std.specs.Fmt.{decimal}
+use Rattle.std.specs.List.{AllByRecursion}
 use Rattle.std.proofs.lemmas.Bool.{both_ways}
 use Rattle.std.proofs.lemmas.List.{get_or-map, length-map, length-take-le}
 use Rattle.im_octet.proofs.Common.{some-is}
@@ -24,9 +25,12 @@ use Rattle.im_report.specs.Replies.{anchor_between, dual_between, item_reply}
 use Rattle.im_report.specs.Report.{Answered, IsAnswer, Report}
 use Rattle.im_client.specs.Folds.{state_with}
 use Rattle.im_client.specs.LineChecks.{line_checks}
+use Rattle.im_facts.specs.Facts.{anchor_headers, both_headers, entries_shown, headers_shown}
+use Rattle.im_facts.proofs.OrderLemmas.{each-append}
 use Rattle.im_accept.specs.Messages.{item_between, IsReadBack}
-use Rattle.im_accept.specs.Taken.{kept_number, next_number, line_text, AreReadBack, AreAcceptedAnswers, HaveSessions, IsFor, IsAcceptedAnswer}
+use Rattle.im_accept.specs.Taken.{kept_number, next_number, line_text, AreReadBack, AreAcceptedAnswers, HasStateFor, HaveSessions, IsEntryOf, IsHeaderOf, IsAcceptedAnswer}
 use Rattle.im_accept.proofs.DigitLemmas.{decimal-word}
+use Rattle.im_accept.proofs.FactLemmas.{anchor-shown, both-shown, entry-shown, facts-agree, facts-more, header-of-it}
 use Rattle.im_accept.proofs.PassLemmas.{advance-passes, between-target, dual-passes, first-state-passes, item-passes, same-state-passes}
 use Rattle.im_accept.proofs.ShownLemmas.{advance-shown, get-closed, header-closed, item-shown, prove-shown, scanned-closed, set-closed, state-shown, versions-closed}
 
@@ -41,13 +45,13 @@ line-replies a name few = record {
 }
 
 -- the header that is kept
-for-some : (hash : Hash) (h : List Transaction) (c : Command) (n k : ℕ) (header : TheHeader) → kept_number c n ≡ Some k → IsFor hash h c n (Some header) → header ≡ header_of hash h k
+for-some : (hash : Hash) (h : List Transaction) (c : Command) (n k : ℕ) (header : TheHeader) → kept_number c n ≡ Some k → HasStateFor hash h c n (Some header) → header ≡ header_of hash h k
 for-some hash h c n k header e (j, is, same) = same ∙ ap (λ i. header_of hash h i) (some-is j k (sym is ∙ e))
 
 -- what passes under the header that is kept passes for each client that the reply is for
 passes-for : (hash : Hash) (h : List Transaction) (c : Command) (n k : ℕ) (m : Message) → (c ≡ State → ⊥) → kept_number c n ≡ Some k
     → first_fail (line_checks hash (Some (header_of hash h k)) m) ≡ Ok tt
-    → (state : Option TheHeader) → IsFor hash h c n state → first_fail (line_checks hash state m) ≡ Ok tt
+    → (state : Option TheHeader) → HasStateFor hash h c n state → first_fail (line_checks hash state m) ≡ Ok tt
 passes-for hash h c n k m other e passes None for = absurd (other for)
 passes-for hash h c n k m other e passes (Some header) for =
     ap (λ (x : TheHeader). first_fail (line_checks hash (Some x) m)) (for-some hash h c n k header e for) ∙ passes
@@ -55,7 +59,7 @@ passes-for hash h c n k m other e passes (Some header) for =
 -- so does what is kept behind it
 keeps-for : (hash : Hash) (h : List Transaction) (c : Command) (n k : ℕ) (m : Message) (next : TheHeader) → (c ≡ State → ⊥) → kept_number c n ≡ Some k
     → state_with (Some (header_of hash h k)) m ≡ Some next
-    → (state : Option TheHeader) → IsFor hash h c n state → state_with state m ≡ Some next
+    → (state : Option TheHeader) → HasStateFor hash h c n state → state_with state m ≡ Some next
 keeps-for hash h c n k m next other e keeps None for = absurd (other for)
 keeps-for hash h c n k m next other e keeps (Some header) for =
     ap (λ (x : TheHeader). state_with (Some x) m) (for-some hash h c n k header e for) ∙ keeps
@@ -66,8 +70,9 @@ other-taken : (hash : Hash) (h : List Transaction) (a : Answered) (k : ℕ) (m :
     → (a.line.command ≡ State → ⊥) → kept_number a.line.command a.number ≡ Some k
     → 1 ≤ k → k ≤ next_number a.line.command k → next_number a.line.command k ≤ a.number
     → first_fail (line_checks hash (Some (header_of hash h k)) m) ≡ Ok tt
-    → state_with (Some (header_of hash h k)) m ≡ Some (header_of hash h (next_number a.line.command k)) → IsAcceptedAnswer hash h a
-other-taken hash h a k m replies is_now has told other e some rises within passes keeps = record {
+    → state_with (Some (header_of hash h k)) m ≡ Some (header_of hash h (next_number a.line.command k))
+    → AllByRecursion (IsHeaderOf hash h) (headers_shown m) → AllByRecursion (IsEntryOf h) (entries_shown m) → IsAcceptedAnswer hash h a
+other-taken hash h a k m replies is_now has told other e some rises within passes keeps headers entries = record {
   kept = k;
   is_kept = e;
   some = some;
@@ -75,13 +80,22 @@ other-taken hash h a k m replies is_now has told other e some rises within passe
   within = within;
   message = m;
   told = told;
-  accepted = λ state for. ((a.reply, inl (replies, is_now), has), passes-for hash h a.line.command a.number k m other e passes state for);
-  behind = keeps-for hash h a.line.command a.number k m (header_of hash h (next_number a.line.command k)) other e keeps;
+  accepted = λ known for. (
+    (a.reply, inl (replies, is_now), has),
+    record {
+      passes = passes-for hash h a.line.command a.number k m other e passes known.state for.state;
+      agrees = facts-agree hash h known m for.facts headers entries;
+    },
+  );
+  behind = λ known for. (
+    keeps-for hash h a.line.command a.number k m (header_of hash h (next_number a.line.command k)) other e keeps known.state for.state,
+    facts-more hash h known m for.facts headers entries,
+  );
 }
 
 -- a state passes where none is kept, and where its header is
 state-passes-for : (hash : Hash) (h hs : List Transaction) (n k : ℕ) → IsHistory hs → 1 ≤ k → k ≤ length hs → header_of hash hs k ≡ header_of hash h n
-    → (state : Option TheHeader) → IsFor hash h State n state → first_fail (line_checks hash state (says.State (header_of hash hs k))) ≡ Ok tt
+    → (state : Option TheHeader) → HasStateFor hash h State n state → first_fail (line_checks hash state (says.State (header_of hash hs k))) ≡ Ok tt
 state-passes-for hash h hs n k history some within same None for = first-state-passes hash hs k history some within
 state-passes-for hash h hs n k history some within same (Some header) for =
     let is : header ≡ header_of hash hs k = for-some hash h State n n header refl for ∙ sym same in
@@ -89,7 +103,7 @@ state-passes-for hash h hs n k history some within same (Some header) for =
 
 -- and its header is kept behind it
 state-keeps-for : (hash : Hash) (h : List Transaction) (n : ℕ) (header : TheHeader) → header ≡ header_of hash h n
-    → (state : Option TheHeader) → IsFor hash h State n state → state_with state (says.State header) ≡ Some (header_of hash h n)
+    → (state : Option TheHeader) → HasStateFor hash h State n state → state_with state (says.State header) ≡ Some (header_of hash h n)
 state-keeps-for hash h n header same None for = ap Some same
 state-keeps-for hash h n header same (Some kept) for = ap Some (for-some hash h State n n kept refl for)
 
@@ -112,6 +126,7 @@ item-taken hash h session c n reply t i s history within replies other kept next
     other-taken hash h (answered session c n reply) s (item_between hash hs t i s) replies is_now has shown.4 other kept (omega arith) (omega arith) (omega arith)
     (ap (λ (x : TheHeader). first_fail (line_checks hash (Some x) (item_between hash hs t i s))) (sym same) ∙ item-passes hash hs t i s (IsHistory-take h n history) some order below shown.3)
     (ap (λ k. Some (header_of hash h k)) (sym next))
+    (both-shown hash h n t s some order (omega arith) within) (entry-shown hash h n t i s some (omega arith) within shown.3)
 
 -- each line whose reply is open, by its command
 taken-by : (hash : Hash) (h : List Transaction) (session : List ℕ) (c : Command) (n : ℕ) (reply : List ℕ) → IsHistory h → n ≤ length h
@@ -130,16 +145,27 @@ taken-by hash h session State n reply history within replies answer read is_now 
     let some : 1 ≤ length hs = shown.0 in
     let same : header_of hash hs (length hs) ≡ header_of hash h n =
     ap (λ k. header_of hash hs k) size ∙ header-prefix hash h n n (omega arith) (omega arith) within in
+    let state : Message = says.State (header_of hash hs (length hs)) in
+    let headers : AllByRecursion (IsHeaderOf hash h) (headers_shown state) = (header-of-it hash h n (header_of hash hs (length hs)) (omega arith) within same, tt) in
     record {
       kept = n;
       is_kept = refl;
       some = omega arith;
       rises = omega arith;
       within = omega arith;
-      message = says.State (header_of hash hs (length hs));
+      message = state;
       told = shown.1;
-      accepted = λ state for. ((reply, inl (replies, is_now), read is_now), state-passes-for hash h hs n (length hs) (IsHistory-take h n history) some (omega arith) same state for);
-      behind = state-keeps-for hash h n (header_of hash hs (length hs)) same;
+      accepted = λ known for. (
+        (reply, inl (replies, is_now), read is_now),
+        record {
+          passes = state-passes-for hash h hs n (length hs) (IsHistory-take h n history) some (omega arith) same known.state for.state;
+          agrees = facts-agree hash h known state for.facts headers tt;
+        },
+      );
+      behind = λ known for. (
+        state-keeps-for hash h n (header_of hash hs (length hs)) same known.state for.state,
+        facts-more hash h known state for.facts headers tt,
+      );
     }
 taken-by hash h session (Prove s t) n reply history within replies answer read is_now =
     let hs : List Transaction = take n h in
@@ -152,7 +178,7 @@ taken-by hash h session (Prove s t) n reply history within replies answer read i
     let same : header_of hash hs t ≡ header_of hash h t = header-prefix hash h t n (omega arith) (omega arith) within in
     other-taken hash h (answered session (Prove s t) n reply) t m replies is_now (read is_now) shown.3 (λ e. cc) refl (omega arith) (omega arith) (omega arith)
     (ap (λ (x : TheHeader). first_fail (line_checks hash (Some x) m)) (sym same) ∙ dual-passes hash hs s t (IsHistory-take h n history) some order below)
-    refl
+    refl (both-shown hash h n s t some order (omega arith) within) tt
 taken-by hash h session (Advance s t) n reply history within replies answer read is_now =
     let hs : List Transaction = take n h in
     let size : length hs ≡ n = length-take-le n h within in
@@ -166,6 +192,9 @@ taken-by hash h session (Advance s t) n reply history within replies answer read
     other-taken hash h (answered session (Advance s t) n reply) s m replies is_now (read is_now) shown.3 (λ e. cc) refl some order (omega arith)
     (ap (λ (x : TheHeader). first_fail (line_checks hash (Some x) m)) (sym same) ∙ advance-passes hash hs s t (IsHistory-take h n history) some order below)
     (ap Some (between-target hash hs s t ∙ next))
+    (each-append (IsHeaderOf hash h) (both_headers (dual_between hash hs s t)) (anchor_headers (anchor_between hash hs s t))
+    (both-shown hash h n s t some order (omega arith) within) (anchor-shown hash h n s t some order (omega arith) within))
+    tt
 taken-by hash h session (Item t i None) n reply history within replies answer read is_now =
     let hs : List Transaction = take n h in
     let size : length hs ≡ n = length-take-le n h within in
