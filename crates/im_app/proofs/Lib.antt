@@ -3,4 +3,5 @@ pub mod FoundLemmas
 pub mod GateLemmas
 pub mod ReportLemmas
 pub mod RunLemmas
+pub mod ShownLemmas
 pub mod VerdictLemmas

@@ -45,3 +45,8 @@ pub record HasVerdict (hash : Hash) (status : Status) (stream : List ℕ) (kept 
       → SomeRefused verdicts → NoneForked verdicts → (status ≡ Refused) ⊎ (status ≡ Memory)
   pub forks : (verdicts : List Verdict) → length stream ≤ 67108864 → IsVerified hash kept stream verdicts
       → SomeForked verdicts → (status ≡ Forked) ⊎ (status ≡ Memory)
+
+-- `show` of kept lines, with no fault, memory aside
+pub record HasShow (hash : Hash) (status : Status) (kept : List (List ℕ)) : Type 0 where
+  pub taken : (verdicts : List Verdict) → AreTaken hash kept verdicts → (status ≡ Ok) ⊎ (status ≡ Memory)
+  pub stops : (n : ℕ) → StopsKept hash kept n → (status ≡ Kept (n + 1)) ⊎ (status ≡ Memory)

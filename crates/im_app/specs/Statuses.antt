@@ -86,6 +86,22 @@ EndsVerify Memory = Unit {0}
 EndsVerify Long = Unit {0}
 EndsVerify (Kept line) = Unit {0}
 
+-- words that ask for `show` end so, where clap refuses them too
+abbrev pub EndsShow : Status → Type 0
+EndsShow Ok = Unit {0}
+EndsShow Usage = Unit {0}
+EndsShow (Script line) = ⊥
+EndsShow ReadFault = ⊥
+EndsShow WriteFault = Unit {0}
+EndsShow DiskFault = ⊥
+EndsShow (Damaged damage) = ⊥
+EndsShow KeeperFault = Unit {0}
+EndsShow Refused = ⊥
+EndsShow Forked = ⊥
+EndsShow Memory = Unit {0}
+EndsShow Long = ⊥
+EndsShow (Kept line) = Unit {0}
+
 -- reading a script ends so where it gives no lines
 abbrev pub EndsReading : Status → Type 0
 EndsReading Ok = ⊥

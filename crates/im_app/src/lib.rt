@@ -3,6 +3,7 @@
 
 mod damage;
 mod run;
+mod shown;
 pub mod status;
 pub mod top;
 mod verdict;

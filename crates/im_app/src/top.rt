@@ -13,19 +13,21 @@ ghost use Rattle.im_mtree.specs.Checks.{first_fail};
 ghost use Rattle.im_script.specs.Script.{StopsAfter};
 ghost use Rattle.im_verify.specs.Judged.{StopsHeld};
 ghost use Rattle.im_verify.specs.Runs.{BreaksAt, BreaksInto, BreaksOff, Verifies};
+ghost use Rattle.im_verify.specs.Shows.{Shows, ShowsPart};
 ghost use Rattle.im_verify.specs.declared.ended.Ended.TheVariants as ended;
 ghost use Rattle.im_words.specs.Command.{AreWordsRefused};
-ghost use Rattle.im_words.specs.Form.{IsForm, IsVerifyForm};
-ghost use Rattle.im_words.specs.Meaning.{AsksRun, AsksVerify};
+ghost use Rattle.im_words.specs.Form.{IsForm, IsShowForm, IsVerifyForm};
+ghost use Rattle.im_words.specs.Meaning.{AsksRun, AsksShow, AsksVerify};
 ghost use Rattle.im_words.specs.declared.Link.{Link};
-ghost use Rattle.im_app.specs.Fates.{HasRunFate, HasVerdict};
+ghost use Rattle.im_app.specs.Fates.{HasRunFate, HasShow, HasVerdict};
 ghost use Rattle.im_opening.specs.Cut.{SyncsAtMost};
 ghost use Rattle.im_ledger.specs.declared.errors.CommitError.{CommitError as Why};
 ghost use Rattle.im_script.specs.declared.commands.Line.{Line};
 ghost use Rattle.im_app.specs.Runs.{GivesScript, IsGiven, KeepsFound, LeavesFound, WritesFront, WritesPart, WritesReport};
-ghost use Rattle.im_app.specs.Statuses.{EndsGiven, EndsReading, EndsRun, EndsVerify, status_for};
+ghost use Rattle.im_app.specs.Statuses.{EndsGiven, EndsReading, EndsRun, EndsShow, EndsVerify, status_for};
 
 use crate::run::{Ran, run};
+use crate::shown::shown;
 use crate::status::{Done, Status};
 use crate::verdict::verdict;
 use im_digest::Hash32;
@@ -45,7 +47,8 @@ use std::alloc::Global;
 /// durable by then. `verify` reads a stream of lines from the source to its end, takes the lines that the keeper
 /// holds, and then judges each line of the stream as a client that trusts nobody: an accepted message is kept, and
 /// what became of each line is written to the sink, up to the first that shows a fact unlike a kept one, which it tells
-/// with two unequal strings of one digest. The gate isn't called yet.
+/// with two unequal strings of one digest. `show` takes the keeper's lines alone, and writes the state and the facts behind
+/// them. The gate isn't called yet.
 pub fn top<
     R,
     H: Hash32 + Sync,
@@ -144,11 +147,22 @@ pub fn top<
     ensures no_verdict { AsksVerify (map string_bytes words.now) → (result.status ≡ Status.ReadFault) ⊎ ((result.status ≡ Status.Long) ⊎ ((k : ℕ) × (result.status ≡ Status.Kept k))) →
         (sink.new ≡ sink.old) × (P.kept keeper.new ≡ P.kept keeper.old) }
 
-    // The first kept line that fails a check or is forked.
+    // `show`: what the kept lines lead to was written, or a front part of it where the sink failed; else nothing was. The
+    // kept lines stay, and the source, the disk and the clock aren't touched.
+    ensures shows { AsksShow (map string_bytes words.now) → result.status ≡ Status.Ok →
+        Shows (H.digest hash.now) (P.kept keeper.old) (K.written sink.old) (K.written sink.new) }
+    ensures shows_part { AsksShow (map string_bytes words.now) → result.status ≡ Status.WriteFault →
+        ShowsPart (H.digest hash.now) (P.kept keeper.old) (K.written sink.old) (K.written sink.new) }
+    ensures shows_nothing { AsksShow (map string_bytes words.now) → (result.status ≡ Status.KeeperFault) ⊎ ((result.status ≡ Status.Memory) ⊎ ((k : ℕ) × (result.status ≡ Status.Kept k))) →
+        sink.new ≡ sink.old }
+    ensures show_keeps { AsksShow (map string_bytes words.now) → P.kept keeper.new ≡ P.kept keeper.old }
+    ensures show_idle { AsksShow (map string_bytes words.now) → (source.new ≡ source.old) × ((result.disk ≡ disk) × (result.clock ≡ clock)) }
+
+    // The first kept line that fails a check or is forked, of `verify` and of `show`.
     ensures kept { (k : ℕ) → result.status ≡ Status.Kept k → StopsHeld (H.digest hash.now) (P.kept keeper.old) k }
 
-    // At these ends, and at those of `given`, the source was read to its end.
-    ensures emptied { (result.status ≡ Status.Ok) ⊎ ((result.status ≡ Status.WriteFault) ⊎ ((result.status ≡ Status.KeeperFault) ⊎ ((result.status ≡ Status.Refused) ⊎ ((result.status ≡ Status.Forked) ⊎ ((k : ℕ) × (result.status ≡ Status.Kept k)))))) →
+    // At these ends of a run and of `verify`, and at those of `given`, the source was read to its end.
+    ensures emptied { AsksRun (map string_bytes words.now) ⊎ AsksVerify (map string_bytes words.now) → (result.status ≡ Status.Ok) ⊎ ((result.status ≡ Status.WriteFault) ⊎ ((result.status ≡ Status.KeeperFault) ⊎ ((result.status ≡ Status.Refused) ⊎ ((result.status ≡ Status.Forked) ⊎ ((k : ℕ) × (result.status ≡ Status.Kept k)))))) →
         IfSome (S.left source.old) (λ _. S.left source.new ≡ Some []) }
     ensures long { result.status ≡ Status.Long → IfSome (S.left source.old) (λ octets. 67108864 < length octets) }
 
@@ -156,19 +170,21 @@ pub fn top<
     ensures taken { TakesAtMost 67112960 (S.left source.old) (S.left source.new) }
 
     // The words are at fault just where `clap` refuses them, and then nothing is touched. Those of the forms
-    // `NAME run [--logs 1..4] [--link auto|manual]`, the options in any order, and `NAME verify` never are: the first
-    // ask for a run with the number of logs and the link that they write, the second for `verify`.
+    // `NAME run [--logs 1..4] [--link auto|manual]`, the options in any order, `NAME verify` and `NAME show` never are: the
+    // first ask for a run with the number of logs and the link that they write, the others for `verify` and for `show`.
     ensures usage { result.status ≡ Status.Usage → AreWordsRefused (map string_bytes words.now) }
     ensures form { (logs : ℕ) (link : Link) → IsForm (map string_bytes words.now) logs link
         → (result.status ≡ Status.Usage → ⊥) × ((asks : AsksRun (map string_bytes words.now)) × (asks.0 ≡ logs) × (asks.1 ≡ link)) }
     ensures verify_form { IsVerifyForm (map string_bytes words.now) → (result.status ≡ Status.Usage → ⊥) × AsksVerify (map string_bytes words.now) }
+    ensures show_form { IsShowForm (map string_bytes words.now) → (result.status ≡ Status.Usage → ⊥) × AsksShow (map string_bytes words.now) }
     ensures refused { AreWordsRefused (map string_bytes words.now) → (result.status ≡ Status.Usage) ⊎ (result.status ≡ Status.Memory) }
     ensures untouched { AreWordsRefused (map string_bytes words.now) → (source.new ≡ source.old) × ((sink.new ≡ sink.old) × ((keeper.new ≡ keeper.old) × ((result.disk ≡ disk) × (result.clock ≡ clock)))) }
 
-    // Else the words ask for one of the two, which ends in its own ways.
-    ensures asked { (result.status ≡ Status.Usage → ⊥) → (result.status ≡ Status.Memory → ⊥) → AsksRun (map string_bytes words.now) ⊎ AsksVerify (map string_bytes words.now) }
+    // Else the words ask for one of the three, which ends in its own ways.
+    ensures asked { (result.status ≡ Status.Usage → ⊥) → (result.status ≡ Status.Memory → ⊥) → AsksRun (map string_bytes words.now) ⊎ AsksVerify (map string_bytes words.now) ⊎ AsksShow (map string_bytes words.now) }
     ensures ends_run { AsksRun (map string_bytes words.now) → EndsRun result.status }
     ensures ends_verify { AsksVerify (map string_bytes words.now) → EndsVerify result.status }
+    ensures ends_show { AsksShow (map string_bytes words.now) → EndsShow result.status }
 
     // A fault of the source, the sink, the disk or the keeper comes only where its count rose. Else no count rises, but
     // for the sink's where a line of a script got no reply: the lines before it are told as far as the sink takes them.
@@ -199,6 +215,10 @@ pub fn top<
         → (Rose (P.faults keeper.old) (P.faults keeper.new) → ⊥)
         → IfSome (S.left source.old) (λ stream. IfSome (P.kept keeper.old) (HasVerdict (H.digest hash.now) result.status stream)) }
 
+    ensures show { (AreWordsRefused (map string_bytes words.now) → ⊥) → AsksShow (map string_bytes words.now)
+        → (Rose (K.faults sink.old) (K.faults sink.new) → ⊥) → (Rose (P.faults keeper.old) (P.faults keeper.new) → ⊥)
+        → IfSome (P.kept keeper.old) (HasShow (H.digest hash.now) result.status) }
+
     // `verify` leaves the disk as it was handed in, and so does a script that wasn't read, want of memory aside; a run
     // leaves the keeper. The clock comes back as one that gives the same constant.
     ensures disk { AsksVerify (map string_bytes words.now) ⊎ (EndsReading result.status × (result.status ≡ Status.Memory → ⊥)) → result.disk ≡ disk }
@@ -221,6 +241,14 @@ pub fn top<
         }
         Ok(Request::Verify) => {
             let status = verdict(alloc, hash, source, sink, keeper);
+            Done {
+                status,
+                disk,
+                clock,
+            }
+        }
+        Ok(Request::Show) => {
+            let status = shown(alloc, hash, sink, keeper);
             Done {
                 status,
                 disk,

@@ -2,7 +2,7 @@
 use Rattle.std.proofs.Common.{Bool, cond, List, [], ◌∷◌, Option, Some, None}
 use Rattle.clap.specs.Words.{Rule, Shape, built}
 use Rattle.clap.specs.Simple.{built_leaf, filled, inherited}
-use Rattle.im_words.specs.Command.{Texts, im_at, im_command, link_rule, logs_rule, run_shape, verify_shape}
+use Rattle.im_words.specs.Command.{Texts, im_at, im_command, link_rule, logs_rule, run_shape, show_shape, verify_shape}
 
 -- `--logs` as built
 abbrev pub logs_built : Rule
@@ -20,9 +20,13 @@ run_built names = built_leaf (inherited (built (im_at names)).top (run_shape nam
 abbrev pub verify_built : Shape
 verify_built = built_leaf (inherited (built im_command).top verify_shape)
 
--- the subcommand that passes its test, the first of both
-abbrev pub first_built : Texts → Bool → Bool → Option Shape
-first_built names run verify = cond run (Some (run_built names)) (cond verify (Some verify_built) None)
+-- the subcommand `show`
+abbrev pub show_built : Shape
+show_built = built_leaf (inherited (built im_command).top show_shape)
+
+-- the subcommand that passes its test, the first of them
+abbrev pub first_built : Texts → Bool → Bool → Bool → Option Shape
+first_built names run verify show = cond run (Some (run_built names)) (cond verify (Some verify_built) (cond show (Some show_built) None))
 
 -- the options of `run`
 abbrev pub rules_built : Texts → List Rule

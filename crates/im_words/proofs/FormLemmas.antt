@@ -4,9 +4,9 @@ use Rattle.std.specs.Fmt.{digits}
 use Rattle.clap.specs.Words.{IsAmong, Text, fault_of, subcommand_of}
 use Rattle.clap.proofs.OnLiterals.{clap_on_literals}
 use Rattle.im_words.specs.Command.{AreWordsRefused, im_command}
-use Rattle.im_words.specs.Meaning.{AsksRun, AsksVerify, asked_of}
-use Rattle.im_words.specs.Form.{GivesOptions, IsForm, IsVerifyForm, link_words, logs_words}
-use Rattle.im_words.specs.declared.Request.TheVariants.{Run, Verify}
+use Rattle.im_words.specs.Meaning.{AsksRun, AsksShow, AsksVerify, asked_of}
+use Rattle.im_words.specs.Form.{GivesOptions, IsForm, IsShowForm, IsVerifyForm, link_words, logs_words}
+use Rattle.im_words.specs.declared.Request.TheVariants.{Run, Verify, Show}
 use Rattle.im_words.specs.declared.Link.{Link}
 use Rattle.im_words.specs.declared.Link.TheVariants.{Auto, Manual}
 
@@ -93,6 +93,22 @@ verify_means words form = subst MeansVerify (sym form.are) (verify_alone form.na
 pub verify_asks : (words : List Text) → IsVerifyForm words → AsksVerify words
 verify_asks words form = (verify_means words form).asks
 
+-- clap takes the words, and they ask for `show`
+pub record MeansShow (words : List Text) : Type 0 where
+  pub faultless : fault_of im_command words ≡ []
+  pub asks : AsksShow words
+
+show_alone : (name : Text) → MeansShow (name ∷ codes "show" ∷ [])
+unfolding clap_on_literals
+show_alone name = record { faultless = refl; asks = refl }
+
+-- the words of `show` are taken, and ask for it
+pub show_means : (words : List Text) → IsShowForm words → MeansShow words
+show_means words form = subst MeansShow (sym form.are) (show_alone form.name)
+
+pub show_asks : (words : List Text) → IsShowForm words → AsksShow words
+show_asks words form = (show_means words form).asks
+
 -- words with no fault aren't refused
 none_refused : (words : List Text) → fault_of im_command words ≡ [] → AreWordsRefused words → ⊥
 none_refused words faultless why = subst (IsAmong why.kind) faultless why.among
@@ -103,6 +119,22 @@ form_taken words logs link form = none_refused words (form_means words logs link
 
 pub verify_taken : (words : List Text) → IsVerifyForm words → AreWordsRefused words → ⊥
 verify_taken words form = none_refused words (verify_means words form).faultless
+
+pub show_taken : (words : List Text) → IsShowForm words → AreWordsRefused words → ⊥
+show_taken words form = none_refused words (show_means words form).faultless
+
+-- no words ask for `show` and for another
+pub run_not_show : (words : List Text) → AsksRun words → AsksShow words → ⊥
+run_not_show words run show = go (sym run.2 ∙ show)
+  where
+    go : Some (Run run.0 run.1) ≡ Some Show → ⊥
+    go same = cc
+
+pub verify_not_show : (words : List Text) → AsksVerify words → AsksShow words → ⊥
+verify_not_show words verify show = go (sym verify ∙ show)
+  where
+    go : Some Verify ≡ Some Show → ⊥
+    go same = cc
 
 -- no words ask for a run and for `verify`
 pub asks_one : (words : List Text) → AsksRun words → AsksVerify words → ⊥

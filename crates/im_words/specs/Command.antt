@@ -37,6 +37,10 @@ run_shape names =
 abbrev pub verify_shape : Shape
 verify_shape = (new_app (codes "verify")).top
 
+-- the subcommand `show`, which has none either
+abbrev pub show_shape : Shape
+show_shape = (new_app (codes "show")).top
+
 -- `im` with no help and no subcommand yet, of which one is required
 abbrev pub im_top : App
 im_top = record (new_app (codes "im")) {
@@ -47,9 +51,9 @@ im_top = record (new_app (codes "im")) {
   };
 }
 
--- `im` with both subcommands, where the names of links lie at these references
+-- `im` with its subcommands, where the names of links lie at these references
 abbrev pub im_at : Texts → App
-im_at names = with_subcommand (with_subcommand im_top (run_shape names)) verify_shape
+im_at names = with_subcommand (with_subcommand (with_subcommand im_top (run_shape names)) verify_shape) show_shape
 
 -- the names of links
 abbrev pub link_texts : List Text

@@ -38,3 +38,8 @@ pub record IsForm (words : List Text) (logs : ℕ) (link : Link) : Type 0 where
 pub record IsVerifyForm (words : List Text) : Type 0 where
   pub name : Text
   pub are : words ≡ name ∷ codes "verify" ∷ []
+
+-- the words are the program's name and `show`
+pub record IsShowForm (words : List Text) : Type 0 where
+  pub name : Text
+  pub are : words ≡ name ∷ codes "show" ∷ []

@@ -7,7 +7,7 @@ use Rattle.clap.specs.Words.{Row, Text, first_of, one_of, subcommand_of}
 use Rattle.clap.specs.ValueTests.{is_unsigned_in}
 use Rattle.im_words.specs.Command.{im_command}
 use Rattle.im_words.specs.declared.Request.{Request}
-use Rattle.im_words.specs.declared.Request.TheVariants.{Run, Verify}
+use Rattle.im_words.specs.declared.Request.TheVariants.{Run, Verify, Show}
 use Rattle.im_words.specs.declared.Link.{Link}
 use Rattle.im_words.specs.declared.Link.TheVariants.{Auto, Manual}
 
@@ -37,7 +37,7 @@ run_of rows = option_and_then (λ logs. option_map (λ link. Run logs link) (lin
 abbrev pub asked_of : Option (Text × List Row) → Option Request
 asked_of None = None
 asked_of (Some p) = if bytes_eq p.0 (codes "run") then run_of p.1
-    else (if bytes_eq p.0 (codes "verify") then Some Verify else None)
+    else (if bytes_eq p.0 (codes "verify") then Some Verify else (if bytes_eq p.0 (codes "show") then Some Show else None))
 
 -- the words ask for a run
 abbrev pub AsksRun : List Text → Type 0
@@ -48,7 +48,12 @@ AsksRun words = (logs : ℕ) × (link : Link)
 abbrev pub AsksVerify : List Text → Type 0
 AsksVerify words = asked_of (subcommand_of im_command words) ≡ Some Verify
 
+-- the words ask for `show`
+abbrev pub AsksShow : List Text → Type 0
+AsksShow words = asked_of (subcommand_of im_command words) ≡ Some Show
+
 -- a run has 1 to 4 logs
 abbrev pub HasFewLogs : Request → Type 0
 HasFewLogs (Run logs link) = (1 ≤ logs) × (logs ≤ 4)
 HasFewLogs Verify = Unit {0}
+HasFewLogs Show = Unit {0}

@@ -2,7 +2,7 @@
 ghost use Rattle.std.specs.Prelude.{◌≡◌, IfOk, false};
 ghost use Rattle.clap.specs.Words.{app_of, rule_of, shape_of};
 ghost use Rattle.clap.specs.declared.builder.command.Command.TheViews.{out-Command};
-ghost use Rattle.im_words.specs.Command.{IsMadeOfNames, im_at, link_rule, logs_rule, run_shape, verify_shape};
+ghost use Rattle.im_words.specs.Command.{IsMadeOfNames, im_at, link_rule, logs_rule, run_shape, show_shape, verify_shape};
 
 use clap::{Arg, Command, value_parser};
 use std::alloc::{AllocError, Global};
@@ -48,6 +48,14 @@ fn verify<'a>(alloc: Global) -> Command<'a>
     Command::new(alloc, "verify")
 }
 
+// The subcommand `show`.
+fn show<'a>(alloc: Global) -> Command<'a>
+    ensures shape { shape_of result ≡ show_shape }
+    ensures local { (out-Command result).has_globals ≡ false }
+{
+    Command::new(alloc, "show")
+}
+
 // The whole command line: a subcommand is required, and there is no help and no version.
 pub(crate) fn im_command<'a>(alloc: Global) -> Result<Command<'a>, AllocError>
     ensures { IfOk result (λ c. IsMadeOfNames im_at (app_of c)) }
@@ -57,5 +65,6 @@ pub(crate) fn im_command<'a>(alloc: Global) -> Result<Command<'a>, AllocError>
         .disable_help_subcommand(true)
         .subcommand_required(true)
         .subcommand(run(alloc)?)?
-        .subcommand(verify(alloc))
+        .subcommand(verify(alloc))?
+        .subcommand(show(alloc))
 }

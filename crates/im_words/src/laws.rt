@@ -3,8 +3,8 @@
 
 ghost use Rattle.std.specs.Prelude.{◌≡◌, ℕ, List};
 ghost use Rattle.clap.specs.Words.{Text};
-ghost use Rattle.im_words.specs.Form.{IsForm, IsVerifyForm};
-ghost use Rattle.im_words.specs.Meaning.{AsksRun, AsksVerify};
+ghost use Rattle.im_words.specs.Form.{IsForm, IsShowForm, IsVerifyForm};
+ghost use Rattle.im_words.specs.Meaning.{AsksRun, AsksShow, AsksVerify};
 ghost use Rattle.im_words.specs.declared.Link.{Link};
 
 /// Words of the form `NAME run` ask for a run, with the number of logs and the link that they write and no other, and
@@ -23,12 +23,21 @@ pub fn a_verify_form_asks_for_verify()
     ensures no_run { (words : List Text) → IsVerifyForm words → AsksRun words → ⊥ }
 {}
 
+/// Words of the form `NAME show` ask for `show`, for no run, and not for `verify`.
+pub fn a_show_form_asks_for_show()
+    ensures asks { (words : List Text) → IsShowForm words → AsksShow words }
+    ensures no_run { (words : List Text) → IsShowForm words → AsksRun words → ⊥ }
+    ensures no_verify { (words : List Text) → IsShowForm words → AsksVerify words → ⊥ }
+{}
+
 /// Words that ask for two runs ask for the same one.
 pub fn one_run()
     ensures { (words : List Text) (a b : AsksRun words) → (a.0 ≡ b.0) × (a.1 ≡ b.1) }
 {}
 
-/// No words ask for a run and for `verify`.
+/// No words ask for two of a run, `verify` and `show`.
 pub fn not_both()
-    ensures { (words : List Text) → AsksRun words → AsksVerify words → ⊥ }
+    ensures run_verify { (words : List Text) → AsksRun words → AsksVerify words → ⊥ }
+    ensures run_show { (words : List Text) → AsksRun words → AsksShow words → ⊥ }
+    ensures verify_show { (words : List Text) → AsksVerify words → AsksShow words → ⊥ }
 {}

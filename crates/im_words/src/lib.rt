@@ -1,12 +1,12 @@
 //! The words of the command line of the program `im`, read with `clap`:
-//! `im run [--logs 1..4] [--link auto|manual]` and `im verify`.
+//! `im run [--logs 1..4] [--link auto|manual]`, `im verify` and `im show`.
 #![tactic(auto)]
 
 ghost use Rattle.std.specs.Prelude.{◌≡◌, ◌≢◌, ◌↔◌, ◌⊎◌, ℕ, IfOk, Some, map};
 ghost use Rattle.std.specs.String.{string_bytes};
 ghost use Rattle.clap.specs.Words.{kind_of, subcommand_of, subcommand_rows_of};
 ghost use Rattle.im_words.specs.Command.{IsFaultless, AreWordsRefused, im_command};
-ghost use Rattle.im_words.specs.Form.{IsForm, IsVerifyForm};
+ghost use Rattle.im_words.specs.Form.{IsForm, IsShowForm, IsVerifyForm};
 ghost use Rattle.im_words.specs.Meaning.{HasFewLogs, asked_of};
 
 mod command;
@@ -35,6 +35,8 @@ pub enum Request {
     Run { logs: u8, link: Link },
     /// The client that checks the lines it is shown.
     Verify,
+    /// What that client knows.
+    Show,
 }
 
 /// Why the words got no answer.
@@ -101,6 +103,8 @@ pub fn read_words(alloc: Global, words: &[String]) -> Result<Request, WordsError
         → (result ≡ Ok (Request.Run logs link)) ⊎ (result ≡ Err WordsError.Memory) }
     ensures taken_verify { IsVerifyForm (map string_bytes words.now)
         → (result ≡ Ok Request.Verify) ⊎ (result ≡ Err WordsError.Memory) }
+    ensures taken_show { IsShowForm (map string_bytes words.now)
+        → (result ≡ Ok Request.Show) ⊎ (result ≡ Err WordsError.Memory) }
     ensures limits { IfOk result HasFewLogs }
 {
     let matches = matched(alloc, words)?;

@@ -56,6 +56,7 @@ pub(crate) fn asked(matches: &ArgMatches) -> Request
     match matches.subcommand() {
         Some(("run", matches)) => run(matches),
         Some(("verify", _)) => Request::Verify,
+        Some(("show", _)) => Request::Show,
         _ => unreachable!(),
     }
 }

@@ -3,11 +3,11 @@ use Rattle.std.specs.String.{string_bytes}
 use Rattle.clap.specs.Words.{Row, Text}
 use Rattle.std.specs.Prelude.{List, Option, Some}
 use Rattle.im_words.specs.Meaning.{asked_of}
-use Rattle.im_words.specs.declared.Request.TheVariants.{Run, Verify}
+use Rattle.im_words.specs.declared.Request.TheVariants.{Run, Verify, Show}
 use Rattle.im_words.specs.declared.WordsError.{WordsError}
 use Rattle.im_words.specs.declared.WordsError.TheVariants.{Memory}
 use Rattle.im_words.proofs.AnswerLemmas.{error_up, taken_error}
-use Rattle.im_words.proofs.FormLemmas.{form_means, form_taken, verify_asks, verify_taken}
+use Rattle.im_words.proofs.FormLemmas.{form_means, form_taken, show_asks, show_taken, verify_asks, verify_taken}
 use Rattle.im_words.proofs.AskedLemmas.{taken_asked}
 use Rattle.im_words.proofs.read_words.Goals as goal
 
@@ -21,6 +21,12 @@ pub returns-in_err-matches-clause-taken_verify : goal.returns-in_err-matches-cla
 returns-in_err-matches-clause-taken_verify c = λ form.
     let words = map string_bytes c.args.words.now in
     let memory : c.in_err-matches.field-0.0 ≡ Memory = taken_error words c.in_err-matches.field-0.0 (verify_taken words form) (λ usage. c.in_err-matches.ensures.refused (ap (λ (e : WordsError). Err e) usage)) in
+    inr (error_up c.from_residual.result c.in_err-matches.field-0.0 Memory c.from_residual.ensures.1 memory)
+
+pub returns-in_err-matches-clause-taken_show : goal.returns-in_err-matches-clause-taken_show
+returns-in_err-matches-clause-taken_show c = λ form.
+    let words = map string_bytes c.args.words.now in
+    let memory : c.in_err-matches.field-0.0 ≡ Memory = taken_error words c.in_err-matches.field-0.0 (show_taken words form) (λ usage. c.in_err-matches.ensures.refused (ap (λ (e : WordsError). Err e) usage)) in
     inr (error_up c.from_residual.result c.in_err-matches.field-0.0 Memory c.from_residual.ensures.1 memory)
 
 pub asked-requires : goal.asked-requires
@@ -38,4 +44,10 @@ pub returns-clause-taken_verify : goal.returns-clause-taken_verify
 returns-clause-taken_verify c = λ form.
     let asks = verify_asks (map string_bytes c.args.words.now) form in
     let same : Some c.asked.result ≡ Some Verify = sym c.asked.ensures ∙ ap asked_of c.in_ok-matches.ensures.subcommand ∙ asks in
+    inl (cc same)
+
+pub returns-clause-taken_show : goal.returns-clause-taken_show
+returns-clause-taken_show c = λ form.
+    let asks = show_asks (map string_bytes c.args.words.now) form in
+    let same : Some c.asked.result ≡ Some Show = sym c.asked.ensures ∙ ap asked_of c.in_ok-matches.ensures.subcommand ∙ asks in
     inl (cc same)

@@ -1,7 +1,7 @@
 use Rattle.std.proofs.Common.{map, refl, sym, ◌∙◌, inl, inr}
 use Rattle.std.specs.String.{string_bytes}
 use Rattle.im_disk.proofs.Growing.{grows_none}
-use Rattle.im_words.proofs.FormLemmas.{form_asks_so, verify_asks}
+use Rattle.im_words.proofs.FormLemmas.{form_asks_so, show_asks, verify_asks}
 use Rattle.im_app.proofs.RunLemmas.{same-found, takes-none, usage-found}
 use Rattle.im_app.proofs.top.top.Goals as goal
 
@@ -12,6 +12,10 @@ returns-in-Ok-Run-clause-form g c = λ logs link form.
 pub returns-in-Ok-Verify-clause-form : goal.returns-in-Ok-Verify-clause-form
 returns-in-Ok-Verify-clause-form g c = λ logs link form.
     (c.verdict-status.ensures.never, form_asks_so (map string_bytes c.args.words.now) logs link form)
+
+pub returns-in-Ok-Show-clause-form : goal.returns-in-Ok-Show-clause-form
+returns-in-Ok-Show-clause-form g c = λ logs link form.
+    (c.shown-status.ensures.never, form_asks_so (map string_bytes c.args.words.now) logs link form)
 
 pub returns-in-Err-Usage-clause-form : goal.returns-in-Err-Usage-clause-form
 returns-in-Err-Usage-clause-form g c = λ logs link form.
@@ -30,6 +34,16 @@ returns-in-Err-Memory-clause-form g c = λ logs link form.
 pub returns-in-Err-Memory-clause-verify_form : goal.returns-in-Err-Memory-clause-verify_form
 returns-in-Err-Memory-clause-verify_form g c = λ form.
     (λ usage. cc, verify_asks (map string_bytes c.args.words.now) form)
+
+pub returns-in-Err-Memory-clause-show_form : goal.returns-in-Err-Memory-clause-show_form
+returns-in-Err-Memory-clause-show_form g c = λ form.
+    (λ usage. cc, show_asks (map string_bytes c.args.words.now) form)
+
+pub returns-in-Ok-Show-clause-grows : goal.returns-in-Ok-Show-clause-grows
+returns-in-Ok-Show-clause-grows g c = grows_none (g.D.Disk.told c.args.disk)
+
+pub returns-in-Ok-Show-clause-taken : goal.returns-in-Ok-Show-clause-taken
+returns-in-Ok-Show-clause-taken g c = takes-none 67112960 (g.S.Source.left c.args.source.now)
 
 pub returns-in-Ok-Verify-clause-grows : goal.returns-in-Ok-Verify-clause-grows
 returns-in-Ok-Verify-clause-grows g c = grows_none (g.D.Disk.told c.args.disk)

@@ -1,5 +1,11 @@
-use Rattle.im_words.proofs.FormLemmas.{asks_one}
+use Rattle.im_words.proofs.FormLemmas.{asks_one, run_not_show, verify_not_show}
 use Rattle.im_words.proofs.laws.not_both.Goals as goal
 
-pub returns : goal.returns
-returns c = asks_one
+pub returns-clause-run_verify : goal.returns-clause-run_verify
+returns-clause-run_verify c = asks_one
+
+pub returns-clause-run_show : goal.returns-clause-run_show
+returns-clause-run_show c = run_not_show
+
+pub returns-clause-verify_show : goal.returns-clause-verify_show
+returns-clause-verify_show c = verify_not_show
