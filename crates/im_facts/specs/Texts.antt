@@ -25,15 +25,15 @@ unfoldable pub forked_line : ℕ → List ℕ → List ℕ → List ℕ
 forked_line n x y = codes "forked " ++ decimal n ++ codes " 0x" ++ encode_lower x ++ codes " 0x" ++ encode_lower y ++ codes "\n"
 
 -- what is written of line n, by the answer to it: nothing where it is passed over
-abbrev pub answer_line : ℕ → Option Taken → List ℕ
-answer_line n None = []
-answer_line n (Some (took.Accepted shown)) = accepted_line n shown
-answer_line n (Some (took.Refused fault)) = refused_line n fault
-answer_line n (Some (took.Forked x y)) = forked_line n x y
+abbrev pub taken_line : ℕ → Option Taken → List ℕ
+taken_line n None = []
+taken_line n (Some (took.Accepted shown)) = accepted_line n shown
+taken_line n (Some (took.Refused fault)) = refused_line n fault
+taken_line n (Some (took.Forked x y)) = forked_line n x y
 
 -- by what became of it
 abbrev pub verdict_line : ℕ → Verdict → List ℕ
-verdict_line n verdict = answer_line n (taken_of verdict)
+verdict_line n verdict = taken_line n (taken_of verdict)
 
 -- what is written of lines from line n on
 abbrev pub verdict_lines : ℕ → List Verdict → List ℕ

@@ -2,7 +2,7 @@
 
 ghost use Rattle.std.specs.Prelude.{◌≡◌, ◌++◌, codes, IfOk, OnOk};
 ghost use Rattle.std.specs.Fmt.{decimal};
-ghost use Rattle.im_facts.specs.Texts.{accepted_line, answer_line, fact_text, forked_line};
+ghost use Rattle.im_facts.specs.Texts.{accepted_line, taken_line, fact_text, forked_line};
 
 use crate::taken::{Shown, Taken};
 use im_client::texts::refused_text;
@@ -59,8 +59,8 @@ fn forked_text(alloc: Global, n: u64, x: &[u8], y: &[u8]) -> Result<Vec<u8>, All
 }
 
 /// What is written of line n, with its LF: nothing where it is passed over.
-pub fn answer_text(alloc: Global, n: u64, taken: &Option<Taken>) -> Result<Vec<u8>, AllocError>
-    ensures { IfOk result (λ text. text.items ≡ answer_line n taken.now) }
+pub fn taken_text(alloc: Global, n: u64, taken: &Option<Taken>) -> Result<Vec<u8>, AllocError>
+    ensures { IfOk result (λ text. text.items ≡ taken_line n taken.now) }
 {
     match taken {
         None => Ok(Vec::new(alloc)),

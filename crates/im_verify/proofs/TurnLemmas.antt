@@ -17,7 +17,7 @@ use Rattle.im_pairs.specs.Pairs.{GivesDigests}
 use Rattle.im_facts.specs.Accepted.{IsClient}
 use Rattle.im_facts.specs.Facts.{Known}
 use Rattle.im_facts.specs.Folds.{AreVerdicts, IsVerdict, known_by, known_by_all}
-use Rattle.im_facts.specs.Texts.{answer_line, verdict_line, verdict_lines}
+use Rattle.im_facts.specs.Texts.{taken_line, verdict_line, verdict_lines}
 use Rattle.im_facts.specs.Verdicts.{Verdict, Passed, Accepted, Refused, Forked, IsForked, taken_of}
 use Rattle.im_facts.specs.declared.taken.Taken.{Taken}
 use Rattle.im_verify.specs.Judged.{kept_text, kept_texts, up_to_fork, IsRefused, NoneForked, NoneRefused, SomeRefused}
@@ -112,12 +112,12 @@ kept-told known next taken messages message v answer follows lent last =
 
 turn-of : (hash : Hash) (number : ℕ) (line : List ℕ) (known next : Known) (taken : Option Taken) (messages : List Message) (message : Option Message) (end : LineEnd) (from to : WrittenAndKept)
     → Told hash known next line taken → messages ≡ next.messages → message ≡ last_accepted taken messages → end ≡ end_of taken
-    → WritesAndKeeps (answer_line number taken) (message_text message) from to → LineTurn hash number line end known next from to
+    → WritesAndKeeps (taken_line number taken) (message_text message) from to → LineTurn hash number line end known next from to
 turn-of hash number line known next taken messages message end from to (v, is, answer, follows) lent last e adds = record {
   verdict = v;
   is = is;
   tells = subst (λ (ts : List (List ℕ)). WritesAndKeeps (verdict_line number v) ts from to) (kept-told known next taken messages message v answer follows lent last)
-      (subst (λ (t : Option Taken). WritesAndKeeps (answer_line number t) (message_text message) from to) answer adds);
+      (subst (λ (t : Option Taken). WritesAndKeeps (taken_line number t) (message_text message) from to) answer adds);
   follows = follows;
   ends = e ∙ ap end_of answer;
 }
@@ -125,19 +125,19 @@ turn-of hash number line known next taken messages message end from to (v, is, a
 -- a line was taken, told and kept
 pub turn-told : (hash : Hash) (number : ℕ) (line : List ℕ) (known next : Known) (taken : Option Taken) (messages : List Message) (message : Option Message) (from to : WrittenAndKept) (result : Result LineEnd Stop)
     → Told hash known next line taken → messages ≡ next.messages → message ≡ last_accepted taken messages → IfOk result (λ end. end ≡ end_of taken)
-    → OnOk result (WritesAndKeeps (answer_line number taken) (message_text message) from to) → IfOk result (λ end. LineTurn hash number line end known next from to)
+    → OnOk result (WritesAndKeeps (taken_line number taken) (message_text message) from to) → IfOk result (λ end. LineTurn hash number line end known next from to)
 turn-told hash number line known next taken messages message from to (Ok end) told lent last e adds = turn-of hash number line known next taken messages message end from to told lent last e adds
 turn-told hash number line known next taken messages message from to (Err stop) told lent last e adds = tt
 
 -- it was told in part
 pub half-told : (hash : Hash) (number : ℕ) (line : List ℕ) (known next : Known) (taken : Option Taken) (messages : List Message) (message : Option Message) (from to : WrittenAndKept)
     → Told hash known next line taken → messages ≡ next.messages → message ≡ last_accepted taken messages
-    → AddsPart (answer_line number taken) (message_text message) from to → HalfTurn hash number line known from to
+    → AddsPart (taken_line number taken) (message_text message) from to → HalfTurn hash number line known from to
 half-told hash number line known next taken messages message from to (v, is, answer, follows) lent last adds = record {
   verdict = v;
   is = is;
   tells = subst (λ (ts : List (List ℕ)). AddsPart (verdict_line number v) ts from to) (kept-told known next taken messages message v answer follows lent last)
-      (subst (λ (t : Option Taken). AddsPart (answer_line number t) (message_text message) from to) answer adds);
+      (subst (λ (t : Option Taken). AddsPart (taken_line number t) (message_text message) from to) answer adds);
 }
 
 -- its message was accepted

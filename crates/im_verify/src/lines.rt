@@ -3,7 +3,7 @@ ghost use Rattle.std.specs.Option.{option_map};
 ghost use Rattle.im_edge.specs.Counts.{Rose};
 ghost use Rattle.im_facts.specs.Accepted.{IsClient};
 ghost use Rattle.im_facts.specs.Folds.{IsVerdict};
-ghost use Rattle.im_facts.specs.Texts.{answer_line};
+ghost use Rattle.im_facts.specs.Texts.{taken_line};
 ghost use Rattle.im_facts.specs.Verdicts.{Accepted};
 ghost use Rattle.im_wire.specs.declared.messages.Message.{Message as TheMessage};
 ghost use Rattle.im_verify.specs.Turns.{done, end_by, end_of, last_accepted, message_text, WritesAndKeeps, AddsPart, HalfTurn, TakesAll, TakesAt, TakesInto, TakesSome, LineTurn};
@@ -14,7 +14,7 @@ use im_edge::keeper::Keeper;
 use im_edge::sink::{Sink, write_all};
 use im_facts::clients::FactClient;
 use im_facts::taken::Taken;
-use im_facts::texts::answer_text;
+use im_facts::texts::taken_text;
 use im_text::cuts::first_line;
 use im_wire::messages::Message;
 use im_wire::writing::write;
@@ -106,9 +106,9 @@ fn keep_and_tell<K: Sink, P: Keeper>(
     message: Option<&Message>,
 ) -> Result<LineEnd, Stop>
     ensures end { IfOk result (λ end. end ≡ end_of taken.now) }
-    ensures ok { OnOk result (WritesAndKeeps (answer_line number taken.now) (message_text (option_copied message.entry))
+    ensures ok { OnOk result (WritesAndKeeps (taken_line number taken.now) (message_text (option_copied message.entry))
         (done (K.written sink.old) (P.kept keeper.old)) (done (K.written sink.new) (P.kept keeper.new))) }
-    ensures part { result ≡ Err Stop.WriteFault → AddsPart (answer_line number taken.now) (message_text (option_copied message.entry))
+    ensures part { result ≡ Err Stop.WriteFault → AddsPart (taken_line number taken.now) (message_text (option_copied message.entry))
         (done (K.written sink.old) (P.kept keeper.old)) (done (K.written sink.new) (P.kept keeper.new)) }
     ensures nothing { (result ≡ Err Stop.KeeperFault) ⊎ (result ≡ Err Stop.Memory) →
         (K.written sink.new ≡ K.written sink.old) × (P.kept keeper.new ≡ P.kept keeper.old) }
@@ -120,7 +120,7 @@ fn keep_and_tell<K: Sink, P: Keeper>(
     ensures sink_once { K.faults sink.new ≤ K.faults sink.old + 1 }
     ensures keeper_once { P.faults keeper.new ≤ P.faults keeper.old + 1 }
 {
-    let told = answer_text(alloc, number, taken)?;
+    let told = taken_text(alloc, number, taken)?;
     keep(alloc, keeper, message)?;
     write_all(sink, told.as_slice())?;
     Ok(end_of(taken))
