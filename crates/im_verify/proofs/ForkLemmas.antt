@@ -1,14 +1,14 @@
 -- Verdicts up to the first fork, verdicts that are one but for the strings of a fork, and the pair that is told.
-use Rattle.std.proofs.Common.{◌≡◌, ◌+◌, ◌<◌, ℕ, List, [], ◌∷◌, ◌++◌, length, get_or, refl, sym, ap, subst, arith, inl, inr, length-append}
+use Rattle.std.proofs.Common.{◌≡◌, ◌+◌, ◌<◌, ℕ, List, [], ◌∷◌, ◌++◌, length, get_or, Some, refl, sym, ap, subst, arith, inl, inr, length-append}
 use Rattle.std.specs.List.{All, Any}
 use Rattle.std.proofs.lemmas.List.Elements.{All-nil, All-cons, All-head, All-tail}
 use Rattle.im_digest.specs.Digests.{Hash}
-use Rattle.im_pairs.specs.Pairs.{GivesDigests, IsPair}
-use Rattle.im_hashed.specs.Messages.{strings_of}
+use Rattle.im_pairs.specs.Pairs.{GivesDigests}
+use Rattle.im_wire.specs.Lines.{IsLine}
 use Rattle.im_wire.specs.declared.messages.Message.{Message}
 use Rattle.im_facts.specs.Accepted.{IsClient}
 use Rattle.im_facts.specs.Facts.{Known}
-use Rattle.im_facts.specs.Folds.{AreVerdicts, IsVerdict, known_by, known_by_all}
+use Rattle.im_facts.specs.Folds.{AreVerdicts, IsForkedBy, IsVerdict, known_by, known_by_all}
 use Rattle.im_facts.specs.Verdicts.{Verdict, Passed, Accepted, Refused, Forked, IsForked, IsSameVerdict, AreSameVerdicts}
 use Rattle.im_facts.proofs.ForkLemmas.{second-fact}
 use Rattle.im_facts.proofs.VerdictSome.{line-fits, verdict-exists, verdicts-exist}
@@ -98,17 +98,18 @@ none-refused-same vs ws s none = none-same IsRefused refused-back vs ws s none
 pub none-forked-same : (vs ws : List Verdict) → AreSameVerdicts vs ws → NoneForked vs → NoneForked ws
 none-forked-same vs ws s none = none-same IsForked forked-back vs ws s none
 
--- a pair among the strings hashed for what is known behind these lines and for one message more
-abbrev ForkBehind : Hash → Known → List Verdict → List ℕ → List ℕ → Type 0
-ForkBehind hash known front x y = (message : Message) × IsPair hash x y (strings_of hash ((known_by_all known front).messages ++ message ∷ []))
+-- the line behind those of these verdicts is a message that is forked with these strings, behind them
+abbrev ForkBehind : Hash → Known → List (List ℕ) → List Verdict → List ℕ → List ℕ → Type 0
+ForkBehind hash known texts front x y =
+    (message : Message) × IsLine (get_or texts (length front) []) (Some message) × IsForkedBy hash (known_by_all known front) message x y
 
 nil-not-more : (front : List Verdict) (v : Verdict) → [] ≡ front ++ v ∷ [] → ⊥
 nil-not-more [] v e = cc
 nil-not-more (w ∷ front) v e = cc
 
--- the fork that ends what is told comes with such a pair
+-- the fork that ends what is told is of such a line
 pub fork-behind : (hash : Hash) (known : Known) (texts : List (List ℕ)) (vs front : List Verdict) (x y : List ℕ) → AreVerdicts hash known texts vs
-    → up_to_fork vs ≡ front ++ Forked x y ∷ [] → ForkBehind hash known front x y
+    → up_to_fork vs ≡ front ++ Forked x y ∷ [] → ForkBehind hash known texts front x y
 fork-behind hash known [] [] front x y f e = absurd (nil-not-more front (Forked x y) e)
 fork-behind hash known [] (v ∷ vs) front x y f e = absurd f
 fork-behind hash known (l ∷ texts) [] front x y f e = absurd f
@@ -119,7 +120,7 @@ fork-behind hash known (l ∷ texts) (Passed ∷ vs) (w ∷ front) x y f e =
     let now : Passed ∷ up_to_fork vs ≡ w ∷ (front ++ Forked x y ∷ []) = e in
     let same : Passed ≡ w = cc in
     let rest : up_to_fork vs ≡ front ++ Forked x y ∷ [] = cc in
-    subst (λ (v : Verdict). ForkBehind hash (known_by known v) front x y) same (fork-behind hash (known_by known Passed) texts vs front x y f.1 rest)
+    subst (λ (v : Verdict). ForkBehind hash (known_by known v) texts front x y) same (fork-behind hash (known_by known Passed) texts vs front x y f.1 rest)
 fork-behind hash known (l ∷ texts) (Accepted m ∷ vs) [] x y f e =
     let now : Accepted m ∷ up_to_fork vs ≡ Forked x y ∷ [] = e in
     absurd cc
@@ -127,7 +128,7 @@ fork-behind hash known (l ∷ texts) (Accepted m ∷ vs) (w ∷ front) x y f e =
     let now : Accepted m ∷ up_to_fork vs ≡ w ∷ (front ++ Forked x y ∷ []) = e in
     let same : Accepted m ≡ w = cc in
     let rest : up_to_fork vs ≡ front ++ Forked x y ∷ [] = cc in
-    subst (λ (v : Verdict). ForkBehind hash (known_by known v) front x y) same (fork-behind hash (known_by known (Accepted m)) texts vs front x y f.1 rest)
+    subst (λ (v : Verdict). ForkBehind hash (known_by known v) texts front x y) same (fork-behind hash (known_by known (Accepted m)) texts vs front x y f.1 rest)
 fork-behind hash known (l ∷ texts) (Refused fault ∷ vs) [] x y f e =
     let now : Refused fault ∷ up_to_fork vs ≡ Forked x y ∷ [] = e in
     absurd cc
@@ -135,13 +136,12 @@ fork-behind hash known (l ∷ texts) (Refused fault ∷ vs) (w ∷ front) x y f 
     let now : Refused fault ∷ up_to_fork vs ≡ w ∷ (front ++ Forked x y ∷ []) = e in
     let same : Refused fault ≡ w = cc in
     let rest : up_to_fork vs ≡ front ++ Forked x y ∷ [] = cc in
-    subst (λ (v : Verdict). ForkBehind hash (known_by known v) front x y) same (fork-behind hash (known_by known (Refused fault)) texts vs front x y f.1 rest)
+    subst (λ (v : Verdict). ForkBehind hash (known_by known v) texts front x y) same (fork-behind hash (known_by known (Refused fault)) texts vs front x y f.1 rest)
 fork-behind hash known (l ∷ texts) (Forked u v ∷ vs) [] x y f e =
     let now : Forked u v ∷ [] ≡ Forked x y ∷ [] = e in
     let left : u ≡ x = cc in
     let right : v ≡ y = cc in
-    let all : List (List ℕ) = strings_of hash (known.messages ++ f.0.0 ∷ []) in
-    (f.0.0, subst (λ (a : List ℕ). IsPair hash a y all) left (subst (λ (b : List ℕ). IsPair hash u b all) right f.0.2.pair))
+    (f.0.0, f.0.1, subst (λ (a : List ℕ). IsForkedBy hash known f.0.0 a y) left (subst (λ (b : List ℕ). IsForkedBy hash known f.0.0 u b) right f.0.2))
 fork-behind hash known (l ∷ texts) (Forked u v ∷ vs) (w ∷ front) x y f e =
     let now : Forked u v ∷ [] ≡ w ∷ (front ++ Forked x y ∷ []) = e in
     let rest : [] ≡ front ++ Forked x y ∷ [] = cc in

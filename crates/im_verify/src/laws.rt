@@ -1,10 +1,10 @@
-ghost use Rattle.std.specs.Prelude.{◌≡◌, ◌⊎◌, ◌++◌, ℕ, List, [], ◌∷◌, Option};
+ghost use Rattle.std.specs.Prelude.{◌≡◌, ◌⊎◌, ◌++◌, ℕ, List, [], ◌∷◌, length, get_or, Option, Some};
 ghost use Rattle.im_digest.specs.Digests.{Hash};
-ghost use Rattle.im_pairs.specs.Pairs.{GivesDigests, IsPair};
-ghost use Rattle.im_hashed.specs.Messages.{strings_of};
+ghost use Rattle.im_pairs.specs.Pairs.{GivesDigests};
+ghost use Rattle.im_wire.specs.Lines.{IsLine};
 ghost use Rattle.im_wire.specs.declared.messages.Message.{Message};
 ghost use Rattle.im_facts.specs.Facts.{nothing};
-ghost use Rattle.im_facts.specs.Folds.{known_by_all};
+ghost use Rattle.im_facts.specs.Folds.{IsForkedBy, known_by_all};
 ghost use Rattle.im_facts.specs.Verdicts.{Verdict, Forked};
 ghost use Rattle.im_verify.specs.Judged.{kept_texts, up_to_fork, AreJudged, AreTaken, StopsKept};
 ghost use Rattle.im_verify.specs.Runs.{BreaksAt, BreaksInto, BreaksOff, KeepsFirst};
@@ -36,10 +36,12 @@ pub fn what_is_kept_is_taken()
         × (known_by_all nothing again ≡ known_by_all (known_by_all nothing judged.before) (up_to_fork verdicts)) }
 {}
 
-/// The two strings that a run tells at a fork are unequal, have one digest, and are both among those hashed in checking the
-/// messages that are known there, which the kept lines and the lines of the stream before it gave, and the forked one.
+/// The fork that a run tells is of a line of the stream: the line behind those that were told before is a message that passes
+/// each check and shows a fact unlike a kept one, and the two strings are unequal, have one digest, and are both among those
+/// hashed in checking the messages known there, which the kept lines and the lines before gave, and this one.
 pub fn a_fork_is_of_the_lines()
     ensures { (hash : Hash) (kept texts : List (List ℕ)) (verdicts front : List Verdict) (x y : List ℕ) (judged : AreJudged hash kept texts verdicts)
         → up_to_fork verdicts ≡ front ++ Forked x y ∷ []
-        → (message : Message) × IsPair hash x y (strings_of hash ((known_by_all (known_by_all nothing judged.before) front).messages ++ message ∷ [])) }
+        → (message : Message) × IsLine (get_or texts (length front) []) (Some message)
+        × IsForkedBy hash (known_by_all (known_by_all nothing judged.before) front) message x y }
 {}
