@@ -73,12 +73,13 @@ pub fn top<
     // `run`, done: the octets written are the report of the script, from the history that the disk was found with to
     // the one that its files now stand for, whatever a crash does to them. Cut at each LF they are one line for each
     // reply, as `verify` reads them. Each line that is a message is accepted by every client that keeps the header it
-    // is for, a state by one that keeps none too, and whose facts are facts of that history; that client then keeps the header
-    // that the message leads to, and facts of the history still; every other line is passed over. In the files each new transaction stands in a batch of its own, its values put
-    // over as many value logs as the words ask for. The disk got the opening's sync, the closing of the gate where it was
-    // missing or cut off, and for each new transaction the writes of its batch, a sync, the octet at the gate, and a sync;
-    // no other call that changes it. Each has the time that the clock gave for it: where the clock tells the times that it gave,
-    // it was asked once for each new transaction, in order, and for nothing else.
+    // is for, a state by one that keeps none too, and whose facts are facts of that history; that client then keeps
+    // the header that the message leads to, and facts of the history still; every other line is passed over. In the
+    // files each new transaction stands in a batch of its own, its values put over as many value logs as the words
+    // ask for. The disk got the opening's sync, the closing of the gate where it was missing or cut off, and for each
+    // new transaction the writes of its batch, a sync, the octet at the gate, and a sync; no other call that changes
+    // it. Each has the time that the clock gave for it: where the clock tells the times that it gave, it was asked
+    // once for each new transaction, in order, and for nothing else.
     ensures report { (asks : AsksRun (map string_bytes words.now)) → result.status ≡ Status.Ok
         → WritesReport (H.digest hash.now) (C.constant clock) asks.0 (S.left source.old) (D.told disk) (D.told result.disk) (C.given clock) (C.given result.clock) (K.written sink.old) (K.written sink.new) }
 

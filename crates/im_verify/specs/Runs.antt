@@ -1,6 +1,6 @@
--- What a run writes and keeps: the lines that tell what became of a stream's lines, up to the first that is forked, and
--- the texts of the accepted messages behind the kept lines. The stream is what the source held, where it tells that, and the kept lines
--- are those that the keeper held, where it tells them.
+-- What a run writes and keeps: the lines that tell what became of a stream's lines, up to the first that is forked,
+-- and the texts of the accepted messages behind the kept lines. The stream is what the source held, where it tells
+-- that, and the kept lines are those that the keeper held, where it tells them.
 use Rattle.std.specs.Prelude.{◌≡◌, ◌<◌, ◌≤◌, ◌+◌, ℕ, List, [], ◌∷◌, ◌++◌, length, take, Option, IfSome}
 use Rattle.std.specs.Option.{option_map}
 use Rattle.std.specs.Io.KnownBytes.{Appends}
