@@ -8,11 +8,11 @@ use Rattle.im_model.proofs.TreeLemmas.{split-within}
 use Rattle.im_proof.specs.Built.{growth_first_within, growth_rest_within, growth_first, growth_rest, consistency}
 
 -- a smaller number differs
-differ : (m n : ℕ) → m < n → m ≢ n
+pub differ : (m n : ℕ) → m < n → m ≢ n
 differ m n l = λ e. absurd (omega arith)
 
 -- of numbers that are at most another those that differ are smaller
-less : (m n : ℕ) → m ≤ n → m ≢ n → m < n
+pub less : (m n : ℕ) → m ≤ n → m ≢ n → m < n
 less m n h ne = elim (cases_lt m n) [ inl q ↦ q | inr q ↦ absurd (ne (let e : m ≡ n = omega arith in e)) ]
 
 first-whole : (room : ℕ) (hash : Hash) (leaves : List (List ℕ)) (m : ℕ) → m ≡ length leaves → growth_first_within (suc room) hash leaves m ≡ root hash leaves
@@ -112,7 +112,7 @@ built-room (suc a) (suc b) hash leaves m o l p q =
     ]
 
 -- the whole tree has its root as the first term, and no other
-whole-list : (hash : Hash) (leaves : List (List ℕ)) (m : ℕ) → 0 < m → m ≡ length leaves → (growth_first hash leaves m ≡ root hash leaves) × (growth_rest hash leaves m ≡ [])
+pub whole-list : (hash : Hash) (leaves : List (List ℕ)) (m : ℕ) → 0 < m → m ≡ length leaves → (growth_first hash leaves m ≡ root hash leaves) × (growth_rest hash leaves m ≡ [])
 unfolding growth_first growth_rest
 whole-list hash [] m o e = absurd (omega arith)
 whole-list hash (leaf ∷ leaves) m o e = (first-whole (length leaves) hash (leaf ∷ leaves) m e, rest-whole (length leaves) hash (leaf ∷ leaves) m e)
@@ -123,7 +123,7 @@ Steps hash leaves m inside beside older =
     (growth_first hash leaves m ≡ growth_first hash inside older) × (growth_rest hash leaves m ≡ root hash beside ∷ growth_rest hash inside older)
 
 -- up to the split
-low-steps : (hash : Hash) (leaves : List (List ℕ)) (m : ℕ) → 0 < m → m < length leaves → m ≤ split_of (length leaves)
+pub low-steps : (hash : Hash) (leaves : List (List ℕ)) (m : ℕ) → 0 < m → m < length leaves → m ≤ split_of (length leaves)
     → Steps hash leaves m (take (split_of (length leaves)) leaves) (drop (split_of (length leaves)) leaves) m
 unfolding growth_first growth_rest
 low-steps hash [] m o l side = absurd (omega arith)
@@ -139,7 +139,7 @@ low-steps hash (leaf ∷ more) m o l side =
     )
 
 -- past the split
-high-steps : (hash : Hash) (leaves : List (List ℕ)) (m : ℕ) → 0 < m → m < length leaves → split_of (length leaves) < m
+pub high-steps : (hash : Hash) (leaves : List (List ℕ)) (m : ℕ) → 0 < m → m < length leaves → split_of (length leaves) < m
     → Steps hash leaves m (drop (split_of (length leaves)) leaves) (take (split_of (length leaves)) leaves) (m - split_of (length leaves))
 unfolding growth_first growth_rest
 high-steps hash [] m o l side = absurd (omega arith)
@@ -178,7 +178,7 @@ unfolding consistency
 list_whole hash leaves m e = ap (λ b. if b then [] else growth_first hash leaves m ∷ reverse (growth_rest hash leaves m)) (eq-eqb m (length leaves) e)
 
 -- else it is its first term and those behind it
-list_grown : (hash : Hash) (leaves : List (List ℕ)) (m : ℕ) → m ≢ length leaves → consistency hash leaves m ≡ growth_first hash leaves m ∷ reverse (growth_rest hash leaves m)
+pub list_grown : (hash : Hash) (leaves : List (List ℕ)) (m : ℕ) → m ≢ length leaves → consistency hash leaves m ≡ growth_first hash leaves m ∷ reverse (growth_rest hash leaves m)
 unfolding consistency
 list_grown hash leaves m ne = ap (λ b. if b then [] else growth_first hash leaves m ∷ reverse (growth_rest hash leaves m)) (ne_eqb m (length leaves) ne)
 
