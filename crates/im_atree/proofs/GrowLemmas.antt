@@ -8,20 +8,13 @@ use Rattle.im_model.specs.Growth.{growth_length_within, growth_length, consisten
 use Rattle.im_model.proofs.TreeLemmas.{split-within}
 use Rattle.im_model.proofs.Lengths.{growth-same, growth-left, growth-right, consistency-more}
 use Rattle.im_model.proofs.Reversed.{older-nothing, newer-nothing, older-last-left, older-last-right, newer-last-left, newer-last-right}
+use Rattle.im_levels.proofs.GrowthLemmas.{differ, less}
 use Rattle.im_mtree.specs.Ways.{sides, rise}
 use Rattle.im_mtree.proofs.SideLemmas.{split-half, split-two, sides-left, sides-right, sides-one, rise-snoc}
 use Rattle.im_mtree.proofs.WayLemmas.{rise-end}
 use Rattle.im_atree.specs.Grows.{grow_sides_within, grow_sides, meet_both}
 use Rattle.im_atree.specs.declared.growths.Roots.{Roots}
 use Rattle.im_octet.proofs.Common.{last-term}
-
--- a smaller number is another
-pub differ : (m n : ℕ) → m < n → m ≢ n
-differ m n l = λ e. absurd (omega arith)
-
--- of numbers that are at most another those that differ are smaller
-pub less : (m n : ℕ) → m ≤ n → m ≢ n → m < n
-less m n h ne = elim (cases_lt m n) [ inl q ↦ q | inr q ↦ absurd (ne (let e : m ≡ n = omega arith in e)) ]
 
 same-within : (room m n : ℕ) → m ≡ n → grow_sides_within room m n ≡ []
 unfolding grow_sides_within

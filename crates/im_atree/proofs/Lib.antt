@@ -1,3 +1,2 @@
-pub mod BuiltLemmas
 pub mod GrowLemmas
 pub mod PassLemmas

@@ -19,8 +19,7 @@ use Rattle.im_proof.specs.TreeChecks.{inclusion_checks, consistency_checks, last
 use Rattle.im_proof.specs.declared.faults.DualFault.TheVariants.{ConsistencyLength, ConsistencyOld, ConsistencyNew, BlAlh}
 use Rattle.im_octet.proofs.Common.{bytes-same}
 use Rattle.im_mtree.proofs.CheckLemmas.{one-holds, two-hold, three-hold, when-true, when-false}
-use Rattle.im_atree.proofs.GrowLemmas.{less}
-use Rattle.im_atree.proofs.BuiltLemmas.{Steps, low-steps, high-steps, whole-list, list_whole, list_grown}
+use Rattle.im_levels.proofs.GrowthLemmas.{less, Steps, low-steps, high-steps, whole-list, list_whole, list_grown}
 
 -- a first term and those behind it fit the sizes, and give both roots
 pub record Grows (hash : Hash) (leaves : List (List ℕ)) (m n : ℕ) (first : List ℕ) (rest : List (List ℕ)) : Type 0 where

@@ -5,4 +5,5 @@
 pub mod built;
 pub mod checks;
 pub mod growths;
+pub mod list_trees;
 pub mod trees;

@@ -1,14 +1,31 @@
-use crate::built::consistency;
-use im_digest::{D32, Hash32};
-use im_mtree::digests::Digests;
-use im_mtree::paths::path;
-use im_mtree::roots::root;
-use std::alloc::{AllocError, Global};
-use std::marker::Model;
+ghost use Rattle.std.specs.Prelude.{◌≡◌, ◌<◌, ◌≤◌, ◌+◌, ◌-◌, ℕ, List, [], ◌∷◌, ◌++◌, length, take, reverse, slice_index_or, IfOk, OnOk, OnErr, Ok};
+ghost use Rattle.im_model.specs.Trees.{root};
+ghost use Rattle.im_model.specs.Paths.{path_length, up};
+ghost use Rattle.im_model.specs.Growth.{consistency_length};
+ghost use Rattle.im_mtree.specs.Checks.{first_fail};
+ghost use Rattle.im_proof.specs.Built.{path_of, consistency};
+ghost use Rattle.im_proof.specs.TreeChecks.{consistency_checks};
+ghost use Rattle.im_levels.specs.Leveled.{IsLeveled};
 
-/// A hash tree that leaves are added to at its end. A clause sees the list of its leaves: the Alh of
-/// transaction k at place k - 1. It keeps the leaves alone, 32 octets each: every root and every proof is
-/// hashed afresh.
+use im_digest::{D32, Hash32};
+use im_levels::growth::add_leaf;
+use im_levels::nodes::part_root;
+use im_levels::parts::Part;
+use im_levels::steps::Steps;
+use im_levels::walks::{list_down, path_down};
+use im_mtree::digests::Digests;
+use im_mtree::paths::turned;
+use std::alloc::{AllocError, Global};
+use std::marker::{Brand, Model};
+use std::sync::ledger::{Blank, Ledger};
+
+/// A hash tree that leaves are added to at its end. It keeps the digests of all its whole subtrees: of each
+/// leaf, and of a node for each whole pair of these, and so on. A leaf is the Alh of a transaction, and is
+/// hashed once, as it is added; the leaf itself isn't kept. The digests stand in one vector, in the order in
+/// which the subtrees become whole: for n leaves fewer than 2n digests of 32 octets.
+///
+/// A clause sees the digests and the number of leaves. Whose they are, and under which hash, is the condition
+/// `IsLeveled`: each call that takes a hash is spoken of under the hash of the calls before it.
 ///
 /// # Thread safety
 ///
@@ -16,79 +33,191 @@ use std::marker::Model;
 ///
 /// # Invariants
 ///
-/// A leaf stays at its place: `append` adds one at the end, and nothing else changes the list.
+/// There are as many digests as whole subtrees. A digest stays at its place: `append` adds some at the end, and
+/// nothing else changes the list.
 #[derive(Drop)]
 pub struct Tree {
-    leaves: Vec<D32>,
+    digests: Vec<D32>,
+    size: usize,
 }
 
 impl Model for Tree {
-    ghost use Rattle.std.specs.Prelude.{ℕ, List};
+    ghost use Rattle.std.specs.Prelude.{◌≡◌, length};
+    ghost use Rattle.im_levels.specs.Counts.{whole};
+    ghost use Rattle.im_levels.specs.Leveled.{Stored, stored};
 
-    ghost Value = { List (List ℕ) };
+    ghost Value = { Stored };
 
-    ghost view = { λ s. s.leaves.items };
+    ghost view = { λ s. stored s.digests.items s.size };
+
+    ghost invariant = { λ s. length s.digests.items ≡ whole s.size };
 }
 
 impl Tree {
-    ghost use Rattle.std.specs.Prelude.{◌≡◌, ◌≤◌, ◌-◌, [], ◌∷◌, ◌++◌, length, take, reverse, slice_index_or, IfOk, OnOk, OnErr, Ok};
+    ghost use Rattle.std.specs.Prelude.{◌≡◌, ◌<◌, ◌≤◌, ◌+◌, ◌-◌, ◌*◌, ◌^◌, ℕ, List, [], ◌∷◌, ◌++◌, length, take, reverse, slice_index_or, count_ones, IfOk, OnOk, OnErr, Ok};
+    ghost use Rattle.im_digest.specs.Digests.{Hash};
     ghost use Rattle.im_model.specs.Trees.{root};
     ghost use Rattle.im_model.specs.Paths.{path_length, up};
     ghost use Rattle.im_model.specs.Growth.{consistency_length};
     ghost use Rattle.im_mtree.specs.Checks.{first_fail};
     ghost use Rattle.im_proof.specs.Built.{path_of, consistency};
     ghost use Rattle.im_proof.specs.TreeChecks.{consistency_checks};
+    ghost use Rattle.im_levels.specs.Counts.{whole};
+    ghost use Rattle.im_levels.specs.Leveled.{IsLeveled};
 
     /// A tree of no leaves. It takes no memory.
     pub fn new(alloc: Global) -> Self
-        ensures { result ≡ [] }
+        ensures size { result.size ≡ 0 }
+        ensures leaves { (hash : Hash) → IsLeveled hash [] result }
     {
         Tree {
-            leaves: Vec::new(alloc),
+            digests: Vec::new(alloc),
+            size: 0,
         }
-    }
-
-    /// Adds a leaf at the end, and gives the new size. Its only error is want of memory, and the tree is
-    /// then unchanged.
-    pub fn append(&mut self, alh: &D32) -> Result<u64, AllocError>
-        ensures size { IfOk result (λ size. size ≡ length self.new) }
-        ensures ok { OnOk result (self.new ≡ self.old ++ alh.now ∷ []) }
-        ensures err { OnErr result (self.new ≡ self.old) }
-    {
-        self.leaves.push(*alh)?;
-        Ok(self.leaves.len() as u64)
     }
 
     /// The number of leaves.
     pub fn size(&self) -> u64
-        ensures { result ≡ length self.now }
+        ensures { result ≡ self.now.size }
     {
-        self.leaves.len() as u64
+        self.size as u64
     }
 
-    /// The leaf of transaction i, from 1.
-    pub fn leaf(&self, i: u64) -> &D32
-        requires some { 1 ≤ i }
-        requires within { i ≤ length self.now }
-        ensures { result.now ≡ slice_index_or self.now (i - 1) [] }
+    /// Adds a leaf at the end, and gives the new size. It hashes a digest for each subtree that becomes whole,
+    /// and reads one for each of them but one: with b binary digits in the new size less than 2b steps. Its
+    /// only error is want of memory, which is asked for once, before anything changes: the tree is then
+    /// unchanged.
+    pub fn append_steps<H: Hash32, L: Ledger>(
+        &mut self,
+        hash: &H,
+        alh: &D32,
+        steps: &mut Steps<L>,
+    ) -> Result<u64, AllocError>
+        ensures size { IfOk result (λ size. size ≡ self.new.size) }
+        ensures ok { OnOk result (self.new.size ≡ self.old.size + 1) }
+        ensures leaves { OnOk result ((leaves : List (List ℕ)) → IsLeveled (H.digest hash.now) leaves self.old
+            → IsLeveled (H.digest hash.now) (leaves ++ alh.now ∷ []) self.new) }
+        ensures err { OnErr result (self.new ≡ self.old) }
+        ensures cost { steps.new + 1 + 2 * whole self.old.size ≡ steps.old + 2 * whole (self.old.size + 1) }
+        ensures bound { (b : ℕ) → self.old.size + 1 < 2 ^ b → steps.new < steps.old + 2 * b }
     {
-        &self.leaves[i as usize - 1]
+        add_leaf(hash, &mut self.digests, self.size, alh, steps)?;
+        self.size += 1;
+        Ok(self.size as u64)
     }
 
-    /// The root of the tree of the first n leaves: MTH of RFC 6962, section 2.1. It takes no memory, and
-    /// hashes each of these leaves and each node above them once.
-    pub fn root_at<H: Hash32>(&self, hash: &H, n: u64) -> D32
+    /// The root of the tree of the first n leaves: MTH of RFC 6962, section 2.1. It takes no memory. It reads
+    /// a digest for each one in the binary digits of n, and hashes a node for each of them but one: with b
+    /// digits less than 2b steps.
+    pub fn root_steps<H: Hash32, L: Ledger>(&self, hash: &H, n: u64, steps: &mut Steps<L>) -> D32
         requires some { 1 ≤ n }
-        requires within { n ≤ length self.now }
-        ensures { result ≡ root (H.digest hash.now) (take n self.now) }
+        requires within { n ≤ self.now.size }
+        ensures value { (leaves : List (List ℕ)) → IsLeveled (H.digest hash.now) leaves self.now
+            → result ≡ root (H.digest hash.now) (take n leaves) }
+        ensures cost { steps.new + 1 ≡ steps.old + 2 * count_ones n }
+        ensures bound { (b : ℕ) → n < 2 ^ b → steps.new < steps.old + 2 * b }
     {
-        root(hash, self.first(n))
+        let digests = self.digests.as_slice();
+        let all = Part {
+            at: 0,
+            width: n as usize,
+        };
+        part_root(hash, digests, all, steps)
     }
 
     /// The path of transaction i, from 1, in the tree of the first n, its terms from the leaf up: PATH of
-    /// RFC 6962, section 2.1.1. It has the exact length, and leads to the tree's root.
-    /// `checks::check_inclusion` is its twin. It hashes once each other one of the first n leaves, and each
-    /// node that isn't above the transaction's own. Its only error is want of memory.
+    /// RFC 6962, section 2.1.1. It has the exact length, and leads to the tree's root. `checks::check_inclusion`
+    /// is its twin. With b binary digits in n it takes at most 4b steps. Its only error is want of memory.
+    pub fn inclusion_steps<H: Hash32, L: Ledger>(
+        &self,
+        alloc: Global,
+        hash: &H,
+        i: u64,
+        n: u64,
+        steps: &mut Steps<L>,
+    ) -> Result<Digests, AllocError>
+        requires some { 1 ≤ i }
+        requires inside { i ≤ n }
+        requires within { n ≤ self.now.size }
+        ensures value { IfOk result (λ path. (leaves : List (List ℕ)) → IsLeveled (H.digest hash.now) leaves self.now
+            → path ≡ path_of (H.digest hash.now) (take n leaves) (i - 1)) }
+        ensures exact { IfOk result (λ path. (leaves : List (List ℕ)) → IsLeveled (H.digest hash.now) leaves self.now
+            → length path ≡ path_length n (i - 1)) }
+        ensures leads { IfOk result (λ path. (leaves : List (List ℕ)) → IsLeveled (H.digest hash.now) leaves self.now
+            → up (H.digest hash.now) n (i - 1) (slice_index_or leaves (i - 1) []) (reverse path) ≡ root (H.digest hash.now) (take n leaves)) }
+        ensures bound { (b : ℕ) → n < 2 ^ b → steps.new ≤ steps.old + 4 * b }
+    {
+        let digests = self.digests.as_slice();
+        let terms = path_down(alloc, hash, digests, n as usize, (i - 1) as usize, steps)?;
+        Ok(turned(terms))
+    }
+
+    /// The consistency list from the first m leaves to the first n: PROOF of RFC 6962, section 2.1.2, with its
+    /// first term always there; empty where both are one number. It has the exact length, and passes its check
+    /// against the roots of both trees. `checks::check_consistency` is its twin. With b binary digits in n it
+    /// takes at most 4b steps. Its only error is want of memory.
+    pub fn consistency_steps<H: Hash32, L: Ledger>(
+        &self,
+        alloc: Global,
+        hash: &H,
+        m: u64,
+        n: u64,
+        steps: &mut Steps<L>,
+    ) -> Result<Digests, AllocError>
+        requires some { 1 ≤ m }
+        requires grows { m ≤ n }
+        requires within { n ≤ self.now.size }
+        ensures value { IfOk result (λ list. (leaves : List (List ℕ)) → IsLeveled (H.digest hash.now) leaves self.now
+            → list ≡ consistency (H.digest hash.now) (take n leaves) m) }
+        ensures exact { IfOk result (λ list. (leaves : List (List ℕ)) → IsLeveled (H.digest hash.now) leaves self.now
+            → length list ≡ consistency_length m n) }
+        ensures passes { IfOk result (λ list. (leaves : List (List ℕ)) → IsLeveled (H.digest hash.now) leaves self.now
+            → first_fail (consistency_checks (H.digest hash.now) m n (root (H.digest hash.now) (take m leaves)) (root (H.digest hash.now) (take n leaves)) list) ≡ Ok tt) }
+        ensures bound { (b : ℕ) → n < 2 ^ b → steps.new ≤ steps.old + 4 * b }
+    {
+        if m == n {
+            return Ok(Digests::from_vec(Vec::new(alloc)));
+        }
+        let digests = self.digests.as_slice();
+        let terms = list_down(alloc, hash, digests, m as usize, n as usize, steps)?;
+        Ok(turned(terms))
+    }
+
+    /// Adds a leaf at the end, and gives the new size, as `append_steps` does.
+    pub fn append<H: Hash32>(&mut self, hash: &H, alh: &D32) -> Result<u64, AllocError>
+        ensures size { IfOk result (λ size. size ≡ self.new.size) }
+        ensures ok { OnOk result (self.new.size ≡ self.old.size + 1) }
+        ensures leaves { OnOk result ((leaves : List (List ℕ)) → IsLeveled (H.digest hash.now) leaves self.old
+            → IsLeveled (H.digest hash.now) (leaves ++ alh.now ∷ []) self.new) }
+        ensures err { OnErr result (self.new ≡ self.old) }
+    {
+        append_counted::<H, Brand>(self, hash, alh, Blank::new(1))
+    }
+
+    /// Adds the leaves of some digests in their order behind all others, each as `append` does. Its only error is
+    /// want of memory, and the tree may then have some of them.
+    pub fn extend<H: Hash32>(&mut self, hash: &H, alhs: &[D32]) -> Result<(), AllocError>
+        ensures size { OnOk result (self.new.size ≡ self.old.size + length alhs.now) }
+        ensures leaves { OnOk result ((leaves : List (List ℕ)) → IsLeveled (H.digest hash.now) leaves self.old
+            → IsLeveled (H.digest hash.now) (leaves ++ alhs.now) self.new) }
+    {
+        for alh in alhs {
+            self.append(hash, alh)?;
+        }
+        Ok(())
+    }
+
+    /// The root of the tree of the first n leaves, as `root_steps` gives it.
+    pub fn root_at<H: Hash32>(&self, hash: &H, n: u64) -> D32
+        requires some { 1 ≤ n }
+        requires within { n ≤ self.now.size }
+        ensures { (leaves : List (List ℕ)) → IsLeveled (H.digest hash.now) leaves self.now
+            → result ≡ root (H.digest hash.now) (take n leaves) }
+    {
+        root_counted::<H, Brand>(self, hash, n, Blank::new(1))
+    }
+
+    /// The path of transaction i, from 1, in the tree of the first n, as `inclusion_steps` gives it.
     pub fn inclusion<H: Hash32>(
         &self,
         alloc: Global,
@@ -98,19 +227,18 @@ impl Tree {
     ) -> Result<Digests, AllocError>
         requires some { 1 ≤ i }
         requires inside { i ≤ n }
-        requires within { n ≤ length self.now }
-        ensures value { IfOk result (λ path. path ≡ path_of (H.digest hash.now) (take n self.now) (i - 1)) }
-        ensures exact { IfOk result (λ path. length path ≡ path_length n (i - 1)) }
-        ensures leads { IfOk result (λ path. up (H.digest hash.now) n (i - 1) (slice_index_or self.now (i - 1) []) (reverse path) ≡ root (H.digest hash.now) (take n self.now)) }
+        requires within { n ≤ self.now.size }
+        ensures value { IfOk result (λ path. (leaves : List (List ℕ)) → IsLeveled (H.digest hash.now) leaves self.now
+            → path ≡ path_of (H.digest hash.now) (take n leaves) (i - 1)) }
+        ensures exact { IfOk result (λ path. (leaves : List (List ℕ)) → IsLeveled (H.digest hash.now) leaves self.now
+            → length path ≡ path_length n (i - 1)) }
+        ensures leads { IfOk result (λ path. (leaves : List (List ℕ)) → IsLeveled (H.digest hash.now) leaves self.now
+            → up (H.digest hash.now) n (i - 1) (slice_index_or leaves (i - 1) []) (reverse path) ≡ root (H.digest hash.now) (take n leaves)) }
     {
-        path(alloc, hash, self.first(n), (i - 1) as usize)
+        inclusion_counted::<H, Brand>(self, alloc, hash, i, n, Blank::new(1))
     }
 
-    /// The consistency list from the first m leaves to the first n: PROOF of RFC 6962, section 2.1.2, with its
-    /// first term always there; empty where both are one number. It has the exact length, and passes its check
-    /// against the roots of both trees. `checks::check_consistency` is its twin. It hashes each of the first n
-    /// leaves once, and nothing where both are one number. Its only error is want of memory.
-    #[tactic(auto, using(crate::proofs::PassLemmas::list_exact, crate::proofs::PassLemmas::list_passes))]
+    /// The consistency list from the first m leaves to the first n, as `consistency_steps` gives it.
     pub fn consistency<H: Hash32>(
         &self,
         alloc: Global,
@@ -120,19 +248,100 @@ impl Tree {
     ) -> Result<Digests, AllocError>
         requires some { 1 ≤ m }
         requires grows { m ≤ n }
-        requires within { n ≤ length self.now }
-        ensures value { IfOk result (λ list. list ≡ consistency (H.digest hash.now) (take n self.now) m) }
-        ensures exact { IfOk result (λ list. length list ≡ consistency_length m n) }
-        ensures passes { IfOk result (λ list. first_fail (consistency_checks (H.digest hash.now) m n (root (H.digest hash.now) (take m self.now)) (root (H.digest hash.now) (take n self.now)) list) ≡ Ok tt) }
+        requires within { n ≤ self.now.size }
+        ensures value { IfOk result (λ list. (leaves : List (List ℕ)) → IsLeveled (H.digest hash.now) leaves self.now
+            → list ≡ consistency (H.digest hash.now) (take n leaves) m) }
+        ensures exact { IfOk result (λ list. (leaves : List (List ℕ)) → IsLeveled (H.digest hash.now) leaves self.now
+            → length list ≡ consistency_length m n) }
+        ensures passes { IfOk result (λ list. (leaves : List (List ℕ)) → IsLeveled (H.digest hash.now) leaves self.now
+            → first_fail (consistency_checks (H.digest hash.now) m n (root (H.digest hash.now) (take m leaves)) (root (H.digest hash.now) (take n leaves)) list) ≡ Ok tt) }
     {
-        consistency(alloc, hash, self.first(n), m as usize)
+        consistency_counted::<H, Brand>(self, alloc, hash, m, n, Blank::new(1))
     }
+}
 
-    // The first n leaves.
-    fn first(&self, n: u64) -> &[D32]
-        requires { n ≤ length self.now }
-        ensures { result.now ≡ take n self.now }
-    {
-        &self.leaves.as_slice()[..n as usize]
-    }
+// `append_steps` with a count of its own.
+fn append_counted<H: Hash32, L: Ledger>(
+    tree: &mut Tree,
+    hash: &H,
+    alh: &D32,
+    blank: Blank,
+) -> Result<u64, AllocError>
+    requires name { blank.name ≡ L.name }
+    requires parts { blank.parts ≡ L.parts }
+    requires one { 0 < blank.parts }
+    ensures size { IfOk result (λ size. size ≡ tree.new.size) }
+    ensures ok { OnOk result (tree.new.size ≡ tree.old.size + 1) }
+    ensures leaves { OnOk result ((leaves : List (List ℕ)) → IsLeveled (H.digest hash.now) leaves tree.old
+        → IsLeveled (H.digest hash.now) (leaves ++ alh.now ∷ []) tree.new) }
+    ensures err { OnErr result (tree.new ≡ tree.old) }
+{
+    let mut steps = Steps::<L>::new(blank);
+    tree.append_steps(hash, alh, &mut steps)
+}
+
+// `root_steps` with a count of its own.
+fn root_counted<H: Hash32, L: Ledger>(tree: &Tree, hash: &H, n: u64, blank: Blank) -> D32
+    requires name { blank.name ≡ L.name }
+    requires parts { blank.parts ≡ L.parts }
+    requires one { 0 < blank.parts }
+    requires some { 1 ≤ n }
+    requires within { n ≤ tree.now.size }
+    ensures { (leaves : List (List ℕ)) → IsLeveled (H.digest hash.now) leaves tree.now
+        → result ≡ root (H.digest hash.now) (take n leaves) }
+{
+    let mut steps = Steps::<L>::new(blank);
+    tree.root_steps(hash, n, &mut steps)
+}
+
+// `inclusion_steps` with a count of its own.
+fn inclusion_counted<H: Hash32, L: Ledger>(
+    tree: &Tree,
+    alloc: Global,
+    hash: &H,
+    i: u64,
+    n: u64,
+    blank: Blank,
+) -> Result<Digests, AllocError>
+    requires name { blank.name ≡ L.name }
+    requires parts { blank.parts ≡ L.parts }
+    requires one { 0 < blank.parts }
+    requires some { 1 ≤ i }
+    requires inside { i ≤ n }
+    requires within { n ≤ tree.now.size }
+    ensures value { IfOk result (λ path. (leaves : List (List ℕ)) → IsLeveled (H.digest hash.now) leaves tree.now
+        → path ≡ path_of (H.digest hash.now) (take n leaves) (i - 1)) }
+    ensures exact { IfOk result (λ path. (leaves : List (List ℕ)) → IsLeveled (H.digest hash.now) leaves tree.now
+        → length path ≡ path_length n (i - 1)) }
+    ensures leads { IfOk result (λ path. (leaves : List (List ℕ)) → IsLeveled (H.digest hash.now) leaves tree.now
+        → up (H.digest hash.now) n (i - 1) (slice_index_or leaves (i - 1) []) (reverse path) ≡ root (H.digest hash.now) (take n leaves)) }
+{
+    let mut steps = Steps::<L>::new(blank);
+    tree.inclusion_steps(alloc, hash, i, n, &mut steps)
+}
+
+// `consistency_steps` with a count of its own.
+fn consistency_counted<H: Hash32, L: Ledger>(
+    tree: &Tree,
+    alloc: Global,
+    hash: &H,
+    m: u64,
+    n: u64,
+    blank: Blank,
+) -> Result<Digests, AllocError>
+    requires name { blank.name ≡ L.name }
+    requires parts { blank.parts ≡ L.parts }
+    requires one { 0 < blank.parts }
+    requires some { 1 ≤ m }
+    requires grows { m ≤ n }
+    requires within { n ≤ tree.now.size }
+    ensures value { IfOk result (λ list. (leaves : List (List ℕ)) → IsLeveled (H.digest hash.now) leaves tree.now
+        → list ≡ consistency (H.digest hash.now) (take n leaves) m) }
+    ensures exact { IfOk result (λ list. (leaves : List (List ℕ)) → IsLeveled (H.digest hash.now) leaves tree.now
+        → length list ≡ consistency_length m n) }
+    ensures passes { IfOk result (λ list. (leaves : List (List ℕ)) → IsLeveled (H.digest hash.now) leaves tree.now
+        → first_fail (consistency_checks (H.digest hash.now) m n (root (H.digest hash.now) (take m leaves)) (root (H.digest hash.now) (take n leaves)) list) ≡ Ok tt) }
+{
+    let mut steps = Steps::<L>::new(blank);
+    tree.consistency_steps(alloc, hash, m, n, &mut steps)
 }

@@ -6,4 +6,4 @@ pub mod book;
 mod judging;
 mod last;
 pub mod laws;
-pub mod roots;
+mod roots;

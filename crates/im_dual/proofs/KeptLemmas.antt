@@ -1,8 +1,8 @@
 -- What is built of kept headers and a kept tree is built of the history's Alh and inner digests.
-use Rattle.std.proofs.Common.{◌≡◌, ◌<◌, ◌≤◌, length, ℕ, suc, zero, ◌+◌, ◌-◌, List, [], ◌∷◌, ◌++◌, map, take, drop, refl, arith, ap, ◌∙◌, sym, get_or, nat_lt, Bool, true, false, max, min, inl, inr, Ok, if◌then◌else◌}
+use Rattle.std.proofs.Common.{◌≡◌, ◌<◌, ◌≤◌, length, ℕ, ◌+◌, ◌-◌, List, [], ◌∷◌, ◌++◌, map, take, drop, refl, arith, ap, subst, ◌∙◌, sym, get_or, nat_lt, Bool, true, false, max, min, inl, inr, Ok, if◌then◌else◌}
 use Rattle.std.specs.Prelude.{nat_eq}
-use Rattle.std.proofs.lemmas.Bool.{cases_lt, lt-ltb, le-ltb}
-use Rattle.std.proofs.lemmas.List.{get_or-map, get_or-take, get_or-drop, take_more, take-take, length-map, length-drop}
+use Rattle.std.proofs.lemmas.Bool.{cases_lt, lt-ltb, le-ltb, lt-leb, eq-eqb}
+use Rattle.std.proofs.lemmas.List.{get_or-map, get_or-drop, take_more, take-take, length-map, length-drop}
 use Rattle.im_digest.specs.Digests.{Hash}
 use Rattle.im_model.specs.Headers.{inner, alh}
 use Rattle.im_model.specs.History.{no_digest, no_transaction, transaction_of, alhs_of, header_of, IsTransaction, IsHistory}
@@ -10,9 +10,11 @@ use Rattle.im_model.specs.declared.headers.Header.{Header}
 use Rattle.im_model.specs.declared.transactions.Transaction.{Transaction}
 use Rattle.im_model.proofs.HistoryLemmas.{Follow-at}
 use Rattle.im_atree.proofs.PassLemmas.{not-none}
+use Rattle.im_levels.specs.Leveled.{IsLeveled, Stored}
 use Rattle.im_mtree.specs.Checks.{first_fail}
 use Rattle.im_proof.specs.Duals.{dual_checks}
-use Rattle.im_proof.specs.Built.{linear_terms, path_of, consistency, advance_of, dual_of, inners_of, headers_of}
+use Rattle.im_proof.specs.Built.{linear_terms, path_of, paths_from, consistency, advance_of, dual_of, inners_of, headers_of}
+use Rattle.im_proof.specs.declared.proofs.AdvanceProof.{AdvanceProof}
 use Rattle.im_proof.specs.declared.proofs.DualProof.{DualProof}
 use Rattle.im_proof.proofs.HeaderLemmas.{headers-length, headers-nth, alhs-are, inners-are}
 use Rattle.im_dual.specs.Kept.{no_header, header_at}
@@ -35,16 +37,19 @@ terms-next f headers s i header first before after l h is old new =
     ∙ ap (λ l. first ∷ l) (sym (take_more (drop s all) (i - s) [] (omega arith)))
     ∙ ap (λ n. first ∷ take n (drop s all)) next
 
--- the last of the first leaves of a tree is the last of as many Alh
-told-front : (alhs tree : List (List ℕ)) (size : ℕ) → take size tree ≡ take size alhs
-    → (if nat_eq size 0 then no_digest else get_or tree (size - 1) []) ≡ (if nat_eq size 0 then no_digest else get_or alhs (size - 1) [])
-told-front alhs tree zero e = refl
-told-front alhs tree (suc n) e =
-    let size : ℕ = suc n in
-    let some : nat_eq size 0 ≡ false = not-none size (omega arith) in
-    ap (λ b. if b then no_digest else get_or tree (size - 1) []) some
-    ∙ sym (get_or-take size tree (size - 1) [] (omega arith)) ∙ ap (λ l. get_or l (size - 1) []) e ∙ get_or-take size alhs (size - 1) [] (omega arith)
-    ∙ sym (ap (λ b. if b then no_digest else get_or alhs (size - 1) []) some)
+-- what is due where a number isn't 0, and what else
+pub due-none : {X : Type 0} (n : ℕ) (x y z : X) → n ≡ 0 → x ≡ y → x ≡ (if nat_eq n 0 then y else z)
+due-none n x y z none is = is ∙ sym (ap (λ b. if b then y else z) (eq-eqb n 0 none))
+
+pub due-some : {X : Type 0} (n : ℕ) (x y z : X) → 0 < n → x ≡ z → x ≡ (if nat_eq n 0 then y else z)
+due-some n x y z some is = is ∙ sym (ap (λ b. if b then y else z) (not-none n some))
+
+-- what is due below a number, and what else
+pub due-below : {X : Type 0} (m n : ℕ) (x y z : X) → m < n → x ≡ y → x ≡ (if nat_lt m n then y else z)
+due-below m n x y z below is = is ∙ sym (ap (λ b. if b then y else z) (lt-ltb m n below))
+
+pub due-beyond : {X : Type 0} (m n : ℕ) (x y z : X) → n ≤ m → x ≡ z → x ≡ (if nat_lt m n then y else z)
+due-beyond m n x y z beyond is = is ∙ sym (ap (λ b. if b then y else z) (le-ltb m n beyond))
 
 -- there is a kept header for each transaction
 kept-length : (hash : Hash) (history : List Transaction) (headers : List Header) → headers ≡ headers_of hash history → length headers ≡ length history
@@ -88,12 +93,26 @@ kept-lags hash history headers t h kept some within =
     let linked : (transaction_of history t).bl ≤ 0 + (t - 1) = is.linked in
     omega (arith, new, linked, some)
 
--- the first leaves of a kept tree are Alh of kept headers
-pub kept-leaves : (hash : Hash) (history : List Transaction) (headers : List Header) (tree : List (List ℕ)) (size : ℕ) → headers ≡ headers_of hash history
-    → tree ≡ take (length tree) (alhs_of hash history) → size ≤ length tree → take size tree ≡ take size (map (alh hash) headers)
-kept-leaves hash history headers tree size kept grown within =
-    ap (λ l. take size l) grown ∙ take-take size (length tree) (alhs_of hash history) within
-    ∙ ap (λ l. take size l) (alhs-are hash history ∙ ap (λ l. map (alh hash) l) (sym kept))
+-- the leaves of a kept tree are Alh of kept headers
+pub kept-leaves : (hash : Hash) (history : List Transaction) (headers : List Header) (tree : Stored) → headers ≡ headers_of hash history
+    → IsLeveled hash (take tree.size (alhs_of hash history)) tree → IsLeveled hash (take tree.size (map (alh hash) headers)) tree
+kept-leaves hash history headers tree kept grown =
+    let same : alhs_of hash history ≡ map (alh hash) headers = alhs-are hash history ∙ ap (λ l. map (alh hash) l) (sym kept) in
+    subst (λ (ds : List (List ℕ)). IsLeveled hash (take tree.size ds) tree) same grown
+
+-- an advance over more than one transaction, of its terms and its paths
+pub advance-more : (hash : Hash) (alhs inners : List (List ℕ)) (a e size held : ℕ) (terms : List (List ℕ)) (inclusions : List (List (List ℕ))) → a + 1 < e → size ≤ held
+    → terms ≡ linear_terms alhs inners (a + 1) e → inclusions ≡ paths_from hash (take size (take held alhs)) a (e - 1 - a)
+    → record { terms = terms; inclusions = inclusions } ≡ advance_of hash alhs inners a e size
+unfolding advance_of
+advance-more hash alhs inners a e size held terms inclusions more within t p =
+    let few : AdvanceProof = record { terms = []; inclusions = [] } in
+    let many : AdvanceProof = record { terms = linear_terms alhs inners (a + 1) e; inclusions = paths_from hash (take size alhs) a (e - a - 1) } in
+    let count : e - 1 - a ≡ e - a - 1 = omega arith in
+    let q : inclusions ≡ paths_from hash (take size alhs) a (e - a - 1) =
+    p ∙ ap (λ (l : List (List ℕ)). paths_from hash l a (e - 1 - a)) (take-take size held alhs within) ∙ ap (λ (n : ℕ). paths_from hash (take size alhs) a n) count in
+    let built : record { terms = terms; inclusions = inclusions } ≡ many = λ i. record { terms = t i; inclusions = q i } in
+    built ∙ sym (ap (λ (b : Bool). if b then few else many) (lt-leb e (a + 1) more))
 
 -- what is built of kept headers is what is built of the history
 pub kept-dual : (hash : Hash) (history : List Transaction) (headers : List Header) (s t : ℕ) → headers ≡ headers_of hash history → 1 ≤ s → s ≤ t → t ≤ length headers
@@ -153,28 +172,30 @@ unfolding dual_of
 dual-parts hash source target alhs inners = refl
 
 -- the parts that are built of kept headers and leaves are those of the dual proof
-pub assembled : (hash : Hash) (headers : List Header) (tree : List (List ℕ)) (s t size start end : ℕ) (proof : DualProof)
+pub assembled : (hash : Hash) (headers : List Header) (held s t size start end : ℕ) (proof : DualProof)
     → start ≡ max s size → end ≡ min s size
-    → (header_at headers s).id ≡ s → (header_at headers t).id ≡ t → size ≡ (header_at headers t).bl_tx_id → take size tree ≡ take size (map (alh hash) headers)
+    → (header_at headers s).id ≡ s → (header_at headers t).id ≡ t → size ≡ (header_at headers t).bl_tx_id → size ≤ held
     → proof.source ≡ header_at headers s → proof.target ≡ header_at headers t
-    → proof.inclusion ≡ (if nat_lt s size then path_of hash (take size tree) (s - 1) else [])
-    → proof.consistency ≡ (if nat_eq proof.source.bl_tx_id 0 then [] else consistency hash (take size tree) proof.source.bl_tx_id)
-    → proof.target_bl_tx_alh ≡ (if nat_eq size 0 then no_digest else get_or tree (size - 1) [])
-    → proof.last_inclusion ≡ (if nat_eq size 0 then [] else path_of hash (take size tree) (size - 1))
+    → proof.inclusion ≡ (if nat_lt s size then path_of hash (take size (take held (map (alh hash) headers))) (s - 1) else [])
+    → proof.consistency ≡ (if nat_eq proof.source.bl_tx_id 0 then [] else consistency hash (take size (take held (map (alh hash) headers))) proof.source.bl_tx_id)
+    → proof.target_bl_tx_alh ≡ (if nat_eq size 0 then no_digest else get_or (map (alh hash) headers) (size - 1) [])
+    → proof.last_inclusion ≡ (if nat_eq size 0 then [] else path_of hash (take size (take held (map (alh hash) headers))) (size - 1))
     → proof.linear ≡ linear_terms (map (alh hash) headers) (map (inner hash) headers) start t
     → proof.linear_advance ≡ advance_of hash (map (alh hash) headers) (map (inner hash) headers) proof.source.bl_tx_id end size
     → proof ≡ dual_of hash (header_at headers s) (header_at headers t) (map (alh hash) headers) (map (inner hash) headers)
-assembled hash headers tree s t n start end proof later earlier of_s of_t size front a b d e f h l m =
+assembled hash headers held s t n start end proof later earlier of_s of_t size within a b d e f h l m =
     let source : Header = header_at headers s in
     let target : Header = header_at headers t in
     let alhs : List (List ℕ) = map (alh hash) headers in
     let inners : List (List ℕ) = map (inner hash) headers in
+    let tree : List (List ℕ) = take held alhs in
+    let front : take n tree ≡ take n alhs = take-take n held alhs within in
     let old : proof.source.bl_tx_id ≡ source.bl_tx_id = ap (λ x. x.bl_tx_id) a in
     let inclusion-is : proof.inclusion ≡ (if nat_lt s n then path_of hash (take n alhs) (s - 1) else []) =
     d ∙ ap (λ x. if nat_lt s n then path_of hash x (s - 1) else []) front in
     let consistency-is : proof.consistency ≡ (if nat_eq source.bl_tx_id 0 then [] else consistency hash (take n alhs) source.bl_tx_id) =
     e ∙ ap (λ k. if nat_eq k 0 then [] else consistency hash (take n tree) k) old ∙ ap (λ x. if nat_eq source.bl_tx_id 0 then [] else consistency hash x source.bl_tx_id) front in
-    let told-is : proof.target_bl_tx_alh ≡ (if nat_eq n 0 then no_digest else get_or alhs (n - 1) []) = f ∙ told-front alhs tree n front in
+    let told-is : proof.target_bl_tx_alh ≡ (if nat_eq n 0 then no_digest else get_or alhs (n - 1) []) = f in
     let last-is : proof.last_inclusion ≡ (if nat_eq n 0 then [] else path_of hash (take n alhs) (n - 1)) =
     h ∙ ap (λ x. if nat_eq n 0 then [] else path_of hash x (n - 1)) front in
     let linear-is : proof.linear ≡ (if nat_lt s n then linear_terms alhs inners n t else linear_terms alhs inners s t) =

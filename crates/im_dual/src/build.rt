@@ -1,10 +1,11 @@
-ghost use Rattle.std.specs.Prelude.{◌≡◌, ◌<◌, ◌≤◌, ◌-◌, List, [], length, map, take, slice_index_or, nat_eq, nat_lt, if◌then◌else◌, IfOk, Ok};
+ghost use Rattle.std.specs.Prelude.{◌≡◌, ◌<◌, ◌≤◌, ◌-◌, ℕ, List, [], length, map, take, slice_index_or, nat_eq, nat_lt, if◌then◌else◌, IfOk, Ok};
 ghost use Rattle.im_model.specs.Headers.{inner, alh};
 ghost use Rattle.im_model.specs.History.{no_digest, alhs_of, header_of, IsHistory};
 ghost use Rattle.im_model.specs.declared.transactions.Transaction.{Transaction};
 ghost use Rattle.im_mtree.specs.Checks.{first_fail};
 ghost use Rattle.im_proof.specs.Built.{linear_terms, path_of, paths_from, consistency, advance_of, dual_of, headers_of, inners_of};
 ghost use Rattle.im_proof.specs.Duals.{dual_checks};
+ghost use Rattle.im_levels.specs.Leveled.{IsLeveled};
 ghost use Rattle.im_dual.specs.Kept.{header_at};
 
 use im_atree::trees::Tree;
@@ -17,8 +18,9 @@ use im_proof::proofs::{AdvanceProof, DualProof};
 use std::alloc::{AllocError, Global};
 
 /// The dual proof between transactions s and t of a history, from the headers of the history and the tree
-/// of its first Alh. It passes `check`, its twin. Only headers that the proof is about are hashed, and at most
-/// the target's tree once for each path and for the consistency list. The only error is want of memory.
+/// of its first Alh. It passes `check`, its twin. Only headers that the proof is about are hashed, the last one in
+/// the target's tree among them, and no leaf: with b binary digits in the tree's size a path or a list costs at most
+/// 4b digests read or hashed. The only error is want of memory.
 pub fn build<H: Hash32>(
     alloc: Global,
     hash: &H,
@@ -27,11 +29,11 @@ pub fn build<H: Hash32>(
     s: u64,
     t: u64,
 ) -> Result<DualProof, AllocError>
-    requires history { (history : List Transaction) × IsHistory history × (headers.now ≡ headers_of (H.digest hash.now) history) × (tree.now ≡ take (length tree.now) (alhs_of (H.digest hash.now) history)) }
+    requires history { (history : List Transaction) × IsHistory history × (headers.now ≡ headers_of (H.digest hash.now) history) × IsLeveled (H.digest hash.now) (take tree.now.size (alhs_of (H.digest hash.now) history)) tree.now }
     requires some { 1 ≤ s }
     requires order { s ≤ t }
     requires within { t ≤ length headers.now }
-    requires tree { (header_at headers.now t).bl_tx_id ≤ length tree.now }
+    requires tree { (header_at headers.now t).bl_tx_id ≤ tree.now.size }
     ensures value { IfOk result (λ proof. (history : List Transaction) → IsHistory history → headers.now ≡ headers_of (H.digest hash.now) history → proof ≡ dual_of (H.digest hash.now) (header_of (H.digest hash.now) history s) (header_of (H.digest hash.now) history t) (alhs_of (H.digest hash.now) history) (inners_of (H.digest hash.now) history)) }
     ensures passes { IfOk result (λ proof. first_fail (dual_checks (H.digest hash.now) proof) ≡ Ok tt) }
 {
@@ -67,8 +69,8 @@ fn assemble<H: Hash32>(
     requires shrink { (header_at headers.now s).bl_tx_id ≤ size }
     requires lag { size < t }
     requires size { size ≡ (header_at headers.now t).bl_tx_id }
-    requires tree { size ≤ length tree.now }
-    requires leaves { take size tree.now ≡ take size (map (alh (H.digest hash.now)) headers.now) }
+    requires tree { size ≤ tree.now.size }
+    requires leaves { IsLeveled (H.digest hash.now) (take tree.now.size (map (alh (H.digest hash.now)) headers.now)) tree.now }
     ensures { IfOk result (λ proof. proof ≡ dual_of (H.digest hash.now) (header_at headers.now s) (header_at headers.now t) (map (alh (H.digest hash.now)) headers.now) (map (inner (H.digest hash.now)) headers.now)) }
 {
     let source = copy_of(alloc, headers, s)?;
@@ -85,7 +87,7 @@ fn assemble<H: Hash32>(
         target,
         inclusion,
         consistency,
-        target_bl_tx_alh: last_of(tree, size),
+        target_bl_tx_alh: last_of(hash, headers, end),
         last_inclusion,
         linear,
         linear_advance,
@@ -110,8 +112,9 @@ fn inclusion_of<H: Hash32>(
     size: u64,
 ) -> Result<Digests, AllocError>
     requires some { 1 ≤ s }
-    requires within { size ≤ length tree.now }
-    ensures { IfOk result (λ path. path ≡ (if nat_lt s size then path_of (H.digest hash.now) (take size tree.now) (s - 1) else [])) }
+    requires within { size ≤ tree.now.size }
+    ensures { IfOk result (λ path. (leaves : List (List ℕ)) → IsLeveled (H.digest hash.now) leaves tree.now
+        → path ≡ (if nat_lt s size then path_of (H.digest hash.now) (take size leaves) (s - 1) else [])) }
 {
     if s < size {
         tree.inclusion(alloc, hash, s, size)
@@ -130,8 +133,9 @@ fn consistency_of<H: Hash32>(
     size: u64,
 ) -> Result<Digests, AllocError>
     requires grows { old ≤ size }
-    requires within { size ≤ length tree.now }
-    ensures { IfOk result (λ list. list ≡ (if nat_eq old 0 then [] else consistency (H.digest hash.now) (take size tree.now) old)) }
+    requires within { size ≤ tree.now.size }
+    ensures { IfOk result (λ list. (leaves : List (List ℕ)) → IsLeveled (H.digest hash.now) leaves tree.now
+        → list ≡ (if nat_eq old 0 then [] else consistency (H.digest hash.now) (take size leaves) old)) }
 {
     if old == 0 {
         Ok(Digests::from_vec(Vec::new(alloc)))
@@ -140,12 +144,16 @@ fn consistency_of<H: Hash32>(
     }
 }
 
-// The last of the first `size` leaves, or zeros where there is none. `check_bl` checks it.
-fn last_of(tree: &Tree, size: u64) -> D32
-    requires { size ≤ length tree.now }
-    ensures { result ≡ (if nat_eq size 0 then no_digest else slice_index_or tree.now (size - 1) []) }
+// The Alh of header `size`, or zeros where there is none: the last of the first `size` leaves. `check_bl` checks it.
+fn last_of<H: Hash32>(hash: &H, headers: &[Header], size: usize) -> D32
+    requires { size ≤ length headers.now }
+    ensures { result ≡ (if nat_eq size 0 then no_digest else slice_index_or (map (alh (H.digest hash.now)) headers.now) (size - 1) []) }
 {
-    if size == 0 { [0; 32] } else { *tree.leaf(size) }
+    if size == 0 {
+        [0; 32]
+    } else {
+        alh(hash, &headers[size - 1])
+    }
 }
 
 // The path of the last of the first `size` leaves, where there is one. `check_last` checks it.
@@ -155,8 +163,9 @@ fn last_inclusion_of<H: Hash32>(
     tree: &Tree,
     size: u64,
 ) -> Result<Digests, AllocError>
-    requires { size ≤ length tree.now }
-    ensures { IfOk result (λ path. path ≡ (if nat_eq size 0 then [] else path_of (H.digest hash.now) (take size tree.now) (size - 1))) }
+    requires { size ≤ tree.now.size }
+    ensures { IfOk result (λ path. (leaves : List (List ℕ)) → IsLeveled (H.digest hash.now) leaves tree.now
+        → path ≡ (if nat_eq size 0 then [] else path_of (H.digest hash.now) (take size leaves) (size - 1))) }
 {
     if size == 0 {
         Ok(Digests::from_vec(Vec::new(alloc)))
@@ -198,9 +207,9 @@ fn advance<H: Hash32>(
     size: u64,
 ) -> Result<AdvanceProof, AllocError>
     requires end { e ≤ size }
-    requires within { size ≤ length tree.now }
+    requires within { size ≤ tree.now.size }
     requires headers { e ≤ length headers.now }
-    requires leaves { take size tree.now ≡ take size (map (alh (H.digest hash.now)) headers.now) }
+    requires leaves { IsLeveled (H.digest hash.now) (take tree.now.size (map (alh (H.digest hash.now)) headers.now)) tree.now }
     ensures { IfOk result (λ advance. advance ≡ advance_of (H.digest hash.now) (map (alh (H.digest hash.now)) headers.now) (map (inner (H.digest hash.now)) headers.now) a e size) }
 {
     if e <= a || e - a == 1 {
@@ -225,8 +234,9 @@ fn paths<H: Hash32>(
 ) -> Result<DigestLists, AllocError>
     requires order { from ≤ to }
     requires end { to ≤ size }
-    requires within { size ≤ length tree.now }
-    ensures { IfOk result (λ paths. paths ≡ paths_from (H.digest hash.now) (take size tree.now) from (to - from)) }
+    requires within { size ≤ tree.now.size }
+    ensures { IfOk result (λ paths. (leaves : List (List ℕ)) → IsLeveled (H.digest hash.now) leaves tree.now
+        → paths ≡ paths_from (H.digest hash.now) (take size leaves) from (to - from)) }
 {
     let mut paths = Vec::new(alloc);
     for i in from..to {

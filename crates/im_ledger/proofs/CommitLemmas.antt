@@ -113,10 +113,10 @@ pub taken : (hash : Hash) (held after : Held) (tx x : Transaction) (header : Hea
     → IsLedger hash held → length held.transactions < 1048576 → IsTransaction (length held.transactions) tx → tx.bl ≡ length held.tree
     → header ≡ next_header hash held.alhs tx → x ≡ tx → digest ≡ own → own ≡ alh hash (next_header hash held.alhs tx)
     → after.transactions ≡ held.transactions ++ x ∷ [] → after.headers ≡ held.headers ++ header ∷ [] → after.alhs ≡ held.alhs ++ digest ∷ [] → after.tree ≡ held.tree
-    → after.frontier ≡ held.frontier → after.root ≡ held.root → IsLedger hash after
-taken hash held after tx x header digest own ledger room limits over header_is tx_is digest_is own_is transactions headers alhs tree frontier root =
+    → after.levels ≡ held.levels → IsLedger hash after
+taken hash held after tx x header digest own ledger room limits over header_is tx_is digest_is own_is transactions headers alhs tree levels =
     ledger-placed hash held after tx ledger room limits over
     (transactions ∙ ap (λ (t : Transaction). held.transactions ++ t ∷ []) tx_is)
     (headers ∙ ap (λ (x : Header). held.headers ++ x ∷ []) header_is)
     (alhs ∙ ap (λ (x : List ℕ). held.alhs ++ x ∷ []) (digest_is ∙ own_is))
-    tree frontier root
+    tree levels

@@ -1,13 +1,11 @@
 -- Ledgers grow by a transaction, and their trees are raised.
-use Rattle.std.proofs.Common.{◌≡◌, ◌<◌, ◌≤◌, length, ℕ, suc, ◌+◌, ◌-◌, List, [], ◌∷◌, ◌++◌, take, refl, arith, ap, subst, ◌∙◌, sym, length-append, get_or, All, if◌then◌else◌, ◌==◌}
-use Rattle.std.proofs.Math.Seq.{take-length}
+use Rattle.std.proofs.Common.{◌≡◌, ◌<◌, ◌≤◌, length, ℕ, suc, ◌+◌, ◌-◌, List, [], ◌∷◌, ◌++◌, take, refl, arith, ap, subst, ◌∙◌, sym, length-append, get_or, All}
 use Rattle.std.proofs.lemmas.List.{take-append-le, length-take-le}
 use Rattle.std.proofs.lemmas.List.Elements.{All-nil, All-push}
 use Rattle.im_digest.specs.Digests.{Hash}
-use Rattle.im_mtree.specs.Kept.{IsFrontier, KeptRoots}
+use Rattle.im_levels.specs.Leveled.{IsLeveled, Stored}
 use Rattle.im_model.specs.Headers.{alh}
-use Rattle.im_model.specs.History.{alhs_of, bl_root_of, header_of, next_header, no_digest, no_transaction, Follow, IsTransaction}
-use Rattle.im_model.specs.Trees.{root}
+use Rattle.im_model.specs.History.{alhs_of, header_of, next_header, no_transaction, Follow, IsTransaction}
 use Rattle.im_model.specs.declared.headers.Header.{Header}
 use Rattle.im_model.specs.declared.transactions.Transaction.{Transaction}
 use Rattle.im_model.proofs.HistoryLemmas.{length-alhs_of}
@@ -19,15 +17,14 @@ use Rattle.im_book.specs.Booked.{Booked, IsBook}
 use Rattle.im_ledger.specs.Ledgers.{Held, IsLedger}
 
 -- what is so of lists, and of what is kept of the tree, is so of equal ones
-pub held-same : (P : Held → Type 0) (a b : Held) → a.transactions ≡ b.transactions → a.headers ≡ b.headers → a.alhs ≡ b.alhs → a.tree ≡ b.tree → a.frontier ≡ b.frontier → a.root ≡ b.root → P b → P a
-held-same P a b transactions headers alhs tree frontier root p =
-    let A : List Transaction → Type 0 = λ txs. P (record { transactions = txs; headers = a.headers; alhs = a.alhs; tree = a.tree; frontier = a.frontier; root = a.root }) in
-    let B : List Header → Type 0 = λ hs. P (record { transactions = b.transactions; headers = hs; alhs = a.alhs; tree = a.tree; frontier = a.frontier; root = a.root }) in
-    let C : List (List ℕ) → Type 0 = λ ds. P (record { transactions = b.transactions; headers = b.headers; alhs = ds; tree = a.tree; frontier = a.frontier; root = a.root }) in
-    let D : List (List ℕ) → Type 0 = λ ds. P (record { transactions = b.transactions; headers = b.headers; alhs = b.alhs; tree = ds; frontier = a.frontier; root = a.root }) in
-    let E : KeptRoots → Type 0 = λ k. P (record { transactions = b.transactions; headers = b.headers; alhs = b.alhs; tree = b.tree; frontier = k; root = a.root }) in
-    let F : List ℕ → Type 0 = λ r. P (record { transactions = b.transactions; headers = b.headers; alhs = b.alhs; tree = b.tree; frontier = b.frontier; root = r }) in
-    subst A (sym transactions) (subst B (sym headers) (subst C (sym alhs) (subst D (sym tree) (subst E (sym frontier) (subst F (sym root) p)))))
+pub held-same : (P : Held → Type 0) (a b : Held) → a.transactions ≡ b.transactions → a.headers ≡ b.headers → a.alhs ≡ b.alhs → a.tree ≡ b.tree → a.levels ≡ b.levels → P b → P a
+held-same P a b transactions headers alhs tree levels p =
+    let A : List Transaction → Type 0 = λ txs. P (record { transactions = txs; headers = a.headers; alhs = a.alhs; tree = a.tree; levels = a.levels }) in
+    let B : List Header → Type 0 = λ hs. P (record { transactions = b.transactions; headers = hs; alhs = a.alhs; tree = a.tree; levels = a.levels }) in
+    let C : List (List ℕ) → Type 0 = λ ds. P (record { transactions = b.transactions; headers = b.headers; alhs = ds; tree = a.tree; levels = a.levels }) in
+    let D : List (List ℕ) → Type 0 = λ ds. P (record { transactions = b.transactions; headers = b.headers; alhs = b.alhs; tree = ds; levels = a.levels }) in
+    let E : Stored → Type 0 = λ k. P (record { transactions = b.transactions; headers = b.headers; alhs = b.alhs; tree = b.tree; levels = k }) in
+    subst A (sym transactions) (subst B (sym headers) (subst C (sym alhs) (subst D (sym tree) (subst E (sym levels) p))))
 
 -- a transaction behind others that were placed over no larger trees
 pub Follow-onward : (n bl : ℕ) (txs : List Transaction) (tx : Transaction) → Follow n bl txs → bl ≤ tx.bl → All (λ t. t.bl ≤ tx.bl) txs → IsTransaction (n + length txs) tx → Follow n bl (txs ++ tx ∷ [])
@@ -48,14 +45,8 @@ grown_by hash held tx = record {
   headers = held.headers ++ next_header hash held.alhs tx ∷ [];
   alhs = held.alhs ++ alh hash (next_header hash held.alhs tx) ∷ [];
   tree = held.tree;
-  frontier = held.frontier;
-  root = held.root;
+  levels = held.levels;
 }
-
--- the root over the first Alh stays while others come behind them
-root-longer : (hash : Hash) (alhs more : List (List ℕ)) (n : ℕ) → n ≤ length alhs → bl_root_of hash alhs n ≡ bl_root_of hash (alhs ++ more) n
-root-longer hash alhs more n le =
-    ap (λ (l : List (List ℕ)). if n == 0 then no_digest else root hash l) (sym (take-append-le n alhs more le))
 
 -- a ledger grows by a transaction over its tree
 pub ledger-grown : (hash : Hash) (held : Held) (tx : Transaction) → IsLedger hash held → length held.transactions < 1048576 → IsTransaction (length held.transactions) tx → tx.bl ≡ length held.tree
@@ -82,32 +73,30 @@ ledger-grown hash held tx l room is over =
       within = omega arith;
       least = All-push (λ (t : Transaction). t.bl ≤ length held.tree) held.transactions tx l.least (omega arith);
       subtrees = l.subtrees;
-      root = l.root ∙ root-longer hash held.alhs (alh hash (next_header hash held.alhs tx) ∷ []) (length held.tree) fewer;
     }
 
 -- so does one whose lists grew by the transaction, its header and its Alh
 pub ledger-placed : (hash : Hash) (before after : Held) (tx : Transaction) → IsLedger hash before → length before.transactions < 1048576 → IsTransaction (length before.transactions) tx → tx.bl ≡ length before.tree
     → after.transactions ≡ before.transactions ++ tx ∷ [] → after.headers ≡ before.headers ++ next_header hash before.alhs tx ∷ []
     → after.alhs ≡ before.alhs ++ alh hash (next_header hash before.alhs tx) ∷ [] → after.tree ≡ before.tree
-    → after.frontier ≡ before.frontier → after.root ≡ before.root → IsLedger hash after
-ledger-placed hash before after tx l room is over transactions headers alhs tree frontier root =
-    held-same (IsLedger hash) after (grown_by hash before tx) transactions headers alhs tree frontier root (ledger-grown hash before tx l room is over)
+    → after.levels ≡ before.levels → IsLedger hash after
+ledger-placed hash before after tx l room is over transactions headers alhs tree levels =
+    held-same (IsLedger hash) after (grown_by hash before tx) transactions headers alhs tree levels (ledger-grown hash before tx l room is over)
 
 -- the lists with a tree of the first Alh, and this kept of it
-abbrev pub raised_to : Held → ℕ → KeptRoots → List ℕ → Held
-raised_to held end frontier top = record {
+abbrev pub raised_to : Held → ℕ → Stored → Held
+raised_to held end levels = record {
   transactions = held.transactions;
   headers = held.headers;
   alhs = held.alhs;
   tree = take end held.alhs;
-  frontier = frontier;
-  root = top;
+  levels = levels;
 }
 
 -- a ledger whose tree is raised, where what is kept of the tree is that of its leaves
-pub ledger-raised : (hash : Hash) (held : Held) (end : ℕ) (frontier : KeptRoots) (top : List ℕ) → IsLedger hash held → length held.tree ≤ end → end ≤ length held.transactions
-    → IsFrontier hash (take end held.alhs) frontier → top ≡ bl_root_of hash (take end held.alhs) (length (take end held.alhs)) → IsLedger hash (raised_to held end frontier top)
-ledger-raised hash held end frontier top l up inside kept told =
+pub ledger-raised : (hash : Hash) (held : Held) (end : ℕ) (levels : Stored) → IsLedger hash held → length held.tree ≤ end → end ≤ length held.transactions
+    → IsLeveled hash (take end held.alhs) levels → IsLedger hash (raised_to held end levels)
+ledger-raised hash held end levels l up inside kept =
     let leaves : List (List ℕ) = take end held.alhs in
     let count : length held.alhs ≡ length held.transactions = ap length l.alhs ∙ length-alhs_of hash held.transactions in
     let size : length leaves ≡ end = length-take-le end held.alhs (omega arith) in
@@ -120,14 +109,13 @@ ledger-raised hash held end frontier top l up inside kept told =
       within = omega arith;
       least = λ i d lt. omega (arith, l.least i d lt, size, up);
       subtrees = kept;
-      root = told ∙ ap (λ (ls : List (List ℕ)). if length leaves == 0 then no_digest else root hash ls) (take-length leaves ∙ first);
     }
 
 -- the ledger of the empty history
-pub ledger-empty : (hash : Hash) (held : Held) → held.transactions ≡ [] → held.headers ≡ [] → held.alhs ≡ [] → held.tree ≡ [] → IsFrontier hash [] held.frontier → held.root ≡ no_digest → IsLedger hash held
-ledger-empty hash held transactions headers alhs tree kept top =
-    let none : Held = record { transactions = []; headers = []; alhs = []; tree = []; frontier = held.frontier; root = no_digest } in
-    held-same (IsLedger hash) held none transactions headers alhs tree refl top
+pub ledger-empty : (hash : Hash) (held : Held) → held.transactions ≡ [] → held.headers ≡ [] → held.alhs ≡ [] → held.tree ≡ [] → IsLeveled hash [] held.levels → IsLedger hash held
+ledger-empty hash held transactions headers alhs tree kept =
+    let none : Held = record { transactions = []; headers = []; alhs = []; tree = []; levels = held.levels } in
+    held-same (IsLedger hash) held none transactions headers alhs tree refl
     (record {
       history = record { few = omega arith; follow = tt };
       headers = refl;
@@ -136,14 +124,13 @@ ledger-empty hash held transactions headers alhs tree kept top =
       within = omega arith;
       least = All-nil (λ (t : Transaction). t.bl ≤ 0);
       subtrees = kept;
-      root = refl;
     })
 
 -- the lists of a ledger are a book
-pub book-within : (hash : Hash) (held : Held) (book : Booked) (tree : List (List ℕ)) (frontier : KeptRoots) (root : List ℕ)
-    → record { transactions = book.transactions; headers = book.headers; alhs = book.alhs; tree = tree; frontier = frontier; root = root } ≡ held → IsLedger hash held → IsBook hash book
-book-within hash held book tree frontier root same l =
-    let own : IsLedger hash (record { transactions = book.transactions; headers = book.headers; alhs = book.alhs; tree = tree; frontier = frontier; root = root }) = subst (IsLedger hash) (sym same) l in
+pub book-within : (hash : Hash) (held : Held) (book : Booked) (tree : List (List ℕ)) (levels : Stored)
+    → record { transactions = book.transactions; headers = book.headers; alhs = book.alhs; tree = tree; levels = levels } ≡ held → IsLedger hash held → IsBook hash book
+book-within hash held book tree levels same l =
+    let own : IsLedger hash (record { transactions = book.transactions; headers = book.headers; alhs = book.alhs; tree = tree; levels = levels }) = subst (IsLedger hash) (sym same) l in
     record { history = own.history; headers = own.headers; alhs = own.alhs }
 
 -- there is a header for each transaction

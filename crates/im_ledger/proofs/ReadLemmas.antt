@@ -2,8 +2,8 @@
 use Rattle.std.proofs.Common.{◌≡◌, ◌≤◌, ◌+◌, ◌-◌, ℕ, List, [], length, get_or, refl, arith, ap, subst, ◌∙◌, sym, ne_eqb, if◌then◌else◌, All}
 use Rattle.std.proofs.Math.Seq.{take-length}
 use Rattle.im_digest.specs.Digests.{Hash}
-use Rattle.im_mtree.specs.Kept.{IsFrontier, KeptRoots}
-use Rattle.im_model.specs.History.{alh_of, alhs_of, bl_root_of, first_alh, IsHistory}
+use Rattle.im_levels.specs.Leveled.{IsLeveled, Stored}
+use Rattle.im_model.specs.History.{alh_of, alhs_of, first_alh, IsHistory}
 use Rattle.im_model.specs.declared.transactions.Transaction.{Transaction}
 use Rattle.im_model.proofs.HistoryLemmas.{Follow-at, length-alhs_of}
 use Rattle.im_proof.specs.Built.{headers_of}
@@ -25,12 +25,11 @@ linked-all : (txs : List Transaction) → IsHistory txs → All (λ tx. tx.bl �
 linked-all txs h = λ i d lt. omega (arith, lt, (Follow-at 0 0 txs i d h.follow lt).linked)
 
 -- the lists of a history whose tree has it all, and this kept of the tree
-abbrev full : Hash → List Transaction → KeptRoots → List ℕ → Held
-full hash txs frontier top = record { transactions = txs; headers = headers_of hash txs; alhs = alhs_of hash txs; tree = alhs_of hash txs; frontier = frontier; root = top }
+abbrev full : Hash → List Transaction → Stored → Held
+full hash txs levels = record { transactions = txs; headers = headers_of hash txs; alhs = alhs_of hash txs; tree = alhs_of hash txs; levels = levels }
 
-full-is : (hash : Hash) (txs : List Transaction) (frontier : KeptRoots) (top : List ℕ) → IsHistory txs → IsFrontier hash (alhs_of hash txs) frontier
-    → top ≡ bl_root_of hash (alhs_of hash txs) (length (alhs_of hash txs)) → IsLedger hash (full hash txs frontier top)
-full-is hash txs frontier top h kept told =
+full-is : (hash : Hash) (txs : List Transaction) (levels : Stored) → IsHistory txs → IsLeveled hash (alhs_of hash txs) levels → IsLedger hash (full hash txs levels)
+full-is hash txs levels h kept =
     let many : length (alhs_of hash txs) ≡ length txs = length-alhs_of hash txs in
     record {
       history = h;
@@ -40,16 +39,14 @@ full-is hash txs frontier top h kept told =
       within = omega (arith, many);
       least = λ i d lt. omega (arith, many, linked-all txs h i d lt);
       subtrees = kept;
-      root = told;
     }
 
 -- the lists of a history that was found are a ledger, whose tree has each Alh
 pub ledger-found : (hash : Hash) (found : FoundHistory) (held : Held) → IsOneHistory hash found → held.transactions ≡ txs_of found.records.items
     → held.headers ≡ found.headers.items → held.alhs ≡ found.alhs.items → held.tree ≡ found.alhs.items
-    → IsFrontier hash found.alhs.items held.frontier → held.root ≡ bl_root_of hash found.alhs.items (length found.alhs.items) → IsLedger hash held
-ledger-found hash found held one transactions headers alhs tree frontier top =
+    → IsLeveled hash found.alhs.items held.levels → IsLedger hash held
+ledger-found hash found held one transactions headers alhs tree levels =
     let txs : List Transaction = txs_of found.records.items in
-    let own : IsFrontier hash (alhs_of hash txs) held.frontier = subst (λ (l : List (List ℕ)). IsFrontier hash l held.frontier) one.alhs frontier in
-    let told : held.root ≡ bl_root_of hash (alhs_of hash txs) (length (alhs_of hash txs)) = top ∙ ap (λ (l : List (List ℕ)). bl_root_of hash l (length l)) one.alhs in
-    held-same (IsLedger hash) held (full hash txs held.frontier held.root) transactions (headers ∙ one.headers) (alhs ∙ one.alhs) (tree ∙ one.alhs) refl refl
-    (full-is hash txs held.frontier held.root one.history own told)
+    let own : IsLeveled hash (alhs_of hash txs) held.levels = subst (λ (l : List (List ℕ)). IsLeveled hash l held.levels) one.alhs levels in
+    held-same (IsLedger hash) held (full hash txs held.levels) transactions (headers ∙ one.headers) (alhs ∙ one.alhs) (tree ∙ one.alhs) refl
+    (full-is hash txs held.levels one.history own)

@@ -77,6 +77,14 @@ impl<D: Disk> KeptLedger<D> {
         &self.ledger
     }
 
+    /// The number of transactions in the tree.
+    pub fn linked(&self) -> u64
+        requires { (hash : Hash) × IsLedger hash self.now.held }
+        ensures { result ≡ length self.now.held.tree }
+    {
+        self.ledger.tree().size()
+    }
+
     /// Places a transaction behind the others: makes room for it, writes its record as a batch of its own, makes
     /// that durable, and only then takes it into the ledger, which can't be refused. It hashes each value, each entry
     /// and the header once. The disk gets a write for each value log that gets octets, two more, a sync, the write

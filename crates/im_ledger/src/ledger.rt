@@ -1,23 +1,23 @@
-ghost use Rattle.std.specs.Prelude.{◌≡◌, ◌≤◌, length, take, IfOk, OnOk};
+ghost use Rattle.std.specs.Prelude.{◌≡◌, ◌≤◌, ℕ, List, length, take, IfOk, OnOk};
+ghost use Rattle.im_levels.specs.Leveled.{IsLeveled};
+ghost use Rattle.im_model.specs.History.{bl_root_of};
 ghost use Rattle.im_opening.specs.Reach.{txs_of};
 
 use im_atree::trees::Tree;
 use im_book::book::Book;
-use im_book::roots::{extend_to, root_of};
 use im_digest::{D32, Hash32};
 use im_draft::preconditions::Pres;
 use im_format::records::Record;
 use im_model::headers::Header;
 use im_model::transactions::Transaction;
-use im_mtree::frontiers::Frontier;
 use im_opening::found::FoundHistory;
 use im_versions::refusals::PlaceError;
 use std::alloc::{AllocError, Global};
 use std::marker::Model;
 
 /// A history in memory: the book of the transactions, with the header and the Alh of each, and the tree of the
-/// first of these Alh, whose root is kept (zeros where the tree is empty), as are its whole subtrees. So a
-/// header is made without the tree being hashed again. A clause sees the lists, and what is kept of the tree.
+/// first of these Alh, which keeps the digests of its whole subtrees. So no leaf is hashed twice. A clause sees the
+/// lists, the leaves of the tree among them, and what is kept of the tree.
 ///
 /// # Thread safety
 ///
@@ -26,22 +26,21 @@ use std::marker::Model;
 /// # Invariants
 ///
 /// `IsLedger`, for one hash: the lists are those of one history, the tree has the first Alh, at least as many as
-/// the tree of any transaction, and the subtrees and the root are those of this tree. `new` begins with it, and so
+/// the tree of any transaction, and the digests are those of its subtrees. `new` begins with it, and so
 /// does `from_found` over a history that was found; `link` keeps it where it succeeds.
 #[derive(Drop)]
 pub struct Ledger {
     pub(crate) book: Book,
     tree: Tree,
-    frontier: Frontier,
-    root: D32,
 }
 
 impl Model for Ledger {
+    ghost use Rattle.std.specs.Prelude.{take};
     ghost use Rattle.im_ledger.specs.Ledgers.{Held};
 
     ghost Value = { Held };
 
-    ghost view = { λ s. record { transactions = s.book.transactions; headers = s.book.headers; alhs = s.book.alhs; tree = s.tree; frontier = s.frontier; root = s.root } };
+    ghost view = { λ s. record { transactions = s.book.transactions; headers = s.book.headers; alhs = s.book.alhs; tree = take s.tree.size s.book.alhs; levels = s.tree } };
 }
 
 impl Ledger {
@@ -63,8 +62,6 @@ impl Ledger {
         Ledger {
             book: Book::empty(alloc),
             tree: Tree::new(alloc),
-            frontier: Frontier::new(),
-            root: [0; 32],
         }
     }
 
@@ -84,19 +81,14 @@ impl Ledger {
             records,
             headers,
             alhs,
-            tree: mut frontier,
+            tree: mut grown,
             root: _,
         } = found;
         let transactions = transactions_of(alloc, records)?;
-        let mut tree = Tree::new(alloc);
-        raise(&mut tree, alhs.as_slice(), alhs.len())?;
-        extend_to(hash, &mut frontier, alhs.as_slice(), alhs.len());
-        let root = root_of(hash, &frontier);
+        raise(hash, &mut grown, alhs.as_slice(), alhs.len())?;
         Ok(Ledger {
             book: Book::of(transactions, headers, alhs),
-            tree,
-            frontier,
-            root,
+            tree: grown,
         })
     }
 
@@ -152,7 +144,7 @@ impl Ledger {
 
     /// Lends the tree.
     pub fn tree(&self) -> &Tree
-        ensures { result.now ≡ self.now.tree }
+        ensures { result.now ≡ self.now.levels }
     {
         &self.tree
     }
@@ -172,7 +164,8 @@ impl Ledger {
     }
 
     /// The header that a transaction over the whole tree has behind the others, where its entries have the root
-    /// `eh`. It hashes nothing of the tree, and takes no memory.
+    /// `eh`. It takes no memory, and the root of the tree costs less than two digests read or hashed for each binary digit
+    /// of the tree's size.
     pub fn header_for<H: Hash32>(
         &self,
         alloc: Global,
@@ -187,11 +180,12 @@ impl Ledger {
         requires eh { eh ≡ entries_root (H.digest hash.now) tx.now.entries }
         ensures { result ≡ next_header (H.digest hash.now) self.now.alhs tx.now }
     {
-        self.book.header_for(alloc, hash, tx, self.root, eh)
+        let top = root_of(hash, &self.tree);
+        self.book.header_for(alloc, hash, tx, top, eh)
     }
 
-    /// Raises the tree by so many transactions, at most to the last one, and takes its root. It hashes the
-    /// leaves that are added, and no other ones. Its only error is want of memory. After an error the tree may
+    /// Raises the tree by so many transactions, at most to the last one. It hashes the leaves that are added, and
+    /// no other ones. Its only error is want of memory. After an error the tree may
     /// have some of the leaves, and the ledger isn't used again.
     pub fn link<H: Hash32>(&mut self, hash: &H, count: u64) -> Result<(), AllocError>
         requires { IsLedger (H.digest hash.now) self.old }
@@ -202,24 +196,34 @@ impl Ledger {
     {
         let end = self.tree.size().saturating_add(count).min(self.book.len());
         let alhs = self.book.alhs();
-        raise(&mut self.tree, alhs, end as usize)?;
-        extend_to(hash, &mut self.frontier, alhs, end as usize);
-        self.root = root_of(hash, &self.frontier);
+        raise(hash, &mut self.tree, alhs, end as usize)?;
         Ok(())
     }
 }
 
-// Raises a tree of the first of these Alh to a size.
-fn raise(tree: &mut Tree, alhs: &[D32], end: usize) -> Result<(), AllocError>
-    requires tree { tree.old ≡ take (length tree.old) alhs.now }
-    requires up { length tree.old ≤ end }
+// Raises a tree of the first of these Alh to a size. It hashes the leaves that are added.
+fn raise<H: Hash32>(hash: &H, tree: &mut Tree, alhs: &[D32], end: usize) -> Result<(), AllocError>
+    requires tree { IsLeveled (H.digest hash.now) (take tree.old.size alhs.now) tree.old }
+    requires up { tree.old.size ≤ end }
     requires within { end ≤ length alhs.now }
-    ensures { OnOk result (tree.new ≡ take end alhs.now) }
+    ensures size { OnOk result (tree.new.size ≡ end) }
+    ensures leaves { OnOk result (IsLeveled (H.digest hash.now) (take end alhs.now) tree.new) }
 {
-    for alh in &alhs[tree.size() as usize..end] {
-        tree.append(alh)?;
-    }
+    let start = tree.size() as usize;
+    tree.extend(hash, &alhs[start..end])?;
     Ok(())
+}
+
+// The root of a tree, 32 zeros where it has no leaf.
+fn root_of<H: Hash32>(hash: &H, tree: &Tree) -> D32
+    ensures { (leaves : List (List ℕ)) → IsLeveled (H.digest hash.now) leaves tree.now
+        → result ≡ bl_root_of (H.digest hash.now) leaves (length leaves) }
+{
+    let size = tree.size();
+    if size == 0 {
+        return [0; 32];
+    }
+    tree.root_at(hash, size)
 }
 
 // The transactions of records.

@@ -4,7 +4,7 @@ use Rattle.std.proofs.lemmas.List.{length-map}
 use Rattle.im_digest.specs.Digests.{Hash}
 use Rattle.im_format.specs.Places.{log_end, refs_of}
 use Rattle.im_format.specs.declared.records.Record.{Record}
-use Rattle.im_mtree.specs.Kept.{KeptRoots}
+use Rattle.im_levels.specs.Leveled.{Stored}
 use Rattle.im_opening.specs.Reach.{AreReferred, IsConsistent}
 use Rattle.im_format.proofs.EndLemmas.{log_end_append, references_below}
 
@@ -17,7 +17,7 @@ low-records hash id number n (r ∷ records) h le =
     omega (arith, log_end_append number r.refs (refs_of records))
 
 -- so no log ends far out
-pub low-ends : (hash : Hash) (number : ℕ) (records : List Record) (alhs : List (List ℕ)) (bl : ℕ) (bl_root : List ℕ) (tree : KeptRoots)
+pub low-ends : (hash : Hash) (number : ℕ) (records : List Record) (alhs : List (List ℕ)) (bl : ℕ) (bl_root : List ℕ) (tree : Stored)
     → IsConsistent hash records alhs bl bl_root tree → log_end number (refs_of records) ≤ 2 ^ 43
 low-ends hash number records alhs bl bl_root tree h =
     let many : length alhs ≡ length records = ap length (sym h.kept) ∙ length-map records (λ (x : Record). x.alh) in

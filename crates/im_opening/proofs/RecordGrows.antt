@@ -5,7 +5,7 @@ use Rattle.std.proofs.lemmas.List.{length-map, map-append, take-append-le}
 use Rattle.im_digest.specs.Digests.{Hash}
 use Rattle.im_format.specs.Records.{AreRecords, AreReferences}
 use Rattle.im_format.specs.declared.records.Record.{Record}
-use Rattle.im_mtree.specs.Kept.{KeptRoots, IsFrontier}
+use Rattle.im_levels.specs.Leveled.{Stored, IsLeveled}
 use Rattle.im_model.specs.Headers.{alh}
 use Rattle.im_model.specs.History.{Follow, IsHistory, IsTransaction, alh_of, alhs_of, bl_root_of, first_alh, next_header, no_digest}
 use Rattle.im_model.specs.Trees.{root}
@@ -41,10 +41,10 @@ root-kept : (hash : Hash) (alhs : List (List ℕ)) (x : List ℕ) (bl : ℕ) →
 root-kept hash alhs x bl le = ap (λ (l : List (List ℕ)). if bl == 0 then no_digest else root hash l) (take-append-le bl alhs (x ∷ []) le)
 
 -- one more record of the history
-pub consistent-next : (hash : Hash) (records : List Record) (alhs : List (List ℕ)) (bl : ℕ) (bl_root : List ℕ) (tree : KeptRoots) (r : Record) (next : List ℕ) (grown : KeptRoots)
+pub consistent-next : (hash : Hash) (records : List Record) (alhs : List (List ℕ)) (bl : ℕ) (bl_root : List ℕ) (tree : Stored) (r : Record) (next : List ℕ) (grown : Stored)
     → IsConsistent hash records alhs bl bl_root tree → length alhs < 1048576 → IsTransaction (length alhs) r.tx → bl ≤ r.tx.bl
     → AreReferences hash (length alhs + 1) r.tx.entries r.refs → r.alh ≡ alh hash (next_header hash alhs r.tx)
-    → next ≡ bl_root_of hash alhs r.tx.bl → IsFrontier hash (take r.tx.bl alhs) grown
+    → next ≡ bl_root_of hash alhs r.tx.bl → IsLeveled hash (take r.tx.bl alhs) grown
     → IsConsistent hash (records ++ r ∷ []) (alhs ++ r.alh ∷ []) r.tx.bl next grown
 consistent-next hash records alhs bl bl_root tree r next grown h few is rises refer digest root whole =
     let txs = txs_of records in
@@ -61,7 +61,7 @@ consistent-next hash records alhs bl bl_root tree r next grown h few is rises re
       last = ap (last_bl_from 0) more ∙ last-next 0 txs r.tx;
       linked = omega (arith, is.linked, length-append alhs (r.alh ∷ []));
       root_is = root ∙ sym (root-kept hash alhs r.alh r.tx.bl is.linked);
-      tree_is = subst (λ (l : List (List ℕ)). IsFrontier hash l grown) (sym (take-append-le r.tx.bl alhs (r.alh ∷ []) is.linked)) whole;
+      tree_is = subst (λ (l : List (List ℕ)). IsLeveled hash l grown) (sym (take-append-le r.tx.bl alhs (r.alh ∷ []) is.linked)) whole;
       alhs_are =
           ap (λ (x : List ℕ). alhs ++ x ∷ []) digest
           ∙ ap (λ (l : List (List ℕ)). l ++ alh hash (next_header hash l r.tx) ∷ []) h.alhs_are
@@ -83,7 +83,7 @@ headers-next hash records alhs headers r header digests are is =
     ∙ ap (headers_of hash) (sym (map-append (λ (x : Record). x.tx) records (r ∷ [])))
 
 -- no records
-pub consistent-first : (hash : Hash) (tree : KeptRoots) → IsFrontier hash [] tree → IsConsistent hash [] [] 0 no_digest tree
+pub consistent-first : (hash : Hash) (tree : Stored) → IsLeveled hash [] tree → IsConsistent hash [] [] 0 no_digest tree
 consistent-first hash tree whole = record {
   few = omega arith;
   follow = tt;
@@ -119,7 +119,7 @@ are-records hash history before (r ∷ rs) is h =
     (record { refs = h.0; alh = sym (alh-at hash history before (map (λ r. r.alh) rs) r.alh is) }, subst Q grown more)
 
 -- consistent records are those of a history
-pub consistent-records : (hash : Hash) (records : List Record) (alhs : List (List ℕ)) (bl : ℕ) (bl_root : List ℕ) (tree : KeptRoots)
+pub consistent-records : (hash : Hash) (records : List Record) (alhs : List (List ℕ)) (bl : ℕ) (bl_root : List ℕ) (tree : Stored)
     → IsConsistent hash records alhs bl bl_root tree → IsHistory (txs_of records) × AreRecords hash (txs_of records) 1 records
 consistent-records hash records alhs bl bl_root tree h =
     let many : length alhs ≡ length records = ap length (sym h.kept) ∙ length-map records (λ (x : Record). x.alh) in

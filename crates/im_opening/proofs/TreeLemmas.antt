@@ -2,7 +2,7 @@
 use Rattle.std.proofs.Common.{◌≡◌, ◌<◌, ◌≤◌, ℕ, List, length, take, sym, ◌∙◌, ap, subst, arith, ne_eqb, if◌then◌else◌}
 use Rattle.std.proofs.lemmas.List.{length-take-le}
 use Rattle.im_digest.specs.Digests.{Hash}
-use Rattle.im_mtree.specs.Kept.{KeptRoots, IsFrontier}
+use Rattle.im_levels.specs.Leveled.{Stored, IsLeveled}
 use Rattle.im_model.specs.History.{bl_root_of, no_digest}
 use Rattle.im_model.specs.Trees.{root}
 use Rattle.im_proof.specs.Built.{headers_of}
@@ -17,7 +17,7 @@ grown-root hash alhs bl made some is =
     is ∙ sym (ap (λ b. if b then no_digest else root hash (take bl alhs)) (ne_eqb bl 0 (λ e. omega (arith, e))))
 
 -- the size of the tree is the number of its leaves
-pub tree-size : (hash : Hash) (alhs : List (List ℕ)) (bl : ℕ) (tree : KeptRoots) → bl ≤ length alhs → IsFrontier hash (take bl alhs) tree → bl ≡ tree.size
+pub tree-size : (hash : Hash) (alhs : List (List ℕ)) (bl : ℕ) (tree : Stored) → bl ≤ length alhs → IsLeveled hash (take bl alhs) tree → bl ≡ tree.size
 tree-size hash alhs bl tree le whole = sym (whole.counted ∙ length-take-le bl alhs le)
 
 -- what was read so far is one history's
@@ -34,6 +34,6 @@ consistent-found hash found bl h headed =
       alhs = h.alhs_are;
       last = sym (h.last ∙ size);
       linked = subst (λ (n : ℕ). n ≤ length alhs) size h.linked;
-      tree = subst (λ (n : ℕ). IsFrontier hash (take n alhs) found.tree) size h.tree_is;
+      tree = subst (λ (n : ℕ). IsLeveled hash (take n alhs) found.tree) size h.tree_is;
       root = h.root_is ∙ ap (λ (n : ℕ). bl_root_of hash alhs n) size;
     }

@@ -9,7 +9,7 @@ use Rattle.im_format.specs.Reading.{history_in}
 use Rattle.im_format.specs.Records.{AreRecords, records_octets}
 use Rattle.im_format.specs.Standing.{HasBatches, Stands}
 use Rattle.im_format.specs.declared.records.Record.{Record}
-use Rattle.im_mtree.specs.Kept.{IsFrontier}
+use Rattle.im_levels.specs.Leveled.{IsLeveled}
 use Rattle.im_model.specs.History.{IsHistory, alhs_of, bl_root_of}
 use Rattle.im_proof.specs.Built.{headers_of}
 use Rattle.im_opening.specs.Parts.{batches_in, counted_end}
@@ -56,7 +56,7 @@ pub record IsOneHistory (hash : Hash) (found : FoundHistory) : Type 0 where
   pub alhs : found.alhs.items ≡ alhs_of hash (txs_of found.records.items)
   pub last : found.tree.size ≡ last_bl_from 0 (txs_of found.records.items)
   pub linked : found.tree.size ≤ length found.alhs.items
-  pub tree : IsFrontier hash (take found.tree.size found.alhs.items) found.tree
+  pub tree : IsLeveled hash (take found.tree.size found.alhs.items) found.tree
   pub root : found.root ≡ bl_root_of hash found.alhs.items found.tree.size
 
 -- what was read is what the image has, which stands for its history

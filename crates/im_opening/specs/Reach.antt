@@ -5,7 +5,7 @@ use Rattle.im_disk.specs.Disk.{Files}
 use Rattle.im_format.specs.Damages.{Reached, behind, behind_one}
 use Rattle.im_format.specs.Records.{AreReferences, records_octets}
 use Rattle.im_format.specs.declared.records.Record.{Record}
-use Rattle.im_mtree.specs.Kept.{KeptRoots, IsFrontier}
+use Rattle.im_levels.specs.Leveled.{Stored, IsLeveled}
 use Rattle.im_model.specs.History.{Follow, alhs_of, bl_root_of}
 use Rattle.im_model.specs.declared.transactions.Transaction.{Transaction}
 use Rattle.im_proof.specs.Built.{headers_of}
@@ -33,13 +33,13 @@ AreReferred hash id (r ∷ rs) = AreReferences hash id r.tx.entries r.refs × Ar
 
 -- records of a history: their transactions follow each other, and their Alh are the history's; the last one's
 -- tree has this size, this root and these whole subtrees
-pub record IsConsistent (hash : Hash) (records : List Record) (alhs : List (List ℕ)) (bl : ℕ) (bl_root : List ℕ) (tree : KeptRoots) : Type 0 where
+pub record IsConsistent (hash : Hash) (records : List Record) (alhs : List (List ℕ)) (bl : ℕ) (bl_root : List ℕ) (tree : Stored) : Type 0 where
   pub few : length alhs ≤ 1048576
   pub follow : Follow 0 0 (txs_of records)
   pub last : last_bl_from 0 (txs_of records) ≡ bl
   pub linked : bl ≤ length alhs
   pub root_is : bl_root ≡ bl_root_of hash alhs bl
-  pub tree_is : IsFrontier hash (take bl alhs) tree
+  pub tree_is : IsLeveled hash (take bl alhs) tree
   pub alhs_are : alhs ≡ alhs_of hash (txs_of records)
   pub kept : map (λ r. r.alh) records ≡ alhs
   pub refer : AreReferred hash 1 records

@@ -1,7 +1,7 @@
+use im_atree::trees::Tree;
 use im_digest::D32;
 use im_format::records::Record;
 use im_model::headers::Header;
-use im_mtree::frontiers::Frontier;
 
 /// A history as it was read, with all that was computed on the way. A clause tells that they belong together.
 #[derive(Drop)]
@@ -12,8 +12,8 @@ pub struct FoundHistory {
     pub headers: Vec<Header>,
     /// The Alh of each header.
     pub alhs: Vec<D32>,
-    /// The whole subtrees of the tree that the last transaction was placed over: the first Alh are its leaves.
-    pub tree: Frontier,
+    /// The tree that the last transaction was placed over: the first Alh are its leaves.
+    pub tree: Tree,
     /// The root of this tree, 32 zeros where it is empty.
     pub root: D32,
 }

@@ -16,11 +16,11 @@ use crate::found::FoundHistory;
 use crate::records::Progress;
 use crate::source::RecordSource;
 use im_alog::reading::read_all;
+use im_atree::trees::Tree;
 use im_clog::marks::{Mark, Uncounted, batch_at};
 use im_digest::Hash32;
 use im_disk::disk::{Disk, DiskError};
 use im_format::files::{BATCH_OCTETS, COMMIT_LOG, FIRST_VALUE_LOG, TRANSACTION_LOG};
-use im_mtree::frontiers::Frontier;
 use std::alloc::Global;
 
 /// The files as they were read: the history of the batches that count, and where these end.
@@ -77,7 +77,7 @@ fn read_batches<D: Disk, H: Hash32>(
         alhs: Vec::new(alloc),
         bl: 0,
         bl_root: [0; 32],
-        tree: Frontier::new(),
+        tree: Tree::new(alloc),
         place: 0,
     };
     let mut gate = 0;

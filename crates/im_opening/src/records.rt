@@ -1,7 +1,7 @@
-ghost use Rattle.std.specs.Prelude.{◌≡◌, ◌≤◌, ◌<◌, ◌+◌, length, map, take, Some, OnOk, IfSome};
+ghost use Rattle.std.specs.Prelude.{◌≡◌, ◌≤◌, ◌<◌, ◌+◌, length, map, take, Some, IfOk, OnOk, IfSome};
 ghost use Rattle.im_disk.specs.Disk.{Told, seen};
 ghost use Rattle.im_format.specs.Damages.{record_checks, records_checks};
-ghost use Rattle.im_mtree.specs.Kept.{IsFrontier};
+ghost use Rattle.im_levels.specs.Leveled.{IsLeveled};
 ghost use Rattle.im_model.specs.Entries.{entry_digest};
 ghost use Rattle.im_model.specs.History.{IsTransaction, bl_root_of, next_header};
 ghost use Rattle.im_opening.specs.Answers.{HasOpenCause, Judges};
@@ -11,6 +11,7 @@ ghost use Rattle.im_opening.specs.Reach.{AreMore, Fits, IsOneMore, IsWholeProgre
 use crate::errors::OpenError;
 use crate::source::RecordSource;
 use crate::transactions::{TransactionRead, read_transaction};
+use im_atree::trees::Tree;
 use im_digest::{D32, Hash32};
 use im_disk::disk::Disk;
 use im_format::records::Record;
@@ -19,13 +20,12 @@ use im_header::alh;
 use im_header::next::next_header;
 use im_model::headers::Header;
 use im_model::transactions::Transaction;
-use im_mtree::frontiers::Frontier;
 use im_mtree::roots::root;
 use im_record::alhs::read_alh;
-use std::alloc::Global;
+use std::alloc::{AllocError, Global};
 
 /// How far the files were read: the records so far, their headers and their Alh, the size of the last one's tree,
-/// its root and its whole subtrees, and the place where the last one ends in the transaction log.
+/// its root and the tree itself, and the place where the last one ends in the transaction log.
 #[derive(Drop)]
 pub(crate) struct Progress {
     pub records: Vec<Record>,
@@ -33,26 +33,32 @@ pub(crate) struct Progress {
     pub alhs: Vec<D32>,
     pub bl: u64,
     pub bl_root: D32,
-    pub tree: Frontier,
+    pub tree: Tree,
     pub place: u64,
 }
 
 // Lets the tree over the first Alh grow to so many of them, and gives its root. Where it doesn't grow, that is
-// the root as it was.
-fn grow<H: Hash32>(hash: &H, tree: &mut Frontier, root: D32, alhs: &[D32], bl: u64) -> D32
-    requires tree { IsFrontier (H.digest hash.now) (take tree.old.size alhs.now) tree.old }
+// the root as it was. Its only error is want of memory.
+fn grow<H: Hash32>(
+    hash: &H,
+    tree: &mut Tree,
+    root: D32,
+    alhs: &[D32],
+    bl: u64,
+) -> Result<D32, AllocError>
+    requires tree { IsLeveled (H.digest hash.now) (take tree.old.size alhs.now) tree.old }
     requires root { root ≡ bl_root_of (H.digest hash.now) alhs.now tree.old.size }
     requires rises { tree.old.size ≤ bl }
     requires linked { bl ≤ length alhs.now }
-    ensures root { result ≡ bl_root_of (H.digest hash.now) alhs.now bl }
-    ensures tree { IsFrontier (H.digest hash.now) (take bl alhs.now) tree.new }
+    ensures root { IfOk result (λ root. root ≡ bl_root_of (H.digest hash.now) alhs.now bl) }
+    ensures tree { OnOk result (IsLeveled (H.digest hash.now) (take bl alhs.now) tree.new) }
 {
     let size = tree.size();
     if bl == size {
-        return root;
+        return Ok(root);
     }
-    tree.extend(hash, &alhs[size as usize..bl as usize]);
-    tree.root(hash)
+    tree.extend(hash, &alhs[size as usize..bl as usize])?;
+    Ok(tree.root_at(hash, bl))
 }
 
 // The header of the next transaction, whose tree has this root, and whose entries have these digests.
@@ -107,7 +113,7 @@ pub(crate) fn read_record<D: Disk, H: Hash32>(
         end,
     } = read;
     let alhs = progress.alhs.as_slice();
-    let bl_root = grow(hash, &mut progress.tree, progress.bl_root, alhs, tx.bl);
+    let bl_root = grow(hash, &mut progress.tree, progress.bl_root, alhs, tx.bl)?;
     let header = header_behind(alloc, hash, progress, &tx, bl_root, digests.as_slice());
     let digest = alh(hash, &header);
     let place = read_alh(source.log, end, &digest)?;

@@ -72,7 +72,7 @@ fn place<D: Disk, H: Hash32, C: Clock>(
     ensures cause { HasCommitCause (D.faults kept.old.journal.disk) (D.faults kept.new.journal.disk) result }
     ensures same { C.constant clock.new ≡ C.constant clock.old }
 {
-    let tx = transaction_now(clock, entries, kept.ledger().tree().size());
+    let tx = transaction_now(clock, entries, kept.linked());
     kept.commit(alloc, hash, tx)?;
     Ok(tx_text(alloc, kept.ledger().count())?)
 }

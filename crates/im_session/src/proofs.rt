@@ -90,8 +90,9 @@ fn dual_between<H: Hash32>(
     build(alloc, hash, ledger.headers(), ledger.tree(), s, t)
 }
 
-/// The reply to `prove`: the dual proof between two transactions. It hashes the leaves of the target's tree for each
-/// path in the proof and for the consistency list: at most three times, and once more for each path of the advance.
+/// The reply to `prove`: the dual proof between two transactions. Each path in the proof, those of the advance among
+/// them, and the consistency list cost at most four digests read or hashed for each binary digit of the size of the
+/// target's tree.
 #[tactic(auto, unfolding(im_report::specs::Replies::prove_reply))]
 pub(crate) fn prove_text<H: Hash32>(
     alloc: Global,

@@ -65,7 +65,7 @@ fn place<D: Disk, H: Hash32>(
     let tx = Transaction {
         ts: 0,
         entries: entries(alloc)?,
-        bl: kept.ledger().tree().size(),
+        bl: kept.linked(),
     };
     if kept.ledger().count() > 0 {
         return Err(Fail::from("the disk wasn't empty"));
@@ -107,7 +107,9 @@ fn a_transaction_is_placed(rt: HostRuntime) -> Result<(), Fail> {
     assert!(rt; answer == Ok(()));
     let (mut journal, ledger) = kept.into_parts();
     assert!(rt;
-        ledger.count() == 1 && ledger.tree().size() == 1 && *ledger.tree().leaf(1) == sum_is(0x95)
+        ledger.count() == 1
+            && ledger.tree().size() == 1
+            && ledger.tree().root_at(&Sum, 1) == sum_is(0x95)
     );
     drop(ledger);
     assert!(rt; holds_one(alloc, &mut journal));
@@ -123,7 +125,9 @@ fn a_ledger_that_was_read_has_its_whole_tree(rt: HostRuntime) -> Result<(), Fail
     let disk = disk_of(alloc, &RECORD, &BATCH, b"abc", Vec::new(alloc))?;
     let (mut journal, ledger) = opened(alloc, &Sum, disk)?.into_parts();
     assert!(rt;
-        ledger.count() == 1 && ledger.tree().size() == 1 && *ledger.tree().leaf(1) == sum_is(0x95)
+        ledger.count() == 1
+            && ledger.tree().size() == 1
+            && ledger.tree().root_at(&Sum, 1) == sum_is(0x95)
     );
     assert!(rt; ledger.transactions().len() == 1 && ledger.headers().len() == 1);
     drop(ledger);

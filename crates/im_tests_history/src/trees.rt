@@ -4,10 +4,11 @@
 //! leaves, and one more for each node. Of the digests 1 to 7, in hex: 1 + 2 + 1 is 4, 4 + 3 + 1 is 8, 3 + 4 + 1
 //! is 8, 4 + 8 + 1 is d, 5 + 6 + 1 is c, c + 7 + 1 is 14, and d + 14 + 1 is 22.
 
-ghost use Rattle.std.specs.Prelude.{◌≡◌, ◌≤◌, length};
+ghost use Rattle.std.specs.Prelude.{◌≡◌, ◌≤◌};
 
 use crate::values::{are, digest, one_to};
 use im_atree::checks::{check_consistency, check_inclusion, check_last};
+use im_atree::list_trees::ListTree;
 use im_atree::trees::Tree;
 use im_digest::{Hash32, Sha, Sum};
 use im_model::growth::{newer_root, older_root};
@@ -110,14 +111,34 @@ fn the_code_gives_the_plain_roots(rt: HostRuntime) {
 fn seven(alloc: Global) -> Result<Tree, AllocError> {
     let mut tree = Tree::new(alloc);
     for digest in &one_to::<7>() {
-        tree.append(digest)?;
+        tree.append(&Sum, digest)?;
     }
     Ok(tree)
 }
 
+// Whether a tree of the first n of the digests 1 to 9 has the root hashed afresh, for each n, and so has the list.
+fn roots_are_those_hashed_afresh(alloc: Global) -> Result<bool, AllocError> {
+    let digests = one_to::<9>();
+    let mut tree = Tree::new(alloc);
+    let mut list = ListTree::new(alloc);
+    let mut same = true;
+    for n in 1..10usize {
+        tree.append(&Sum, &digests[n - 1])?;
+        list.append(&digests[n - 1])?;
+        let size = n as u64;
+        let afresh = root(&Sum, &digests[..n]);
+        same = same
+            && tree.size() == size
+            && tree.root_at(&Sum, size) == afresh
+            && list.size() == size
+            && list.root_at(&Sum, size) == afresh;
+    }
+    Ok(same)
+}
+
 fn roots_of_seven(tree: &Tree) -> bool {
     tree.size() == 7
-        && *tree.leaf(7) == digest(7)
+        && tree.root_at(&Sum, 1) == digest(1)
         && tree.root_at(&Sum, 3) == digest(0x08)
         && tree.root_at(&Sum, 4) == digest(0x0d)
         && tree.root_at(&Sum, 7) == digest(0x22)
@@ -127,7 +148,7 @@ fn roots_of_seven(tree: &Tree) -> bool {
 fn is_list(alloc: Global, tree: &Tree, m: u64, older: u8, terms: &[u8]) -> Result<bool, AllocError>
     requires some { 1 ≤ m }
     requires within { m ≤ 7 }
-    requires seven { length tree.now ≡ 7 }
+    requires seven { tree.now.size ≡ 7 }
 {
     let list = tree.consistency(alloc, &Sum, m, 7)?;
     let list = list.as_slice();
@@ -149,7 +170,7 @@ fn lists_of_seven(alloc: Global, tree: &Tree) -> Result<bool, AllocError> {
 }
 
 fn last_of_seven(alloc: Global, tree: &Tree) -> Result<bool, AllocError>
-    requires { length tree.now ≡ 7 }
+    requires { tree.now.size ≡ 7 }
 {
     let last = tree.inclusion(alloc, &Sum, 7, 7)?;
     let path = last.as_slice();
@@ -157,7 +178,7 @@ fn last_of_seven(alloc: Global, tree: &Tree) -> Result<bool, AllocError>
 }
 
 fn sixth_of_seven(alloc: Global, tree: &Tree) -> Result<bool, AllocError>
-    requires { length tree.now ≡ 7 }
+    requires { tree.now.size ≡ 7 }
 {
     let sixth = tree.inclusion(alloc, &Sum, 6, 7)?;
     let path = sixth.as_slice();
@@ -183,6 +204,12 @@ fn path_over_seven(alloc: Global) -> Result<bool, AllocError> {
 fn proofs_of_seven(alloc: Global) -> Result<bool, AllocError> {
     let tree = seven(alloc)?;
     Ok(roots_of_seven(&tree) && lists_of_seven(alloc, &tree)? && paths_of_seven(alloc, &tree)?)
+}
+
+#[test]
+fn a_growing_tree_has_the_roots_hashed_afresh(rt: HostRuntime) -> Result<(), Fail> {
+    assert!(rt; roots_are_those_hashed_afresh(rt.alloc())?);
+    Ok(())
 }
 
 #[test]

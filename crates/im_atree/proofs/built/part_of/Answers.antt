@@ -1,4 +1,4 @@
-use Rattle.im_atree.proofs.BuiltLemmas.{parts-low, parts-high}
+use Rattle.im_levels.proofs.GrowthLemmas.{parts-low, parts-high}
 use Rattle.im_atree.proofs.built.part_of.Goals as goal
 
 pub returns-then-m-k-clause-first : goal.returns-then-m-k-clause-first

@@ -1,5 +1,5 @@
 use Rattle.std.proofs.Common.{◌≡◌, ◌++◌, ◌∷◌, [], length, arith, ap, ◌∙◌}
-use Rattle.im_atree.proofs.BuiltLemmas.{down-ends}
+use Rattle.im_levels.proofs.GrowthLemmas.{down-ends}
 use Rattle.im_atree.proofs.built.terms_down.Goals as goal
 
 pub returns : goal.returns

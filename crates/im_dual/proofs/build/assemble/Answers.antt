@@ -4,6 +4,6 @@ use Rattle.im_dual.proofs.build.assemble.Goals as goal
 pub returns : goal.returns
 returns g c =
     let r = c.requires in
-    assembled (g.H.Hash32.digest c.args.hash.now) c.args.headers.now c.args.tree.now c.args.s c.args.t c.args.size c.max.result c.min.result _ c.max.ensures c.min.ensures r.source r.target r.size r.leaves
-    c.in_ok-source.ensures c.in_ok-target.ensures c.in_ok-inclusion.ensures c.in_ok-consistency.ensures c.last_of.ensures c.in_ok-last_inclusion.ensures
-    c.in_ok-linear.ensures c.in_ok-linear_advance.ensures
+    assembled (g.H.Hash32.digest c.args.hash.now) c.args.headers.now c.args.tree.now.size c.args.s c.args.t c.args.size c.max.result c.min.result _ c.max.ensures c.min.ensures r.source r.target r.size r.tree
+    c.in_ok-source.ensures c.in_ok-target.ensures (c.in_ok-inclusion.ensures _ r.leaves) (c.in_ok-consistency.ensures _ r.leaves) c.last_of.ensures
+    (c.in_ok-last_inclusion.ensures _ r.leaves) c.in_ok-linear.ensures c.in_ok-linear_advance.ensures

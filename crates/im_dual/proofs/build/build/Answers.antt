@@ -28,8 +28,7 @@ assemble-requires-clause-lag g c =
 pub assemble-requires-clause-leaves : goal.assemble-requires-clause-leaves
 assemble-requires-clause-leaves g c =
     let r = c.requires in
-    kept-leaves (g.H.Hash32.digest c.args.hash.now) r.history.0 c.args.headers.now c.args.tree.now c.size_at.result
-    r.history.2 r.history.3 (omega (arith, r.tree, c.size_at.ensures))
+    kept-leaves (g.H.Hash32.digest c.args.hash.now) r.history.0 c.args.headers.now c.args.tree.now r.history.2 r.history.3
 
 pub returns-clause-value : goal.returns-clause-value
 returns-clause-value g c =

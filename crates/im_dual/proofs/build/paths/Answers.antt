@@ -3,6 +3,6 @@ use Rattle.im_dual.proofs.AdvanceLemmas.{paths-next}
 use Rattle.im_dual.proofs.build.paths.Goals as goal
 
 pub loop-i-preserved : goal.loop-i-preserved
-loop-i-preserved g c =
-    paths-next (g.H.Hash32.digest c.args.hash.now) (take c.args.size c.args.tree.now) c.loop-i.i c.args.to c.loop-i.paths.items _ _ _ c.loop-i-test.true
-    c.in_ok-push.ensures.items c.in_ok-inclusion.ensures.value c.loop-i.invariant
+loop-i-preserved g c leaves is =
+    paths-next (g.H.Hash32.digest c.args.hash.now) (take c.args.size leaves) c.loop-i.i c.args.to c.loop-i.paths.items _ _ _ c.loop-i-test.true
+    c.in_ok-push.ensures.items (c.in_ok-inclusion.ensures.value leaves is) (c.loop-i.invariant leaves is)

@@ -1,8 +1,10 @@
-use Rattle.std.proofs.Common.{◌≡◌, ◌-◌, ◌++◌, take}
+use Rattle.std.proofs.Common.{◌≡◌, ◌-◌, ◌++◌, ℕ, List, take}
+use Rattle.im_levels.specs.Leveled.{IsLeveled}
 use Rattle.im_proof.specs.Built.{paths_from}
 use Rattle.im_dual.proofs.build.paths.Given as goal
 
 abbrev pub invariant-loop-i : goal.invariant-loop-i
 invariant-loop-i g l =
-    l.paths.items ++ paths_from (g.H.Hash32.digest l.hash) (take l.size l.tree) l.i (l.to - l.i)
-    ≡ paths_from (g.H.Hash32.digest l.hash) (take l.size l.tree) l.from (l.to - l.from)
+    (leaves : List (List ℕ)) → IsLeveled (g.H.Hash32.digest l.hash) leaves l.tree
+    → l.paths.items ++ paths_from (g.H.Hash32.digest l.hash) (take l.size leaves) l.i (l.to - l.i)
+    ≡ paths_from (g.H.Hash32.digest l.hash) (take l.size leaves) l.from (l.to - l.from)

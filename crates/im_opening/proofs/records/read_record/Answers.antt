@@ -3,7 +3,7 @@ use Rattle.im_disk.specs.Disk.{seen}
 use Rattle.im_format.specs.Records.{AreReferences, entries_octets, records_octets}
 use Rattle.im_format.specs.declared.records.Record.{Record}
 use Rattle.im_format.specs.declared.references.ValueRef.{ValueRef}
-use Rattle.im_mtree.specs.Kept.{IsFrontier}
+use Rattle.im_levels.specs.Leveled.{IsLeveled}
 use Rattle.im_model.specs.Headers.{alh, alh_string}
 use Rattle.im_model.specs.History.{IsTransaction, bl_root_of}
 use Rattle.im_mtree.specs.Checks.{first_fail}
@@ -76,17 +76,17 @@ returns-clause-fits g c =
     let R : List ValueRef → Type 0 = λ rs. AreReferences hash (length p.alhs.items + 1) read.tx.entries rs in
     let is = subst A {x = c.len.result + 1 - 1} (omega (arith, same)) c.in_ok-read.ensures.is in
     let refer = subst R (sym c.from_vec-refs.ensures) (subst B same c.in_ok-read.ensures.refer) in
-    let tree = c.grow-bl_root.new.tree in
-    let L : List (List ℕ) → Type 0 = λ ds. (c.grow-bl_root.result ≡ bl_root_of hash ds read.tx.bl) × IsFrontier hash (take read.tx.bl ds) tree in
-    let grown : L p.alhs.items = subst L c.as_slice-alhs.ensures.value (c.grow-bl_root.ensures.root, c.grow-bl_root.ensures.tree) in
-    let X : List Record → Type 0 = λ rs. IsConsistent hash rs c.push.new.self.items read.tx.bl c.grow-bl_root.result tree in
-    let Y : List (List ℕ) → Type 0 = λ ds. IsConsistent hash (p.records.items ++ r ∷ []) ds read.tx.bl c.grow-bl_root.result tree in
+    let tree = c.grow.new.tree in
+    let L : List (List ℕ) → Type 0 = λ ds. (c.in_ok-bl_root.bl_root ≡ bl_root_of hash ds read.tx.bl) × IsLeveled hash (take read.tx.bl ds) tree in
+    let grown : L p.alhs.items = subst L c.as_slice-alhs.ensures.value (c.in_ok-bl_root.ensures.root, c.in_ok-bl_root.ensures.tree) in
+    let X : List Record → Type 0 = λ rs. IsConsistent hash rs c.push.new.self.items read.tx.bl c.in_ok-bl_root.bl_root tree in
+    let Y : List (List ℕ) → Type 0 = λ ds. IsConsistent hash (p.records.items ++ r ∷ []) ds read.tx.bl c.in_ok-bl_root.bl_root tree in
     subst X (sym c.in_ok-push-2.ensures.items) (subst Y (sym c.in_ok-push.ensures.items)
-    (consistent-next hash p.records.items p.alhs.items p.bl p.bl_root p.tree r c.grow-bl_root.result tree c.requires.fits c.requires.few is
+    (consistent-next hash p.records.items p.alhs.items p.bl p.bl_root p.tree r c.in_ok-bl_root.bl_root tree c.requires.fits c.requires.few is
     c.in_ok-read.ensures.rises refer (c.alh-digest.ensures ∙ ap (alh hash) c.header_behind-header.ensures) grown.0 grown.1))
 
-pub grow-bl_root-requires : goal.grow-bl_root-requires
-grow-bl_root-requires g c =
+pub grow-requires : goal.grow-requires
+grow-requires g c =
     let hash = g.H.Hash32.digest c.args.hash.now in
     let p = c.args.progress.now in
     let alhs = c.as_slice-alhs.result.now in
@@ -94,7 +94,7 @@ grow-bl_root-requires g c =
     let same : p.bl ≡ p.tree.size = tree-size hash p.alhs.items p.bl p.tree fits.linked fits.tree_is in
     let long : length alhs ≡ length p.alhs.items = ap (λ (l : List (List ℕ)). length l) c.as_slice-alhs.ensures.value in
     let count : c.len.result ≡ length p.alhs.items = omega (arith, c.len.ensures, p.alhs.ok) in
-    let L : ℕ → List (List ℕ) → Type 0 = λ n ds. IsFrontier hash (take n ds) p.tree × (p.bl_root ≡ bl_root_of hash ds n) in
+    let L : ℕ → List (List ℕ) → Type 0 = λ n ds. IsLeveled hash (take n ds) p.tree × (p.bl_root ≡ bl_root_of hash ds n) in
     let A : ℕ → Type 0 = λ n. L n p.alhs.items in
     let B : List (List ℕ) → Type 0 = λ ds. L p.tree.size ds in
     let here : B alhs = subst B (sym c.as_slice-alhs.ensures.value) (subst A same (fits.tree_is, fits.root_is)) in

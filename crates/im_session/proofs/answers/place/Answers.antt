@@ -1,10 +1,12 @@
-use Rattle.std.proofs.Common.{[], ◌∷◌, ◌∙◌, ap, length}
-use Rattle.im_ledger.specs.Ledgers.{Held}
+use Rattle.std.proofs.Common.{[], ◌∷◌, ◌∙◌}
 use Rattle.im_session.proofs.CallLemmas.{commit-done, commit-short}
 use Rattle.im_session.proofs.KeptLemmas.{between-grown}
 use Rattle.im_session.proofs.PutLemmas.{put-grown}
 use Rattle.im_session.proofs.TimeLemmas.{asked-grown}
 use Rattle.im_session.proofs.answers.place.Goals as goal
+
+pub linked-requires : goal.linked-requires
+linked-requires g c = (g.H.Hash32.digest c.args.hash.now, c.requires.kept.ledger)
 
 pub returns-clause-moments : goal.returns-clause-moments
 returns-clause-moments g c =
@@ -26,7 +28,7 @@ returns-in_err-tx_text-clause-left g c =
       tx = given.result;
       writes = given.ensures.writes;
       timed = given.ensures.timed;
-      over = given.ensures.over ∙ c.size.ensures ∙ ap length (c.tree.ensures ∙ ap (λ (h : Held). h.tree) c.ledger.ensures);
+      over = given.ensures.over ∙ c.linked.ensures;
       asked = given.ensures.asked;
       moments = c.commit.ensures.any_moment;
       calls = commit-short g.D.Disk.told (g.H.Hash32.digest c.args.hash.now) given.result c.args.kept.now c.commit.new.self.journal done.field-0 short.result short.ensures.1 done.ensures.calls;
@@ -40,7 +42,7 @@ returns-clause-left g c =
       tx = given.result;
       writes = given.ensures.writes;
       timed = given.ensures.timed;
-      over = given.ensures.over ∙ c.size.ensures ∙ ap length (c.tree.ensures ∙ ap (λ (h : Held). h.tree) c.ledger.ensures);
+      over = given.ensures.over ∙ c.linked.ensures;
       asked = given.ensures.asked;
       moments = c.commit.ensures.any_moment;
       calls = commit-done g.D.Disk.told (g.H.Hash32.digest c.args.hash.now) given.result c.args.kept.now c.commit.new.self.journal done.field-0 c.in_ok-tx_text.field-0 done.ensures.calls;

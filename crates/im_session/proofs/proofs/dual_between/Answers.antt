@@ -1,9 +1,19 @@
 use Rattle.std.proofs.Common.{◌≡◌, ◌≤◌, List, ℕ, length, subst, sym, ap, ◌∙◌, arith}
+use Rattle.im_digest.specs.Digests.{Hash}
+use Rattle.im_levels.specs.Leveled.{Stored}
 use Rattle.im_model.specs.declared.headers.Header.{Header}
 use Rattle.im_dual.specs.Kept.{header_at}
 use Rattle.im_ledger.specs.Ledgers.{Held}
 use Rattle.im_ledger.proofs.LedgerLemmas.{headers-counted, trees-within}
+use Rattle.im_ledger.proofs.RootLemmas.{kept-tree}
 use Rattle.im_session.proofs.proofs.dual_between.Goals as goal
+
+pub build-requires-clause-history : goal.build-requires-clause-history
+build-requires-clause-history g c =
+    let hash : Hash = g.H.Hash32.digest c.args.hash.now in
+    let held : Held = c.args.ledger.now in
+    let l = c.requires.ledger in
+    (held.transactions, l.history, c.headers.ensures ∙ l.headers, kept-tree hash held c.tree.result.now l c.tree.ensures)
 
 pub build-requires-clause-within : goal.build-requires-clause-within
 build-requires-clause-within g c =
@@ -15,6 +25,8 @@ pub build-requires-clause-tree : goal.build-requires-clause-tree
 build-requires-clause-tree g c =
     let held : Held = c.args.ledger.now in
     let some : 1 ≤ c.args.t = omega arith in
-    let P : List Header → Type 0 = λ hs. (header_at hs c.args.t).bl_tx_id ≤ length c.tree.result.now in
-    let Q : List (List ℕ) → Type 0 = λ leaves. (header_at held.headers c.args.t).bl_tx_id ≤ length leaves in
-    subst P (sym c.headers.ensures) (subst Q (sym c.tree.ensures) (trees-within (g.H.Hash32.digest c.args.hash.now) held c.args.t c.requires.ledger some c.requires.within))
+    let P : List Header → Type 0 = λ hs. (header_at hs c.args.t).bl_tx_id ≤ c.tree.result.now.size in
+    let Q : Stored → Type 0 = λ tree. (header_at held.headers c.args.t).bl_tx_id ≤ tree.size in
+    let R : ℕ → Type 0 = λ n. (header_at held.headers c.args.t).bl_tx_id ≤ n in
+    subst P (sym c.headers.ensures) (subst Q (sym c.tree.ensures) (subst R (sym c.requires.ledger.subtrees.counted)
+    (trees-within (g.H.Hash32.digest c.args.hash.now) held c.args.t c.requires.ledger some c.requires.within)))

@@ -1,4 +1,4 @@
-use Rattle.std.proofs.Common.{◌≡◌, ◌∙◌, List, ℕ, [], ◌∷◌, ◌++◌, refl, ap, inl, subst, sym}
+use Rattle.std.proofs.Common.{◌≡◌, ◌∙◌, List, ℕ, [], ◌∷◌, ◌++◌, take, refl, ap, inl, subst, sym}
 use Rattle.im_disk.specs.Moments.{Leaves}
 use Rattle.im_format.specs.Standing.{Stands}
 use Rattle.im_journal.specs.Kept.{Kept}
@@ -11,6 +11,7 @@ use Rattle.im_ledger.specs.declared.errors.CommitError.TheVariants.{Memory}
 use Rattle.im_ledger.proofs.CommitLemmas.{CanCommit, next-committed, next-follows, next-kept, next-moments, next-rests, next-undone, taken}
 use Rattle.im_ledger.proofs.GrowLemmas.{kept-images, kept-stays}
 use Rattle.im_ledger.proofs.MadeLemmas.{committed-makes, err-is, same-error}
+use Rattle.im_ledger.proofs.RootLemmas.{tree-stays}
 use Rattle.im_ledger.proofs.UndoneLemmas.{may-leave, same-cause}
 use Rattle.im_ledger.proofs.kept.KeptLedger.commit.Goals as goal
 
@@ -95,6 +96,15 @@ returns-clause-any_moment g c =
     next-moments told hash k c.args.tx can c.self-inside.inside.0.0 same c.from_ref.result.now c.in_ok-header.record c.from_ref.ensures.value next (told c.make_durable.new.journal.disk)
     c.make_durable.ensures.any_moment
 
+pub returns-clause-tree : goal.returns-clause-tree
+returns-clause-tree g c =
+    let hash = g.H.Hash32.digest c.args.hash.now in
+    let k = c.args.self.now in
+    let view = c.self-inside.view_is in
+    let lists : record { transactions = c.self-inside.inside.0.1.0.book.transactions; headers = c.self-inside.inside.0.1.0.book.headers; alhs = c.self-inside.inside.0.1.0.book.alhs; tree = take c.self-inside.inside.0.1.0.tree.size c.self-inside.inside.0.1.0.book.alhs; levels = c.self-inside.inside.0.1.0.tree } ≡ k.held = ap (λ x. x.ledger) view ∙ ap (λ (x : KeptHistory g.row.D.Denot). x.held) c.self.view_is in
+    tree-stays hash k.held c.push.new.self.alhs c.in_ok-header.record.alh c.self-inside.inside.0.1.0.tree.size c.requires.kept.ledger (ap (λ (h : Held). h.levels.size) lists)
+    (c.push.ensures.alhs ∙ ap (λ (l : List (List ℕ)). l ++ c.in_ok-header.record.alh ∷ []) (c.reserve.ensures.same.2 ∙ ap (λ (h : Held). h.alhs) lists))
+
 pub returns-clause-kept : goal.returns-clause-kept
 returns-clause-kept g c =
     let told = g.D.Disk.told in
@@ -107,17 +117,18 @@ returns-clause-kept g c =
     let rests = next-rests told hash k c.args.tx can c.requires.kept.batches c.self-inside.inside.0.0 same c.requires.kept.rests in
     let follows = next-follows told hash k c.args.tx can c.requires.kept.batches c.self-inside.inside.0.0 same c.requires.kept.rests c.from_ref.result.now c.in_ok-header.record c.from_ref.ensures.value next in
     let settled = c.in_ok-make_durable.ensures.settled hash (k.held.transactions ++ c.args.tx ∷ []) c.requires.kept.batches rests follows in
-    let lists : record { transactions = c.self-inside.inside.0.1.0.book.transactions; headers = c.self-inside.inside.0.1.0.book.headers; alhs = c.self-inside.inside.0.1.0.book.alhs; tree = c.self-inside.inside.0.1.0.tree; frontier = c.self-inside.inside.0.1.0.frontier; root = c.self-inside.inside.0.1.0.root } ≡ k.held = ap (λ x. x.ledger) view ∙ ap (λ (x : KeptHistory g.row.D.Denot). x.held) c.self.view_is in
+    let lists : record { transactions = c.self-inside.inside.0.1.0.book.transactions; headers = c.self-inside.inside.0.1.0.book.headers; alhs = c.self-inside.inside.0.1.0.book.alhs; tree = take c.self-inside.inside.0.1.0.tree.size c.self-inside.inside.0.1.0.book.alhs; levels = c.self-inside.inside.0.1.0.tree } ≡ k.held = ap (λ x. x.ledger) view ∙ ap (λ (x : KeptHistory g.row.D.Denot). x.held) c.self.view_is in
     let record_is : c.in_ok-header.record.tx ≡ c.args.tx = next.tx_is in
     let grown : c.push.new.self.transactions ≡ k.held.transactions ++ c.in_ok-header.record.tx ∷ [] =
     c.push.ensures.grown ∙ ap (λ (l : List Transaction). l ++ c.in_ok-header.record.tx ∷ []) (c.reserve.ensures.same.0 ∙ ap (λ (h : Held). h.transactions) lists) in
     let all : c.push.new.self.transactions ≡ k.held.transactions ++ c.args.tx ∷ [] = grown ∙ ap (λ (t : Transaction). k.held.transactions ++ t ∷ []) record_is in
-    let after : Held = record { transactions = c.push.new.self.transactions; headers = c.push.new.self.headers; alhs = c.push.new.self.alhs; tree = c.self-inside.inside.0.1.0.tree; frontier = c.self-inside.inside.0.1.0.frontier; root = c.self-inside.inside.0.1.0.root } in
+    let after : Held = record { transactions = c.push.new.self.transactions; headers = c.push.new.self.headers; alhs = c.push.new.self.alhs; tree = take c.self-inside.inside.0.1.0.tree.size c.push.new.self.alhs; levels = c.self-inside.inside.0.1.0.tree } in
     let ledger = taken hash k.held after c.args.tx c.in_ok-header.record.tx c.in_ok-header.header c.in_ok-header.record.alh c.in_ok-header.record.alh
     c.requires.kept.ledger c.requires.room c.requires.limits c.requires.over c.in_ok-header.ensures.header record_is refl next.alh_is grown
     (c.push.ensures.headers ∙ ap (λ (l : List Header). l ++ c.in_ok-header.header ∷ []) (c.reserve.ensures.same.1 ∙ ap (λ (h : Held). h.headers) lists))
     (c.push.ensures.alhs ∙ ap (λ (l : List (List ℕ)). l ++ c.in_ok-header.record.alh ∷ []) (c.reserve.ensures.same.2 ∙ ap (λ (h : Held). h.alhs) lists))
-    (ap (λ (h : Held). h.tree) lists) (ap (λ (h : Held). h.frontier) lists) (ap (λ (h : Held). h.root) lists) in
+    (tree-stays hash k.held c.push.new.self.alhs c.in_ok-header.record.alh c.self-inside.inside.0.1.0.tree.size c.requires.kept.ledger (ap (λ (h : Held). h.levels.size) lists)
+    (c.push.ensures.alhs ∙ ap (λ (l : List (List ℕ)). l ++ c.in_ok-header.record.alh ∷ []) (c.reserve.ensures.same.2 ∙ ap (λ (h : Held). h.alhs) lists))) (ap (λ (h : Held). h.levels) lists) in
     let behind : KeptHistory g.row.D.Denot = record { journal = c.make_durable.new.journal; held = after; logs = c.self-inside.inside.0.1.1.0 } in
     let kept = next-kept told hash k c.args.tx can c.requires.kept.batches c.self-inside.inside.0.0 same c.from_ref.result.now c.in_ok-header.record c.from_ref.ensures.value behind settled c.in_ok-make_durable.ensures.going all ledger
     (ap (λ x. x.logs) view ∙ ap (λ (x : KeptHistory g.row.D.Denot). x.logs) c.self.view_is) in
@@ -135,17 +146,18 @@ returns-clause-durable g c =
     let rests = next-rests told hash k c.args.tx can c.requires.kept.batches c.self-inside.inside.0.0 same c.requires.kept.rests in
     let follows = next-follows told hash k c.args.tx can c.requires.kept.batches c.self-inside.inside.0.0 same c.requires.kept.rests c.from_ref.result.now c.in_ok-header.record c.from_ref.ensures.value next in
     let settled = c.in_ok-make_durable.ensures.settled hash (k.held.transactions ++ c.args.tx ∷ []) c.requires.kept.batches rests follows in
-    let lists : record { transactions = c.self-inside.inside.0.1.0.book.transactions; headers = c.self-inside.inside.0.1.0.book.headers; alhs = c.self-inside.inside.0.1.0.book.alhs; tree = c.self-inside.inside.0.1.0.tree; frontier = c.self-inside.inside.0.1.0.frontier; root = c.self-inside.inside.0.1.0.root } ≡ k.held = ap (λ x. x.ledger) view ∙ ap (λ (x : KeptHistory g.row.D.Denot). x.held) c.self.view_is in
+    let lists : record { transactions = c.self-inside.inside.0.1.0.book.transactions; headers = c.self-inside.inside.0.1.0.book.headers; alhs = c.self-inside.inside.0.1.0.book.alhs; tree = take c.self-inside.inside.0.1.0.tree.size c.self-inside.inside.0.1.0.book.alhs; levels = c.self-inside.inside.0.1.0.tree } ≡ k.held = ap (λ x. x.ledger) view ∙ ap (λ (x : KeptHistory g.row.D.Denot). x.held) c.self.view_is in
     let record_is : c.in_ok-header.record.tx ≡ c.args.tx = next.tx_is in
     let grown : c.push.new.self.transactions ≡ k.held.transactions ++ c.in_ok-header.record.tx ∷ [] =
     c.push.ensures.grown ∙ ap (λ (l : List Transaction). l ++ c.in_ok-header.record.tx ∷ []) (c.reserve.ensures.same.0 ∙ ap (λ (h : Held). h.transactions) lists) in
     let all : c.push.new.self.transactions ≡ k.held.transactions ++ c.args.tx ∷ [] = grown ∙ ap (λ (t : Transaction). k.held.transactions ++ t ∷ []) record_is in
-    let after : Held = record { transactions = c.push.new.self.transactions; headers = c.push.new.self.headers; alhs = c.push.new.self.alhs; tree = c.self-inside.inside.0.1.0.tree; frontier = c.self-inside.inside.0.1.0.frontier; root = c.self-inside.inside.0.1.0.root } in
+    let after : Held = record { transactions = c.push.new.self.transactions; headers = c.push.new.self.headers; alhs = c.push.new.self.alhs; tree = take c.self-inside.inside.0.1.0.tree.size c.push.new.self.alhs; levels = c.self-inside.inside.0.1.0.tree } in
     let ledger = taken hash k.held after c.args.tx c.in_ok-header.record.tx c.in_ok-header.header c.in_ok-header.record.alh c.in_ok-header.record.alh
     c.requires.kept.ledger c.requires.room c.requires.limits c.requires.over c.in_ok-header.ensures.header record_is refl next.alh_is grown
     (c.push.ensures.headers ∙ ap (λ (l : List Header). l ++ c.in_ok-header.header ∷ []) (c.reserve.ensures.same.1 ∙ ap (λ (h : Held). h.headers) lists))
     (c.push.ensures.alhs ∙ ap (λ (l : List (List ℕ)). l ++ c.in_ok-header.record.alh ∷ []) (c.reserve.ensures.same.2 ∙ ap (λ (h : Held). h.alhs) lists))
-    (ap (λ (h : Held). h.tree) lists) (ap (λ (h : Held). h.frontier) lists) (ap (λ (h : Held). h.root) lists) in
+    (tree-stays hash k.held c.push.new.self.alhs c.in_ok-header.record.alh c.self-inside.inside.0.1.0.tree.size c.requires.kept.ledger (ap (λ (h : Held). h.levels.size) lists)
+    (c.push.ensures.alhs ∙ ap (λ (l : List (List ℕ)). l ++ c.in_ok-header.record.alh ∷ []) (c.reserve.ensures.same.2 ∙ ap (λ (h : Held). h.alhs) lists))) (ap (λ (h : Held). h.levels) lists) in
     let behind : KeptHistory g.row.D.Denot = record { journal = c.make_durable.new.journal; held = after; logs = c.self-inside.inside.0.1.1.0 } in
     let logs_are : c.self-inside.inside.0.1.1.0 ≡ k.logs = ap (λ x. x.logs) view ∙ ap (λ (x : KeptHistory g.row.D.Denot). x.logs) c.self.view_is in
     let kept = next-kept told hash k c.args.tx can c.requires.kept.batches c.self-inside.inside.0.0 same c.from_ref.result.now c.in_ok-header.record c.from_ref.ensures.value behind settled c.in_ok-make_durable.ensures.going all ledger
@@ -164,7 +176,7 @@ returns-clause-put g c batches resting =
     let rests = next-rests told hash k c.args.tx can batches c.self-inside.inside.0.0 same resting in
     let follows = next-follows told hash k c.args.tx can batches c.self-inside.inside.0.0 same resting c.from_ref.result.now c.in_ok-header.record c.from_ref.ensures.value next in
     let settled = c.in_ok-make_durable.ensures.settled hash (k.held.transactions ++ c.args.tx ∷ []) batches rests follows in
-    let lists : record { transactions = c.self-inside.inside.0.1.0.book.transactions; headers = c.self-inside.inside.0.1.0.book.headers; alhs = c.self-inside.inside.0.1.0.book.alhs; tree = c.self-inside.inside.0.1.0.tree; frontier = c.self-inside.inside.0.1.0.frontier; root = c.self-inside.inside.0.1.0.root } ≡ k.held = ap (λ x. x.ledger) view ∙ ap (λ (x : KeptHistory g.row.D.Denot). x.held) c.self.view_is in
+    let lists : record { transactions = c.self-inside.inside.0.1.0.book.transactions; headers = c.self-inside.inside.0.1.0.book.headers; alhs = c.self-inside.inside.0.1.0.book.alhs; tree = take c.self-inside.inside.0.1.0.tree.size c.self-inside.inside.0.1.0.book.alhs; levels = c.self-inside.inside.0.1.0.tree } ≡ k.held = ap (λ x. x.ledger) view ∙ ap (λ (x : KeptHistory g.row.D.Denot). x.held) c.self.view_is in
     let record_is : c.in_ok-header.record.tx ≡ c.args.tx = next.tx_is in
     let grown : c.push.new.self.transactions ≡ k.held.transactions ++ c.in_ok-header.record.tx ∷ [] =
     c.push.ensures.grown ∙ ap (λ (l : List Transaction). l ++ c.in_ok-header.record.tx ∷ []) (c.reserve.ensures.same.0 ∙ ap (λ (h : Held). h.transactions) lists) in

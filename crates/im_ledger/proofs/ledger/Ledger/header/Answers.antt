@@ -1,4 +1,4 @@
-use Rattle.std.proofs.Common.{ap, ◌∙◌}
+use Rattle.std.proofs.Common.{take, ap, ◌∙◌}
 use Rattle.im_model.specs.History.{header_of}
 use Rattle.im_ledger.specs.Ledgers.{Held}
 use Rattle.im_ledger.proofs.LedgerLemmas.{book-within}
@@ -7,9 +7,9 @@ use Rattle.im_ledger.proofs.ledger.Ledger.header.Goals as goal
 pub header-requires-clause-book : goal.header-requires-clause-book
 header-requires-clause-book c =
     let l = c.requires.ledger in
-    (l.0, book-within l.0 c.args.self.now c.self.inside.book c.self.inside.tree c.self.inside.frontier c.self.inside.root c.self.view_is l.1)
+    (l.0, book-within l.0 c.args.self.now c.self.inside.book (take c.self.inside.tree.size c.self.inside.book.alhs) c.self.inside.tree c.self.view_is l.1)
 
 pub returns : goal.returns
 returns c = λ hash l.
-    c.header.ensures hash (book-within hash c.args.self.now c.self.inside.book c.self.inside.tree c.self.inside.frontier c.self.inside.root c.self.view_is l)
+    c.header.ensures hash (book-within hash c.args.self.now c.self.inside.book (take c.self.inside.tree.size c.self.inside.book.alhs) c.self.inside.tree c.self.view_is l)
     ∙ ap (λ (h : Held). header_of hash h.transactions c.args.k) c.self.view_is

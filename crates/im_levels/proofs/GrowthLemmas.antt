@@ -1,13 +1,19 @@
--- The consistency list that a tree's leaves give: its steps, its length, and the roots that it gives.
+-- The consistency list that a tree's leaves give, from the root down.
 use Rattle.std.proofs.Common.{◌≡◌, ◌≢◌, ◌<◌, ◌≤◌, ℕ, suc, zero, ◌-◌, List, [], ◌∷◌, ◌++◌, length, take, drop, reverse, arith, ap, subst, ◌∙◌, sym, nat_le, if◌then◌else◌, inl, inr, length-drop}
 use Rattle.std.proofs.lemmas.Bool.{cases_lt, cases_eq, le-leb, lt-leb, eq-eqb, ne_eqb}
 use Rattle.std.proofs.lemmas.List.{append-nil, length-take-le, reverse-append}
 use Rattle.im_digest.specs.Digests.{Hash}
 use Rattle.im_model.specs.Trees.{split_of, root}
-use Rattle.im_model.specs.Growth.{older}
 use Rattle.im_model.proofs.TreeLemmas.{split-within}
 use Rattle.im_proof.specs.Built.{growth_first_within, growth_rest_within, growth_first, growth_rest, consistency}
-use Rattle.im_atree.proofs.GrowLemmas.{differ, less}
+
+-- a smaller number differs
+pub differ : (m n : ℕ) → m < n → m ≢ n
+differ m n l = λ e. absurd (omega arith)
+
+-- of numbers that are at most another those that differ are smaller
+pub less : (m n : ℕ) → m ≤ n → m ≢ n → m < n
+less m n h ne = elim (cases_lt m n) [ inl q ↦ q | inr q ↦ absurd (ne (let e : m ≡ n = omega arith in e)) ]
 
 first-whole : (room : ℕ) (hash : Hash) (leaves : List (List ℕ)) (m : ℕ) → m ≡ length leaves → growth_first_within (suc room) hash leaves m ≡ root hash leaves
 unfolding growth_first_within

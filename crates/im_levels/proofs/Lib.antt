@@ -1,0 +1,7 @@
+pub mod CountLemmas
+pub mod FreshLemmas
+pub mod GrowthLemmas
+pub mod LevelLemmas
+pub mod PartLemmas
+pub mod ReadLemmas
+pub mod WalkLemmas

@@ -1,0 +1,3 @@
+pub mod ByLevel
+pub mod Counts
+pub mod Leveled

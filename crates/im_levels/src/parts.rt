@@ -1,0 +1,49 @@
+ghost use Rattle.std.specs.Prelude.{◌≡◌, ◌<◌, ◌≤◌, ◌+◌, ◌-◌, ◌^◌, ℕ, List, length, count_ones};
+ghost use Rattle.im_digest.specs.Digests.{Hash};
+ghost use Rattle.im_model.specs.Trees.{node, root};
+ghost use Rattle.im_levels.specs.Counts.{whole};
+ghost use Rattle.im_levels.specs.Leveled.{leaves_of, IsPart, IsSubtree};
+
+use im_model::trees::split;
+
+/// Leaves beside each other.
+#[derive(Clone, Copy)]
+pub struct Part {
+    /// The first leaf, from 0.
+    pub at: usize,
+    /// The number of leaves.
+    pub width: usize,
+}
+
+/// The number of leaves of the largest whole subtree that a part begins with.
+pub fn front(part: Part) -> usize
+    requires some { 0 < part.width }
+    requires fits { part.width + 1 < 2 ^ 64 }
+    requires aligned { IsPart part.at part.width }
+    ensures some { 0 < result }
+    ensures within { result ≤ part.width }
+    ensures tree { IsSubtree part.at result }
+    ensures rest { IsPart (part.at + result) (part.width - result) }
+    ensures inside { whole (part.at + result) ≤ whole (part.at + part.width) }
+    ensures end { whole (part.at + result + (part.width - result)) ≡ whole (part.at + part.width) }
+    ensures digits { count_ones part.width ≡ count_ones (part.width - result) + 1 }
+    ensures node { (hash : Hash) (leaves : List (List ℕ)) → result < part.width → part.at + part.width ≤ length leaves
+        → root hash (leaves_of leaves part.at part.width)
+        ≡ node hash (root hash (leaves_of leaves part.at result)) (root hash (leaves_of leaves (part.at + result) (part.width - result))) }
+{
+    split(part.width + 1)
+}
+
+/// The number of whole subtrees of so many leaves.
+pub fn whole(leaves: usize) -> usize
+    requires { whole leaves < 2 ^ 64 }
+    ensures { result ≡ whole leaves }
+{
+    let mut total = 0;
+    let mut rest = leaves;
+    while 0 < rest {
+        total += rest;
+        rest /= 2;
+    }
+    total
+}
