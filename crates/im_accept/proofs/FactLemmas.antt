@@ -1,5 +1,5 @@
 -- A client that keeps facts of a history agrees with what is shown of that history, and keeps such facts behind it.
-use Rattle.std.proofs.Common.{◌≡◌, ◌<◌, ◌≤◌, ℕ, ◌-◌, ◌&&◌, List, [], ◌∷◌, Bool, true, false, length, take, refl, arith, ap, subst, ◌∙◌, sym, nat_lt, nat_eq, if◌then◌else◌, Option, Some, None, IfSome}
+use Rattle.std.proofs.Common.{◌≡◌, ◌<◌, ◌≤◌, ℕ, ◌-◌, ◌&&◌, List, Bool, true, false, length, take, refl, arith, ap, subst, ◌∙◌, sym, nat_lt, nat_eq, if◌then◌else◌, Option, Some, None, IfSome}
 use Rattle.std.specs.List.{All, AllByRecursion, find}
 use Rattle.std.specs.Prelude.{option_map, slice_index_or}
 use Rattle.std.proofs.lemmas.Bool.{and_parts, eqb-true, ltb-true}
@@ -81,8 +81,7 @@ pub both-shown : (hash : Hash) (h : List Transaction) (n s t : ℕ) → 1 ≤ s 
 both-shown hash h n s t some order below within =
     let p : DualProof = dual_between hash (take n h) s t in (
       header-of-it hash h s p.source some (omega arith) (between-source hash (take n h) s t ∙ header-prefix hash h s n some (omega arith) within),
-      header-of-it hash h t p.target (omega arith) (omega arith) (between-target hash (take n h) s t ∙ header-prefix hash h t n (omega arith) below within),
-      tt,
+      (header-of-it hash h t p.target (omega arith) (omega arith) (between-target hash (take n h) s t ∙ header-prefix hash h t n (omega arith) below within), tt),
     )
 
 anchor-by-due : (due : Bool) (P : TheHeader → Type 0) (q : DualProof) → (due ≡ true → AllByRecursion P (both_headers q)) → AllByRecursion P (anchor_headers (if due then Some q else None))
