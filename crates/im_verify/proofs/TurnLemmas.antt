@@ -20,7 +20,7 @@ use Rattle.im_facts.specs.Folds.{AreVerdicts, IsVerdict, known_by, known_by_all}
 use Rattle.im_facts.specs.Texts.{taken_line, verdict_line, verdict_lines}
 use Rattle.im_facts.specs.Verdicts.{Verdict, Passed, Accepted, Refused, Forked, IsForked, taken_of}
 use Rattle.im_facts.specs.declared.taken.Taken.{Taken}
-use Rattle.im_verify.specs.Judged.{kept_text, kept_texts, up_to_fork, IsRefused, NoneForked, NoneRefused, SomeRefused}
+use Rattle.im_verify.specs.Judged.{kept_text, kept_texts, IsRefused, NoneForked, NoneRefused, SomeRefused}
 use Rattle.im_verify.specs.Turns.{end_by, end_of, last_accepted, message_text, WritesAndKeeps, AddsPart, WrittenAndKept, EndsStream, HalfTurn, TakesAll, TakesAt, TakesInto, TakesSome, LineTurn}
 use Rattle.im_verify.specs.declared.lines.LineEnd.{LineEnd}
 use Rattle.im_verify.specs.declared.lines.LineEnd.TheVariants as the

@@ -10,8 +10,8 @@ pub loop-i-init : goal.loop-i-init
 loop-i-init g c =
     let hash : List ℕ → List ℕ = g.H.Hash32.digest c.args.hash.now in
     record {
-      takes = kept-none hash c.new.result c.new.ensures.empty;
-      client = c.new.ensures.client hash;
+      takes = kept-none hash c.new-client.result c.new-client.ensures.empty;
+      client = c.new-client.ensures.client hash;
     }
 
 pub returns-then-is_rejected-clause-line : goal.returns-then-is_rejected-clause-line

@@ -24,9 +24,9 @@ loop-rest-preserved g c =
     let some : 0 < length c.loop-rest.rest.now = grind arith in
     let fewer : c.loop-rest.number + 1 + length c.first_line.result.1.now ≤ length c.args.stream.now = omega arith in
     record {
-      progress = progress-next hash c.args.client.now c.args.stream.now c.loop-rest.rest.now c.first_line.result.0.now c.first_line.result.1.now c.loop-rest.number c.loop-rest.refused c.is_refused.result
+      progress = progress-next hash c.args.client.now c.args.stream.now c.loop-rest.rest.now c.first_line.result.0.now c.first_line.result.1.now c.loop-rest.number c.loop-rest.refused c.is_refused-refused.result
           c.in_ok-end.end c.loop-rest.client c.take_line.new.client from mid to some c.first_line.ensures.first c.loop-rest.invariant.progress c.in_ok-end.ensures.ok
-          (λ e. both_ways c.is_forked.result c.if-is_forked.false (c.is_forked.ensures.1 e)) c.is_refused.ensures;
+          (λ e. both_ways c.is_forked.result c.if-is_forked.false (c.is_forked.ensures.1 e)) c.is_refused-refused.ensures;
       client = c.in_ok-end.ensures.client;
       few = fewer;
       sink = c.in_ok-end.ensures.sink_count (ok-no-err c.in_ok-end.end stops.WriteFault) ∙ c.loop-rest.invariant.sink;

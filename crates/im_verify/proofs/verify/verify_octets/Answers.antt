@@ -1,6 +1,4 @@
-use Rattle.std.proofs.Common.{◌≡◌, ℕ, List, Option, Err, Ok, ap, inr, subst, sym}
-use Rattle.im_verify.specs.Turns.{done, TakesAll}
-use Rattle.im_verify.specs.declared.lines.LineEnd.{LineEnd}
+use Rattle.std.proofs.Common.{Err, ap, inr}
 use Rattle.im_verify.specs.declared.lines.LineEnd.TheVariants as line
 use Rattle.im_verify.proofs.RunLemmas.{breaks-at, breaks-into, breaks-off, verifies}
 use Rattle.im_verify.proofs.verify.verify_octets.Goals as goal
