@@ -12,7 +12,8 @@ use std::alloc::{AllocError, Global};
 
 /// The consistency list from the first m leaves to all of them: PROOF of RFC 6962, section 2.1.2, with its
 /// first term always there; empty where m is their number. `checks::check_consistency` is its twin. It hashes
-/// each leaf once, and nothing where m is their number. Its only error is want of memory.
+/// each leaf once, and nothing where m is their number. `list_trees::ListTree` alone uses it. Its only error is
+/// want of memory.
 #[tactic(auto, using(im_levels::proofs::GrowthLemmas::list_whole, im_levels::proofs::GrowthLemmas::list_more))]
 pub fn consistency<H: Hash32>(
     alloc: Global,

@@ -5,5 +5,6 @@
 pub mod built;
 pub mod checks;
 pub mod growths;
+pub mod laws;
 pub mod list_trees;
 pub mod trees;

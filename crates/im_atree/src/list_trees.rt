@@ -1,3 +1,5 @@
+//! A law in code: the plain list that a tree is read against.
+
 use crate::built::consistency;
 use im_digest::{D32, Hash32};
 use im_mtree::digests::Digests;

@@ -185,8 +185,8 @@ impl Ledger {
     }
 
     /// Raises the tree by so many transactions, at most to the last one. It hashes the leaves that are added, and
-    /// no other ones. Its only error is want of memory. After an error the tree may
-    /// have some of the leaves, and the ledger isn't used again.
+    /// no other ones. Its only error is want of memory. After an error the tree may have some of the leaves, and
+    /// the ledger isn't used again.
     pub fn link<H: Hash32>(&mut self, hash: &H, count: u64) -> Result<(), AllocError>
         requires { IsLedger (H.digest hash.now) self.old }
         ensures same { self.new.transactions ≡ self.old.transactions }

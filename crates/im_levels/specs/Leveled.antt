@@ -35,7 +35,7 @@ pub record IsLeveled (hash : Hash) (leaves : List (List ℕ)) (levels : Stored) 
   pub counted : levels.size ≡ length leaves
   pub rooted : AreStored hash leaves levels.digests
 
--- a part of a tree: it begins where each larger subtree that it could fill begins
+-- leaves beside each other that begin at a multiple of a power of two which is at least their number
 pub record IsPart (at width : ℕ) : Type 0 where
   pub exponent : ℕ
   pub index : ℕ

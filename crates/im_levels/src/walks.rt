@@ -73,7 +73,7 @@ fn sides_of(part: Part, i: usize) -> Sides
 }
 
 /// The terms of the path of leaf i, from 0, of the first n, from the root down: PATH of RFC 6962, section
-/// 2.1.1. Its only error is want of memory.
+/// 2.1.1. With b binary digits in n it takes at most 4b steps. Its only error is want of memory.
 pub fn path_down<H: Hash32, L: Ledger>(
     alloc: Global,
     hash: &H,
@@ -103,7 +103,8 @@ pub fn path_down<H: Hash32, L: Ledger>(
 }
 
 /// The terms of the consistency list from the first m leaves to the first n in the other order, the first one
-/// at the end: PROOF of RFC 6962, section 2.1.2. Its only error is want of memory.
+/// at the end: PROOF of RFC 6962, section 2.1.2. With b binary digits in n it takes at most 4b steps. Its only
+/// error is want of memory.
 pub fn list_down<H: Hash32, L: Ledger>(
     alloc: Global,
     hash: &H,

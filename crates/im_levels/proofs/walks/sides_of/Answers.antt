@@ -1,4 +1,4 @@
-use Rattle.std.proofs.Common.{◌-◌, arith}
+use Rattle.std.proofs.Common.{arith}
 use Rattle.im_levels.proofs.PartLemmas.{left-part, right-part, left-reach, right-reach, halves-ones}
 use Rattle.im_levels.proofs.WalkLemmas.{path-left, path-right, list-left, list-right}
 use Rattle.im_levels.proofs.walks.sides_of.Goals as goal
