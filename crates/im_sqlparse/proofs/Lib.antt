@@ -5,3 +5,7 @@ pub mod Moves
 pub mod Shrinks
 pub mod Whole
 pub mod Rules
+pub mod Gives
+pub mod NameRules
+pub mod FormedParts
+pub mod FormedStatements

@@ -16,7 +16,7 @@ pick false x y p q = q refl
 run_moves : (p : ℕ → Bool) (o : ℕ) (t : Text) → p o ≡ true → 1 ≤ prefix_len p (o ∷ t)
 run_moves p o t h = subst (λ (b : Bool). 1 ≤ cond b (1 + prefix_len p t) 0) (sym h) (omega arith)
 
-letter : (o : ℕ) → is_ascii_alphabetic o ≡ true → is_in class.Word o ≡ true
+pub letter : (o : ℕ) → is_ascii_alphabetic o ≡ true → is_in class.Word o ≡ true
 letter o h = first_of (grind arith, grind (arith, common_steps))
 
 low_line : (o : ℕ) → (o == 95) ≡ true → is_in class.Word o ≡ true

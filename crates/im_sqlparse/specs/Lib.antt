@@ -5,3 +5,4 @@ pub mod Values
 pub mod Lists
 pub mod Conditions
 pub mod Statements
+pub mod Formed

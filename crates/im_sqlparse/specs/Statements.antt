@@ -13,8 +13,8 @@ use Rattle.im_sqlparse.specs.declared.statements.Period.{Period}
 use Rattle.im_sqlparse.specs.declared.statements.Period.TheVariants as period
 use Rattle.im_sqlparse.specs.declared.statements.OrderTerm.{OrderTerm}
 use Rattle.im_sqlparse.specs.declared.statements.Insertion.{Insertion}
-use Rattle.im_sqlparse.specs.declared.statements.Stmt.{Stmt}
-use Rattle.im_sqlparse.specs.declared.statements.Stmt.TheVariants as stmt
+use Rattle.im_sqlparse.specs.declared.statements.Form.{Form}
+use Rattle.im_sqlparse.specs.declared.statements.Form.TheVariants as form
 use Rattle.im_sqlparse.specs.Lex.{Text}
 use Rattle.im_sqlparse.specs.Input.{Parsed, Reader, start_of, and_then, ◌>>=◌, ◌>>◌, ◌<$>◌, pure, refuse, fails, left, sees, peek, take_token, eat, expect, separated}
 use Rattle.im_sqlparse.specs.Values.{name, column, number, names, row}
@@ -79,7 +79,7 @@ if_not_exists = do
   if found then expect k.Not >> expect k.Exists >> pure true else pure false
 
 -- behind CREATE TABLE
-unfoldable pub create_table : Reader Stmt
+unfoldable pub create_table : Reader Form
 create_table = do
   unless ← if_not_exists
   table ← name
@@ -88,23 +88,23 @@ create_table = do
   expect k.Key
   primary ← key
   expect k.Close
-  pure (stmt.CreateTable (record { if_not_exists = unless; table = table; columns = columns; key = primary }))
+  pure (form.CreateTable (record { if_not_exists = unless; table = table; columns = columns; key = primary }))
 
 -- behind CREATE INDEX
-unfoldable pub create_index : Bool → Reader Stmt
+unfoldable pub create_index : Bool → Reader Form
 create_index unique = do
   expect k.On
   table ← name
   columns ← names
-  pure (stmt.CreateIndex (record { unique = unique; table = table; columns = columns }))
+  pure (form.CreateIndex (record { unique = unique; table = table; columns = columns }))
 
-abbrev pub create_by : Kind → Reader Stmt
+abbrev pub create_by : Kind → Reader Form
 create_by k.Table = take_token >> create_table
 create_by k.Index = take_token >> create_index false
 create_by k.Unique = take_token >> expect k.Index >> create_index true
 create_by _ = refuse
 
-unfoldable pub create : Reader Stmt
+unfoldable pub create : Reader Form
 create = peek >>= create_by
 
 -- ---- writes
@@ -120,12 +120,12 @@ insertion = do
   pure (record { table = table; columns = columns; rows = rows })
 
 -- behind DELETE
-unfoldable pub delete_statement : Reader Stmt
+unfoldable pub delete_statement : Reader Form
 delete_statement = do
   expect k.From
   table ← name
   which ← filter false
-  pure (stmt.Delete (record { table = table; filter = which }))
+  pure (form.Delete (record { table = table; filter = which }))
 
 -- ---- SELECT
 
@@ -174,7 +174,7 @@ count_behind word = do
   if found then Some <$> number 0 most_number else pure None
 
 -- behind SELECT
-unfoldable pub select : Reader Stmt
+unfoldable pub select : Reader Form
 select = do
   columns ← select_list
   expect k.From
@@ -184,23 +184,23 @@ select = do
   by ← order
   limit ← count_behind k.Limit
   offset ← count_behind k.Offset
-  pure (stmt.Select (record { columns = columns; table = from.0; history = from.1; period = at; filter = which; order = by; limit = limit; offset = offset }))
+  pure (form.Select (record { columns = columns; table = from.0; history = from.1; period = at; filter = which; order = by; limit = limit; offset = offset }))
 
 -- ---- the whole text
 
-abbrev pub statement_by : Kind → Reader Stmt
+abbrev pub statement_by : Kind → Reader Form
 statement_by k.Create = take_token >> create
-statement_by k.Upsert = take_token >> stmt.Upsert <$> insertion
-statement_by k.Insert = take_token >> stmt.Insert <$> insertion
+statement_by k.Upsert = take_token >> form.Upsert <$> insertion
+statement_by k.Insert = take_token >> form.Insert <$> insertion
 statement_by k.Delete = take_token >> delete_statement
 statement_by k.Select = take_token >> select
 statement_by _ = refuse
 
-unfoldable pub statement : Reader Stmt
+unfoldable pub statement : Reader Form
 statement = peek >>= statement_by
 
 -- a statement, one `;` if it comes next, and then the end
-unfoldable pub whole_statement : Reader Stmt
+unfoldable pub whole_statement : Reader Form
 whole_statement = do
   found ← statement
   semicolon ← eat k.Semicolon
@@ -212,11 +212,11 @@ abbrev pub value_of : {A : Type 0} → Parsed A → Result A SqlSyntax
 value_of (Ok p) = Ok p.0
 value_of (Err e) = Err e
 
-unfoldable pub statement_of : Text → Result Stmt SqlSyntax
+unfoldable pub statement_of : Text → Result Form SqlSyntax
 statement_of text = value_of (whole_statement (start_of text))
 
 -- what a parser of a whole text answers, unless memory runs out
-abbrev pub Parses : Result Stmt SqlSyntax → Result Stmt ParseError → Type 0
+abbrev pub Parses : Result Form SqlSyntax → Result Form ParseError → Type 0
 Parses said (Ok found) = said ≡ Ok found
 Parses said (Err Memory) = Unit {0}
 Parses said (Err (Syntax e)) = said ≡ Err e

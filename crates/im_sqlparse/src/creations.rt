@@ -7,7 +7,7 @@ ghost use Rattle.im_sqlparse.specs.Input.{ReadsTokens};
 use crate::errors::{ParseError, SyntaxKind};
 use crate::kinds::Kind;
 use crate::numbers::number;
-use crate::statements::{ColumnDefinition, CreateIndex, CreateTable, DeclaredType, Name, Stmt};
+use crate::statements::{ColumnDefinition, CreateIndex, CreateTable, DeclaredType, Form, Name};
 use crate::tokens::Tokens;
 use crate::values::{name, names};
 use sqlite_items::Items;
@@ -145,7 +145,7 @@ fn if_not_exists(tokens: &mut Tokens<'_>) -> Result<bool, ParseError>
 
 // Behind CREATE TABLE.
 #[tactic(auto, unfolding(crate::specs::Statements::create_table))]
-fn create_table(alloc: Global, tokens: &mut Tokens<'_>) -> Result<Stmt, ParseError>
+fn create_table(alloc: Global, tokens: &mut Tokens<'_>) -> Result<Form, ParseError>
     ensures { ReadsTokens (spec.create_table tokens.old) result tokens.new }
 {
     let if_not_exists = if_not_exists(tokens)?;
@@ -155,7 +155,7 @@ fn create_table(alloc: Global, tokens: &mut Tokens<'_>) -> Result<Stmt, ParseErr
     tokens.expect(Kind::Key)?;
     let key = key(alloc, tokens)?;
     tokens.expect(Kind::Close)?;
-    Ok(Stmt::CreateTable(CreateTable {
+    Ok(Form::CreateTable(CreateTable {
         if_not_exists,
         table,
         columns,
@@ -165,13 +165,13 @@ fn create_table(alloc: Global, tokens: &mut Tokens<'_>) -> Result<Stmt, ParseErr
 
 // Behind CREATE INDEX.
 #[tactic(auto, unfolding(crate::specs::Statements::create_index))]
-fn create_index(alloc: Global, tokens: &mut Tokens<'_>, unique: bool) -> Result<Stmt, ParseError>
+fn create_index(alloc: Global, tokens: &mut Tokens<'_>, unique: bool) -> Result<Form, ParseError>
     ensures { ReadsTokens (spec.create_index unique tokens.old) result tokens.new }
 {
     tokens.expect(Kind::On)?;
     let table = name(alloc, tokens)?;
     let columns = names(alloc, tokens)?;
-    Ok(Stmt::CreateIndex(CreateIndex {
+    Ok(Form::CreateIndex(CreateIndex {
         unique,
         table,
         columns,
@@ -180,7 +180,7 @@ fn create_index(alloc: Global, tokens: &mut Tokens<'_>, unique: bool) -> Result<
 
 /// Behind CREATE.
 #[tactic(auto, unfolding(crate::specs::Statements::create))]
-pub fn create(alloc: Global, tokens: &mut Tokens<'_>) -> Result<Stmt, ParseError>
+pub fn create(alloc: Global, tokens: &mut Tokens<'_>) -> Result<Form, ParseError>
     ensures { ReadsTokens (spec.create tokens.old) result tokens.new }
 {
     match tokens.peek() {

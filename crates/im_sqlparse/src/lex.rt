@@ -79,8 +79,9 @@ fn lookup(mut table: &[(&[u8], Kind)], word: &[u8]) -> Kind
     Kind::Word
 }
 
+/// What a word that begins with a letter is: a keyword, in any case, or else `Word`.
 #[tactic(auto, unfolding(crate::specs::Lex::keyword))]
-fn keyword(word: &[u8]) -> Kind
+pub fn keyword(word: &[u8]) -> Kind
     ensures { result ≡ spec.keyword word.now }
 {
     lookup(&KEYWORDS, word)

@@ -8,6 +8,7 @@ mod kinds;
 pub mod laws;
 mod lex;
 mod lists;
+pub mod names;
 mod numbers;
 mod reading;
 mod selects;

@@ -8,13 +8,13 @@ use crate::creations::create;
 use crate::errors::ParseError;
 use crate::kinds::Kind;
 use crate::selects::select;
-use crate::statements::Stmt;
+use crate::statements::{Form, Stmt};
 use crate::tokens::Tokens;
 use crate::writes::{delete_statement, insertion};
 use std::alloc::Global;
 
 #[tactic(auto, unfolding(crate::specs::Statements::statement))]
-fn statement(alloc: Global, tokens: &mut Tokens<'_>) -> Result<Stmt, ParseError>
+fn statement(alloc: Global, tokens: &mut Tokens<'_>) -> Result<Form, ParseError>
     ensures { ReadsTokens (spec.statement tokens.old) result tokens.new }
 {
     match tokens.peek() {
@@ -24,11 +24,11 @@ fn statement(alloc: Global, tokens: &mut Tokens<'_>) -> Result<Stmt, ParseError>
         }
         Kind::Upsert => {
             tokens.take();
-            Ok(Stmt::Upsert(insertion(alloc, tokens)?))
+            Ok(Form::Upsert(insertion(alloc, tokens)?))
         }
         Kind::Insert => {
             tokens.take();
-            Ok(Stmt::Insert(insertion(alloc, tokens)?))
+            Ok(Form::Insert(insertion(alloc, tokens)?))
         }
         Kind::Delete => {
             tokens.take();
@@ -44,7 +44,7 @@ fn statement(alloc: Global, tokens: &mut Tokens<'_>) -> Result<Stmt, ParseError>
 
 // A statement, one `;` if it comes next, and then the end.
 #[tactic(auto, unfolding(crate::specs::Statements::whole_statement))]
-fn whole_statement(alloc: Global, tokens: &mut Tokens<'_>) -> Result<Stmt, ParseError>
+fn whole_statement(alloc: Global, tokens: &mut Tokens<'_>) -> Result<Form, ParseError>
     ensures { ReadsTokens (spec.whole_statement tokens.old) result tokens.new }
 {
     let found = statement(alloc, tokens)?;
@@ -53,16 +53,25 @@ fn whole_statement(alloc: Global, tokens: &mut Tokens<'_>) -> Result<Stmt, Parse
     Ok(found)
 }
 
+// What the statement says that a text is.
+#[tactic(auto, unfolding(crate::specs::Statements::statement_of))]
+fn form_of(alloc: Global, text: &str) -> Result<Form, ParseError>
+    ensures { spec.Parses (spec.statement_of text.now) result }
+{
+    let mut tokens = Tokens::new(text.as_bytes());
+    whole_statement(alloc, &mut tokens)
+}
+
 /// The statement that a text is, or the first fault of it from the left. Its names are in lower case.
 ///
 /// # Errors
 ///
 /// `ParseError::Syntax` exactly where the text isn't in the grammar, with its first fault; else only
 /// `ParseError::Memory`.
-#[tactic(auto, unfolding(crate::specs::Statements::statement_of))]
+#[tactic(auto, using(crate::proofs::FormedStatements::statement_formed))]
 pub fn parse(alloc: Global, text: &str) -> Result<Stmt, ParseError>
     ensures { spec.Parses (spec.statement_of text.now) result }
 {
-    let mut tokens = Tokens::new(text.as_bytes());
-    whole_statement(alloc, &mut tokens)
+    let form = form_of(alloc, text)?;
+    Ok(Stmt::new(form))
 }

@@ -9,7 +9,7 @@ use crate::errors::ParseError;
 use crate::kinds::Kind;
 use crate::lists::{Listed, separated};
 use crate::numbers::number;
-use crate::statements::{Name, OrderTerm, Period, Select, Stmt};
+use crate::statements::{Form, Name, OrderTerm, Period, Select};
 use crate::tokens::Tokens;
 use crate::values::{column, name};
 use sqlite_items::Items;
@@ -106,7 +106,7 @@ fn count_behind(tokens: &mut Tokens<'_>, word: Kind) -> Result<Option<u64>, Pars
 
 /// Behind SELECT.
 #[tactic(auto, unfolding(crate::specs::Statements::select))]
-pub fn select(alloc: Global, tokens: &mut Tokens<'_>) -> Result<Stmt, ParseError>
+pub fn select(alloc: Global, tokens: &mut Tokens<'_>) -> Result<Form, ParseError>
     ensures { ReadsTokens (spec.select tokens.old) result tokens.new }
 {
     let columns = select_list(alloc, tokens)?;
@@ -117,7 +117,7 @@ pub fn select(alloc: Global, tokens: &mut Tokens<'_>) -> Result<Stmt, ParseError
     let order = order(alloc, tokens)?;
     let limit = count_behind(tokens, Kind::Limit)?;
     let offset = count_behind(tokens, Kind::Offset)?;
-    Ok(Stmt::Select(Select {
+    Ok(Form::Select(Select {
         columns,
         table,
         history,

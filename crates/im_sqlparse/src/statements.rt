@@ -1,4 +1,5 @@
 use sqlite_items::{Boxed, Items};
+use std::marker::Model;
 
 /// A name, in lower case: 1 to 48 of a-z, 0-9 and `_`, a letter first. Where a column of a SELECT stands it may be
 /// `_rev`.
@@ -184,9 +185,9 @@ pub struct Select {
     pub offset: Option<u64>,
 }
 
-/// A statement.
+/// What a statement says.
 #[derive(Drop)]
-pub enum Stmt {
+pub enum Form {
     /// `CREATE TABLE`
     CreateTable(CreateTable),
     /// `CREATE INDEX`
@@ -199,4 +200,47 @@ pub enum Stmt {
     Delete(Delete),
     /// `SELECT`
     Select(Select),
+}
+
+/// A statement of the grammar, whose parts are what the grammar lets them be (`IsStatement`). A clause sees what it
+/// says.
+#[derive(Drop)]
+pub struct Stmt {
+    form: Form,
+}
+
+impl Model for Stmt {
+    ghost use Rattle.std.specs.Coded.{codes};
+    ghost use Rattle.im_sqlparse.specs.contracts.statements.Condition as condition;
+    ghost use Rattle.im_sqlparse.specs.declared.statements.Form.{Form};
+    ghost use Rattle.im_sqlparse.specs.Formed.{IsStatement};
+
+    ghost Value = { Form };
+
+    ghost coded = { Prim.hlevel (codes, condition.the_row.coded) };
+
+    ghost view = { λ s. s.form };
+
+    ghost invariant = { λ s. IsStatement s.form };
+}
+
+impl Stmt {
+    ghost use Rattle.std.specs.Prelude.{◌≡◌};
+    ghost use Rattle.im_sqlparse.specs.Formed.{IsStatement};
+
+    // What was read.
+    pub(crate) fn new(form: Form) -> Self
+        requires { IsStatement form }
+        ensures { result ≡ form }
+    {
+        Stmt { form }
+    }
+
+    /// What it says. It takes no memory.
+    pub fn form(&self) -> &Form
+        ensures value { result.now ≡ self.now }
+        ensures formed { IsStatement self.now }
+    {
+        &self.form
+    }
 }

@@ -8,7 +8,7 @@ use crate::conditions::filter;
 use crate::errors::ParseError;
 use crate::kinds::Kind;
 use crate::lists::separated;
-use crate::statements::{Delete, Insertion, Literal, Stmt};
+use crate::statements::{Delete, Form, Insertion, Literal};
 use crate::tokens::Tokens;
 use crate::values::{name, names};
 use sqlite_items::Items;
@@ -33,11 +33,11 @@ pub fn insertion(alloc: Global, tokens: &mut Tokens<'_>) -> Result<Insertion, Pa
 
 /// Behind DELETE.
 #[tactic(auto, unfolding(crate::specs::Statements::delete_statement))]
-pub fn delete_statement(alloc: Global, tokens: &mut Tokens<'_>) -> Result<Stmt, ParseError>
+pub fn delete_statement(alloc: Global, tokens: &mut Tokens<'_>) -> Result<Form, ParseError>
     ensures { ReadsTokens (spec.delete_statement tokens.old) result tokens.new }
 {
     tokens.expect(Kind::From)?;
     let table = name(alloc, tokens)?;
     let filter = filter(alloc, tokens, false)?;
-    Ok(Stmt::Delete(Delete { table, filter }))
+    Ok(Form::Delete(Delete { table, filter }))
 }

@@ -1,6 +1,7 @@
-ghost use Rattle.std.specs.Prelude.{◌≡◌};
+ghost use Rattle.std.specs.Prelude.{◌≡◌, IfOk};
 
 use im_octet::octets::Octets;
+use std::alloc::{AllocError, Global};
 
 /// A value of SQL.
 #[derive(Drop)]
@@ -30,6 +31,25 @@ impl Value {
             Value::Boolean(_) => 2,
             Value::Varchar(_) => 3,
             Value::Blob(_) => 4,
+        }
+    }
+
+    /// A copy of this value, of its octets too. Its only error is want of memory.
+    pub fn try_clone(&self, alloc: Global) -> Result<Self, AllocError>
+        ensures { IfOk result (λ value. value ≡ self.now) }
+    {
+        match self {
+            Value::Null => Ok(Value::Null),
+            Value::Integer(number) => Ok(Value::Integer(*number)),
+            Value::Boolean(truth) => Ok(Value::Boolean(*truth)),
+            Value::Varchar(octets) => {
+                let copy = Octets::from_slice(alloc, octets.as_slice())?;
+                Ok(Value::Varchar(copy))
+            }
+            Value::Blob(octets) => {
+                let copy = Octets::from_slice(alloc, octets.as_slice())?;
+                Ok(Value::Blob(copy))
+            }
         }
     }
 }

@@ -1,0 +1,7 @@
+//! Conditions of statements: what is wrong with one, and whether a row meets it.
+#![tactic(auto)]
+
+pub mod judged;
+pub mod lent;
+pub mod met;
+pub mod scopes;

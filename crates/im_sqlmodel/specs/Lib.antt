@@ -1,0 +1,11 @@
+pub mod Options
+pub mod Sorts
+pub mod Keys
+pub mod Tables
+pub mod Rows
+pub mod Conditions
+pub mod Selects
+pub mod Creations
+pub mod Writes
+pub mod Answers
+pub mod Kept

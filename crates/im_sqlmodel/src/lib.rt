@@ -1,0 +1,9 @@
+//! What SQL means over a history: definitions of its tables, rows, answers and writes as filters over the versions of
+//! keys, and their types.
+#![tactic(auto)]
+
+pub mod answers;
+pub mod laws;
+pub mod rows;
+pub mod tables;
+pub mod written;
