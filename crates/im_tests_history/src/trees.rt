@@ -4,14 +4,13 @@
 //! leaves, and one more for each node. Of the digests 1 to 7, in hex: 1 + 2 + 1 is 4, 4 + 3 + 1 is 8, 3 + 4 + 1
 //! is 8, 4 + 8 + 1 is d, 5 + 6 + 1 is c, c + 7 + 1 is 14, and d + 14 + 1 is 22.
 
-ghost use Rattle.std.specs.Prelude.{◌≡◌, ◌<◌, ◌≤◌, length};
+ghost use Rattle.std.specs.Prelude.{◌≡◌, ◌≤◌};
 
 use crate::values::{are, digest, one_to};
 use im_atree::checks::{check_consistency, check_inclusion, check_last};
 use im_atree::list_trees::ListTree;
 use im_atree::trees::Tree;
 use im_digest::{Hash32, Sha, Sum};
-use im_levels::steps::Steps;
 use im_model::growth::{newer_root, older_root};
 use im_model::paths::root_by_path;
 use im_model::trees::{leaf_digest, node_digest, plain_root, split};
@@ -22,8 +21,6 @@ use im_mtree::paths::{check_path, path};
 use im_mtree::roots::root;
 use im_proof::faults::DualFault;
 use std::alloc::{AllocError, Global};
-use std::marker::Brand;
-use std::sync::ledger::{Blank, Ledger};
 use std::test::Fail;
 
 // The root over the digests 1 to 7 by SHA-256, as Python's hashlib gives it.
@@ -139,62 +136,6 @@ fn roots_are_those_hashed_afresh(alloc: Global) -> Result<bool, AllocError> {
     Ok(same)
 }
 
-// Whether a tree and a list of as many leaves give the same path of this leaf, and the same consistency list from as
-// many.
-fn proofs_are_the_same(
-    alloc: Global,
-    tree: &Tree,
-    list: &ListTree,
-    m: u64,
-    n: u64,
-) -> Result<bool, AllocError>
-    requires some { 1 ≤ m }
-    requires within { m ≤ n }
-    requires tree { n ≤ tree.now.size }
-    requires list { n ≤ length list.now }
-{
-    let path = tree.inclusion(alloc, &Sum, m, n)?.into_vec();
-    let plain_path = list.inclusion(alloc, &Sum, m, n)?.into_vec();
-    let terms = tree.consistency(alloc, &Sum, m, n)?.into_vec();
-    let plain_terms = list.consistency(alloc, &Sum, m, n)?.into_vec();
-    Ok(path == plain_path && terms == plain_terms)
-}
-
-// Whether this holds of the trees of the first to the last of n leaves.
-fn all_proofs_are_the_same(
-    alloc: Global,
-    tree: &Tree,
-    list: &ListTree,
-    n: u64,
-) -> Result<bool, AllocError>
-    requires few { n ≤ 9 }
-    requires tree { n ≤ tree.now.size }
-    requires list { n ≤ length list.now }
-{
-    let mut same = true;
-    for m in 1..n + 1 {
-        same = same && proofs_are_the_same(alloc, tree, list, m, n)?;
-    }
-    Ok(same)
-}
-
-fn nine_give_the_same_proofs(alloc: Global) -> Result<bool, AllocError> {
-    let mut tree = Tree::new(alloc);
-    let mut list = ListTree::new(alloc);
-    for digest in &one_to::<9>() {
-        tree.append(&Sum, digest)?;
-        list.append(digest)?;
-    }
-    if tree.size() != 9 || list.size() != 9 {
-        return Ok(false);
-    }
-    let mut same = *list.leaf(9) == digest(9);
-    for n in 1..10u64 {
-        same = same && all_proofs_are_the_same(alloc, &tree, &list, n)?;
-    }
-    Ok(same)
-}
-
 fn roots_of_seven(tree: &Tree) -> bool {
     tree.size() == 7
         && tree.root_at(&Sum, 1) == digest(1)
@@ -263,38 +204,6 @@ fn path_over_seven(alloc: Global) -> Result<bool, AllocError> {
 fn proofs_of_seven(alloc: Global) -> Result<bool, AllocError> {
     let tree = seven(alloc)?;
     Ok(roots_of_seven(&tree) && lists_of_seven(alloc, &tree)? && paths_of_seven(alloc, &tree)?)
-}
-
-// Whether the counted calls over the tree of seven give what is worked, and then take an eighth leaf.
-fn counted_of_seven<L: Ledger>(alloc: Global, blank: Blank) -> Result<bool, AllocError>
-    requires name { blank.name ≡ L.name }
-    requires parts { blank.parts ≡ L.parts }
-    requires one { 0 < blank.parts }
-{
-    let mut tree = seven(alloc)?;
-    if tree.size() != 7 {
-        return Ok(false);
-    }
-    let mut steps = Steps::<L>::new(blank);
-    let top = tree.root_steps(&Sum, 7, &mut steps);
-    let path = tree.inclusion_steps(alloc, &Sum, 7, 7, &mut steps)?;
-    let list = tree.consistency_steps(alloc, &Sum, 4, 7, &mut steps)?;
-    let same = top == digest(0x22)
-        && are(path.as_slice(), &[0x0c, 0x0d])
-        && are(list.as_slice(), &[0x0d, 0x14]);
-    Ok(same && tree.append_steps(&Sum, &digest(8), &mut steps)? == 8)
-}
-
-#[test]
-fn the_counted_calls_give_the_worked_proofs(rt: HostRuntime) -> Result<(), Fail> {
-    assert!(rt; counted_of_seven::<Brand>(rt.alloc(), Blank::new(1))?);
-    Ok(())
-}
-
-#[test]
-fn a_tree_and_a_list_give_the_same_proofs(rt: HostRuntime) -> Result<(), Fail> {
-    assert!(rt; nine_give_the_same_proofs(rt.alloc())?);
-    Ok(())
 }
 
 #[test]
