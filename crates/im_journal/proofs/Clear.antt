@@ -16,6 +16,7 @@ use Rattle.im_format.specs.declared.spans.Span.{Span}
 use Rattle.im_alog.proofs.Torn.{all_both}
 use Rattle.im_journal.specs.Phases.{AreClear, IsClear}
 use Rattle.im_journal.specs.Pieces.{end_of, log_pieces, pieces_of, value_piece}
+use Rattle.im_journal.specs.declared.ends.Ends.{Ends}
 use Rattle.im_journal.proofs.Prefixes.{octets_more, refs_more}
 use Rattle.im_format.proofs.LengthLemmas.{length-fields}
 use Rattle.im_format.proofs.AllLemmas.{all-left, all-right}
@@ -63,7 +64,7 @@ different_with_piece number place octets rest others different = decide_same (le
 regroup : (a b c d e : List Span) → a ++ b ++ c ++ d ++ e ≡ a ++ (b ++ (c ++ (d ++ e)))
 regroup a b c d e = append_assoc (a ++ b ++ c) d e ∙ append_assoc (a ++ b) c (d ++ e) ∙ append_assoc a b (c ++ (d ++ e))
 
-module _ (ends : List ℕ) (id : ℕ) (rs : List Record) where
+module _ (ends : Ends) (id : ℕ) (rs : List Record) where
   abbrev piece : ℕ → List Span
   piece v = value_piece (2 + v) (end_of ends (2 + v)) (log_values v rs)
 
@@ -74,10 +75,10 @@ module _ (ends : List ℕ) (id : ℕ) (rs : List Record) where
   is_nested = sym (regroup (piece 0) (piece 1) (piece 2) (piece 3) (log_pieces ends id rs))
 
   abbrev s0 : Span
-  s0 = record { file = 0; at = end_of ends 0; octets = records_octets id rs }
+  s0 = record { file = 0; at = ends.records; octets = records_octets id rs }
 
   abbrev s1 : Span
-  s1 = record { file = 1; at = end_of ends 1 + 1; octets = batch_octets id (length rs) (end_of ends 0 + length (records_octets id rs)) }
+  s1 = record { file = 1; at = ends.commits + 1; octets = batch_octets id (length rs) (ends.records + length (records_octets id rs)) }
 
   pub all_pieces : (P : Span → Type 0) → ((number : ℕ) (octets : List ℕ) → 2 ≤ number → number < 6 → P (record { file = number; at = end_of ends number; octets = octets })) → P s0 → P s1 → All P (pieces_of ends id rs)
   all_pieces P values p0 p1 = subst (All P) is_nested
@@ -101,7 +102,7 @@ module _ (ends : List ℕ) (id : ℕ) (rs : List Record) where
       (different_with_piece 5 (end_of ends 5) (log_values 3 rs) _ (others 5 (omega arith))
       (All-cons (λ q. q.file ≢ 0) s1 [] (λ e. omega (arith, e)) (All-nil (λ q. q.file ≢ 0)), (All-nil (λ q. q.file ≢ 1), tt))))))
 
-  pub pieces_clear : (spans : List Span) (gate : ℕ) → All (IsBelow (end_of ends)) spans → end_of ends 1 ≡ gate → AreClear spans gate (pieces_of ends id rs)
+  pub pieces_clear : (spans : List Span) (gate : ℕ) → All (IsBelow (end_of ends)) spans → ends.commits ≡ gate → AreClear spans gate (pieces_of ends id rs)
   pieces_clear spans gate below at_gate = clear_apart spans gate (pieces_of ends id rs)
       (all_pieces (IsClear spans gate)
       (λ number octets two six. clear_behind spans (end_of ends) gate (record { file = number; at = end_of ends number; octets = octets }) below (omega arith) (λ one. absurd (omega (arith, one, two))))

@@ -20,6 +20,7 @@ use Rattle.im_format.specs.declared.references.ValueRef.{ValueRef}
 use Rattle.im_journal.specs.Holding.{AreFirst, AreNext, ends_of}
 use Rattle.im_record.specs.Writing.{IsWhole}
 use Rattle.im_journal.specs.Pieces.{end_of}
+use Rattle.im_journal.specs.declared.ends.Ends.{Ends}
 use Rattle.im_journal.proofs.Placing.{ends_in, records_in}
 use Rattle.im_format.proofs.LengthLemmas.{length-attributes, length-entry, length-record}
 
@@ -37,7 +38,7 @@ small_of [] all = All-nil (λ r. IsSmall r.tx)
 small_of (r ∷ rs) all =
     All-cons (λ r. IsSmall r.tx) r rs (All-head IsSmall r.tx (map (λ r. r.tx) rs) all) (small_of rs (All-tail IsSmall r.tx (map (λ r. r.tx) rs) all))
 
-pub first_small : (hash : Hash) (history : List Transaction) (batches : List (List Record)) (durable : ℕ) (ends : List ℕ) → AreFirst hash history batches durable ends
+pub first_small : (hash : Hash) (history : List Transaction) (batches : List (List Record)) (durable : ℕ) (ends : Ends) → AreFirst hash history batches durable ends
     → All (λ r. IsSmall r.tx) (joined batches)
 first_small hash history batches durable ends first =
     small_of (joined batches) (subst (All IsSmall) (sym first.transactions_are) (All-take IsSmall durable history (follow_small 0 0 history first.history_is.follow)))
@@ -113,7 +114,7 @@ batches_few [] all = omega arith
 batches_few (batch ∷ batches) all =
     omega (arith, All-head (λ batch. 1 ≤ length batch) batch batches all, length-append batch (joined batches), batches_few batches (All-tail (λ batch. 1 ≤ length batch) batch batches all))
 
-module _ (hash : Hash) (history : List Transaction) (batches : List (List Record)) (durable : ℕ) (ends : List ℕ) (first : AreFirst hash history batches durable ends) where
+module _ (hash : Hash) (history : List Transaction) (batches : List (List Record)) (durable : ℕ) (ends : Ends) (first : AreFirst hash history batches durable ends) where
   -- the number of the records
   pub first_number : length (joined batches) ≡ durable
   first_number = omega (arith, ap length first.transactions_are, length-map (joined batches) (λ (r : Record). r.tx), length-take durable history, first.placed)
@@ -137,4 +138,4 @@ module _ (hash : Hash) (history : List Transaction) (batches : List (List Record
 
   -- no end comes near the greatest number
   pub ends_room : (k : ℕ) → end_of ends k < 2 ^ 61
-  ends_room k = subst (λ (e : List ℕ). end_of e k < 2 ^ 61) (sym first.ends_are) (room_of k)
+  ends_room k = subst (λ (e : Ends). end_of e k < 2 ^ 61) (sym first.ends_are) (room_of k)

@@ -17,6 +17,7 @@ use Rattle.im_journal.specs.Pieces.{end_of, ends_after, pieces_of}
 use Rattle.im_journal.specs.declared.batches.Step.{Step}
 use Rattle.im_journal.specs.declared.batches.Step.TheVariants.{Idle, Staging, Staged, Sealed, Gated}
 use Rattle.im_journal.specs.declared.errors.JournalError.{JournalError}
+use Rattle.im_journal.specs.declared.ends.Ends.{Ends}
 use Rattle.im_record.specs.Writing.{IsWhole}
 use Rattle.im_journal.proofs.Calls.{safe_front}
 use Rattle.im_journal.proofs.Clear.{all_pieces}
@@ -25,14 +26,14 @@ use Rattle.im_journal.proofs.Turns.{begins, first_more, rests, stands}
 use Rattle.im_journal.proofs.Whole.{batch_safe, ends_more}
 
 -- the ends are those of the batches
-pub first_at : (hash : Hash) (history : List Transaction) (batches : List (List Record)) (durable : ℕ) (ends : List ℕ) → AreFirst hash history batches durable ends → AreFirst hash history batches durable (ends_of batches)
-first_at hash history batches durable ends first = subst (λ (e : List ℕ). AreFirst hash history batches durable e) first.ends_are first
+pub first_at : (hash : Hash) (history : List Transaction) (batches : List (List Record)) (durable : ℕ) (ends : Ends) → AreFirst hash history batches durable ends → AreFirst hash history batches durable (ends_of batches)
+first_at hash history batches durable ends first = subst (λ (e : Ends). AreFirst hash history batches durable e) first.ends_are first
 
-pub safe_stands : (hash : Hash) (history : List Transaction) (batches : List (List Record)) (durable : ℕ) (ends : List ℕ) → AreFirst hash history batches durable ends
+pub safe_stands : (hash : Hash) (history : List Transaction) (batches : List (List Record)) (durable : ℕ) (ends : Ends) → AreFirst hash history batches durable ends
     → (image : Files) → IsSafe (end_of ends) (spans_of batches) (gate_of (length batches)) image → Stands hash image (take durable history)
 safe_stands hash history batches durable ends first image safe =
     stands hash history batches durable (first_at hash history batches durable ends first) image
-    (subst (λ (e : List ℕ). IsSafe (end_of e) (spans_of batches) (gate_of (length batches)) image) first.ends_are safe)
+    (subst (λ (e : Ends). IsSafe (end_of e) (spans_of batches) (gate_of (length batches)) image) first.ends_are safe)
 
 module _ {D : Type 0} (told : D → Option Told) (hash : Hash) (history : List Transaction) (batches : List (List Record)) (k : Kept D) (rest : IsAtRest told hash history batches k) where
   -- at rest each image stands for what is durable
@@ -41,10 +42,10 @@ module _ {D : Type 0} (told : D → Option Told) (hash : Hash) (history : List T
 
   -- a batch begins
   pub begun : (rs : List Record) → IfSome (told k.disk) (IsStaging (end_of k.ends) (spans_of batches) (gate_of (length batches)) [] (pieces_of k.ends (k.durable + 1) rs))
-  begun rs = subst (λ (e : List ℕ). IfSome (told k.disk) (IsStaging (end_of e) (spans_of batches) (gate_of (length batches)) [] (pieces_of e (k.durable + 1) rs))) (sym rest.first.ends_are)
+  begun rs = subst (λ (e : Ends). IfSome (told k.disk) (IsStaging (end_of e) (spans_of batches) (gate_of (length batches)) [] (pieces_of e (k.durable + 1) rs))) (sym rest.first.ends_are)
       (if_told (IsResting batches (ends_of batches)) (IsStaging (end_of (ends_of batches)) (spans_of batches) (gate_of (length batches)) [] (pieces_of (ends_of batches) (k.durable + 1) rs))
       (begins hash history batches k.durable (first_at hash history batches k.durable k.ends rest.first) rs) (told k.disk)
-      (subst (λ (e : List ℕ). IfSome (told k.disk) (IsResting batches e)) rest.first.ends_are rest.resting))
+      (subst (λ (e : Ends). IfSome (told k.disk) (IsResting batches e)) rest.first.ends_are rest.resting))
 
   pub rest_whole : (rs : List Record) → AreNext hash history batches k.durable rs → All IsWhole rs
   rest_whole rs next = all_whole hash history (k.durable + 1) rs next.records_are (next_small hash history batches k.durable rs rest.first.history_is next)
@@ -53,7 +54,7 @@ module _ {D : Type 0} (told : D → Option Told) (hash : Hash) (history : List T
   rest_room = ends_room hash history batches k.durable k.ends rest.first
 
 -- pieces behind ends that aren't great fit a disk
-pub pieces_fit : (ends : List ℕ) (id : ℕ) (rs : List Record) → ((n : ℕ) → end_of ends n < 2 ^ 61) → All FitsDisk (pieces_of ends id rs)
+pub pieces_fit : (ends : Ends) (id : ℕ) (rs : List Record) → ((n : ℕ) → end_of ends n < 2 ^ 61) → All FitsDisk (pieces_of ends id rs)
 pieces_fit ends id rs room = all_pieces ends id rs FitsDisk
     (λ number octets two six. record { file = omega (arith, six); place = omega (arith, room number) })
     (record { file = omega arith; place = omega (arith, room 0) })
@@ -64,7 +65,7 @@ module _ {D : Type 0} (told : D → Option Told) (hash : Hash) (history : List T
   mid_first = first_at hash history batches k.durable k.ends mid.first
 
   pieces_are : k.batch.pieces ≡ pieces_of (ends_of batches) (k.durable + 1) rs
-  pieces_are = mid.pieces ∙ ap (λ (e : List ℕ). pieces_of e (k.durable + 1) rs) mid.first.ends_are
+  pieces_are = mid.pieces ∙ ap (λ (e : Ends). pieces_of e (k.durable + 1) rs) mid.first.ends_are
 
   mid_safe : (image : Files) → IsSafe (end_of k.ends) (spans_of batches) (gate_of (length batches)) image → Stands hash image (take k.durable history)
   mid_safe = safe_stands hash history batches k.durable k.ends mid.first
@@ -73,7 +74,7 @@ module _ {D : Type 0} (told : D → Option Told) (hash : Hash) (history : List T
   mid_opened image opened =
       stands hash history (batches ++ rs ∷ []) (k.durable + length rs) (first_more hash history batches k.durable mid_first rs mid.next) image
       (batch_safe hash history batches k.durable rs mid_first mid.next image
-      (subst (λ (e : List ℕ). HasOpenGate (end_of e) (spans_of batches ++ pieces_of (ends_of batches) (k.durable + 1) rs) (gate_of (length batches)) image) mid.first.ends_are
+      (subst (λ (e : Ends). HasOpenGate (end_of e) (spans_of batches ++ pieces_of (ends_of batches) (k.durable + 1) rs) (gate_of (length batches)) image) mid.first.ends_are
       (subst (λ (ps : List Span). HasOpenGate (end_of k.ends) (spans_of batches ++ ps) (gate_of (length batches)) image) pieces_are opened)))
 
   mid_either : (image : Files) → IsEither (end_of k.ends) (spans_of batches) (gate_of (length batches)) k.batch.pieces image → StandsBy Gated hash history k.durable (length rs) image
@@ -101,8 +102,8 @@ module _ {D : Type 0} (told : D → Option Told) (hash : Hash) (history : List T
   mid_stands = stands_at k.batch.step mid.at
 
   -- the gate's place, and that each file has room
-  pub gate_is : end_of k.ends 1 ≡ gate_of (length batches)
-  gate_is = ap (λ (e : List ℕ). end_of e 1) mid.first.ends_are
+  pub gate_is : k.ends.commits ≡ gate_of (length batches)
+  gate_is = ap (λ (e : Ends). e.commits) mid.first.ends_are
 
   pub mid_room : (n : ℕ) → end_of k.ends n < 2 ^ 61
   mid_room = ends_room hash history batches k.durable k.ends mid.first
@@ -110,18 +111,18 @@ module _ {D : Type 0} (told : D → Option Told) (hash : Hash) (history : List T
   -- the batch is durable
   pub done_rests : (o : Option Told) → IfSome o (IsDone (end_of k.ends) (spans_of batches) (gate_of (length batches)) k.batch.pieces) → IfSome o (IsResting (batches ++ rs ∷ []) k.batch.ends)
   done_rests o done =
-      let after : k.batch.ends ≡ ends_of (batches ++ rs ∷ []) = mid.ends ∙ ap (λ (e : List ℕ). ends_after e (k.durable + 1) rs) mid.first.ends_are ∙ ends_more hash history batches k.durable rs mid_first mid.next in
-      subst (λ (e : List ℕ). IfSome o (IsResting (batches ++ rs ∷ []) e)) (sym after)
+      let after : k.batch.ends ≡ ends_of (batches ++ rs ∷ []) = mid.ends ∙ ap (λ (e : Ends). ends_after e (k.durable + 1) rs) mid.first.ends_are ∙ ends_more hash history batches k.durable rs mid_first mid.next in
+      subst (λ (e : Ends). IfSome o (IsResting (batches ++ rs ∷ []) e)) (sym after)
       (if_told (IsDone (end_of (ends_of batches)) (spans_of batches) (gate_of (length batches)) (pieces_of (ends_of batches) (k.durable + 1) rs)) (IsResting (batches ++ rs ∷ []) (ends_of (batches ++ rs ∷ [])))
       (λ t d. rests hash history batches k.durable mid_first rs t mid.next d) o
-      (subst (λ (e : List ℕ). IfSome o (IsDone (end_of e) (spans_of batches) (gate_of (length batches)) (pieces_of (ends_of batches) (k.durable + 1) rs))) mid.first.ends_are
+      (subst (λ (e : Ends). IfSome o (IsDone (end_of e) (spans_of batches) (gate_of (length batches)) (pieces_of (ends_of batches) (k.durable + 1) rs))) mid.first.ends_are
       (subst (λ (ps : List Span). IfSome o (IsDone (end_of k.ends) (spans_of batches) (gate_of (length batches)) ps)) pieces_are done)))
 
   pub done_first : AreFirst hash history (batches ++ rs ∷ []) (k.durable + k.batch.count) k.batch.ends
   done_first =
-      let after : k.batch.ends ≡ ends_of (batches ++ rs ∷ []) = mid.ends ∙ ap (λ (e : List ℕ). ends_after e (k.durable + 1) rs) mid.first.ends_are ∙ ends_more hash history batches k.durable rs mid_first mid.next in
+      let after : k.batch.ends ≡ ends_of (batches ++ rs ∷ []) = mid.ends ∙ ap (λ (e : Ends). ends_after e (k.durable + 1) rs) mid.first.ends_are ∙ ends_more hash history batches k.durable rs mid_first mid.next in
       subst (λ (n : ℕ). AreFirst hash history (batches ++ rs ∷ []) (k.durable + n) k.batch.ends) (sym mid.count)
-      (subst (λ (e : List ℕ). AreFirst hash history (batches ++ rs ∷ []) (k.durable + length rs) e) (sym after) (first_more hash history batches k.durable mid_first rs mid.next))
+      (subst (λ (e : Ends). AreFirst hash history (batches ++ rs ∷ []) (k.durable + length rs) e) (sym after) (first_more hash history batches k.durable mid_first rs mid.next))
 
 -- what the call that writes the pieces leaves
 pub put_leaves : {D : Type 0} (told : D → Option Told) (hash : Hash) (history : List Transaction) (batches : List (List Record)) (rs : List Record) (k now : Kept D) (is : k ≡ now)
@@ -150,8 +151,8 @@ seal_leaves {D} told hash history batches rs k now is mid staged b call =
 -- and the one that opens the gate
 pub open_leaves : {D : Type 0} (told : D → Option Told) (hash : Hash) (history : List Transaction) (batches : List (List Record)) (rs : List Record) (k now : Kept D) (is : k ≡ now)
     → IsInBatch told hash history batches rs now → now.batch.step ≡ Sealed → (b : Option Told)
-    → (IfSome (told k.disk) (IsSealed (end_of k.ends) (spans_of batches) (end_of k.ends 1) k.batch.pieces)
-    → Leaves (IsEither (end_of k.ends) (spans_of batches) (end_of k.ends 1) k.batch.pieces) (told k.disk) b)
+    → (IfSome (told k.disk) (IsSealed (end_of k.ends) (spans_of batches) k.ends.commits k.batch.pieces)
+    → Leaves (IsEither (end_of k.ends) (spans_of batches) k.ends.commits k.batch.pieces) (told k.disk) b)
     → Leaves (StandsBy Gated hash history now.durable (length rs)) (told now.disk) b
 open_leaves {D} told hash history batches rs k now is mid sealed b call =
     let m = subst (λ (x : Kept D). IsInBatch told hash history batches rs x) (sym is) mid in

@@ -17,6 +17,7 @@ use Rattle.im_format.specs.declared.spans.Span.{Span}
 use Rattle.im_journal.specs.Holding.{AreFirst, AreNext, ends_of}
 use Rattle.im_journal.specs.Phases.{IsClosed, ReachesEnds, HasOpenGate, IsSafe}
 use Rattle.im_journal.specs.Pieces.{end_of, ends_after, log_pieces, pieces_of, value_piece, value_pieces}
+use Rattle.im_journal.specs.declared.ends.Ends.{Ends}
 use Rattle.im_journal.proofs.Calls.{closed_long}
 use Rattle.im_journal.proofs.Limits.{first_number}
 use Rattle.im_journal.proofs.Parts.{back_reads, front_reads, none_reads, reads_at, reads_long}
@@ -55,8 +56,15 @@ piece_reads image number place octets h = decide_same (length octets) 0
     (λ none. none_reads image number place octets none)
     (λ some. All-head (Reads image) (record { file = number; at = place; octets = octets }) [] (subst (λ t. All (Reads image) (if t then [] else record { file = number; at = place; octets = octets } ∷ [])) (ne_eqb (length octets) 0 some) h))
 
+same_ends : (x y : Ends) → x.records ≡ y.records → x.commits ≡ y.commits → x.values ≡ y.values → x ≡ y
+same_ends x y records commits values =
+    let one : ℕ → Ends = λ n. record x { records = n } in
+    let two : ℕ → Ends = λ n. record x { records = y.records; commits = n } in
+    let three : List ℕ → Ends = λ l. record y { values = l } in
+    ap one records ∙ ap two commits ∙ ap three values
+
 module _ (hash : Hash) (history : List Transaction) (batches : List (List Record)) (durable : ℕ) (rs : List Record) (first : AreFirst hash history batches durable (ends_of batches)) (next : AreNext hash history batches durable rs) where
-  abbrev ends : List ℕ
+  abbrev ends : Ends
   ends = ends_of batches
 
   abbrev before : ℕ → ℕ
@@ -139,9 +147,9 @@ module _ (hash : Hash) (history : List Transaction) (batches : List (List Record
         ap (λ (k : ℕ). length (records_octets k rs)) one_more,
       ) in
       let gate : gate_of (length batches) + 25 ≡ gate_of (length (batches ++ rs ∷ [])) = omega (arith, length-append batches (rs ∷ [])) in
-      six (length (records_octets 1 (joined batches)) + length (records_octets (durable + 1) rs)) _ (gate_of (length batches) + 25) _
-      (before 0 + length (log_values 0 rs)) _ (before 1 + length (log_values 1 rs)) _ (before 2 + length (log_values 2 rs)) _ (before 3 + length (log_values 3 rs)) _
-      log gate (value 0) (value 1) (value 2) (value 3)
+      same_ends (ends_after (ends_of batches) (durable + 1) rs) (ends_of (batches ++ rs ∷ [])) log gate
+      (four (before 0 + length (log_values 0 rs)) _ (before 1 + length (log_values 1 rs)) _ (before 2 + length (log_values 2 rs)) _ (before 3 + length (log_values 3 rs)) _
+      (value 0) (value 1) (value 2) (value 3))
     where
       one_more : 1 + length (joined batches) ≡ length (joined batches) + 1
       one_more = omega arith
@@ -149,8 +157,8 @@ module _ (hash : Hash) (history : List Transaction) (batches : List (List Record
       value : (v : ℕ) → log_end v (refs_of (joined batches)) + length (log_values v rs) ≡ log_end v (refs_of (joined (batches ++ rs ∷ [])))
       value v = sym (records_end hash history next.logs id v (refs_of (joined batches)) rs next.put next.records_are) ∙ ap (log_end v) (sym (ap refs_of (joined_more batches rs) ∙ refs_more (joined batches) rs))
 
-      six : (a a2 b b2 c c2 d d2 e e2 f f2 : ℕ) → a ≡ a2 → b ≡ b2 → c ≡ c2 → d ≡ d2 → e ≡ e2 → f ≡ f2 → a ∷ b ∷ c ∷ d ∷ e ∷ f ∷ [] ≡ a2 ∷ b2 ∷ c2 ∷ d2 ∷ e2 ∷ f2 ∷ []
-      six a a2 b b2 c c2 d d2 e e2 f f2 p q r s t u = cc
+      four : (a a2 b b2 c c2 d d2 : ℕ) → a ≡ a2 → b ≡ b2 → c ≡ c2 → d ≡ d2 → a ∷ b ∷ c ∷ d ∷ [] ≡ a2 ∷ b2 ∷ c2 ∷ d2 ∷ []
+      four a a2 b b2 c c2 d d2 p q r s = cc
 
   -- no file is shorter than its end behind the batch
   long_after : (image : Files) → ReachesEnds (end_of (ends_of batches)) image → All (Reads image) (pieces_of (ends_of batches) (durable + 1) rs) → (k : ℕ) → end_of (ends_after (ends_of batches) (durable + 1) rs) k ≤ length (image k)
@@ -176,6 +184,6 @@ module _ (hash : Hash) (history : List Transaction) (batches : List (List Record
       (omega arith) (omega (arith, number)) (omega arith) in
       record {
         reads = subst (All R) (sym (spans_more 0 1 0 batches rs)) (All-append R (spans_of batches) last old (subst (All R) same (batch_reads image new opened.opened)));
-        long = record { long = subst (λ (e : List ℕ). (k : ℕ) → end_of e k ≤ length (image k)) ends_more (long_after image opened.long new) };
+        long = record { long = subst (λ (e : Ends). (k : ℕ) → end_of e k ≤ length (image k)) ends_more (long_after image opened.long new) };
         closed = subst (IsClosed image) (omega (arith, length-append batches (rs ∷ []))) (next_closed image new);
       }

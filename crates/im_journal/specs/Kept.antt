@@ -12,6 +12,7 @@ use Rattle.im_journal.specs.Phases.{IsStaging, IsSealed, IsGated}
 use Rattle.im_journal.specs.Pieces.{end_of, ends_after, pieces_of}
 use Rattle.im_journal.specs.declared.batches.Step.{Step}
 use Rattle.im_journal.specs.declared.batches.Step.TheVariants.{Idle, Staging, Staged, Sealed, Gated}
+use Rattle.im_journal.specs.declared.ends.Ends.{Ends}
 
 -- the batch in progress: how far it is, its writes and how many of them are done, where the files end behind
 -- it, and how many transactions it has
@@ -19,14 +20,14 @@ pub record Batch : Type 0 where
   pub step : Step
   pub pieces : List Span
   pub written : ℕ
-  pub ends : List ℕ
+  pub ends : Ends
   pub count : ℕ
 
 -- a journal: its disk, where the files end, how many transactions are durable, the batch in progress, and how
 -- many calls of the disk have failed
 pub record Kept (D : Type 0) : Type 0 where
   pub disk : D
-  pub ends : List ℕ
+  pub ends : Ends
   pub durable : ℕ
   pub batch : Batch
   pub failures : ℕ

@@ -2,6 +2,7 @@
 use Rattle.std.specs.Prelude.{ℕ, pos, List, [], ◌∷◌, ◌++◌, replicate}
 use Rattle.im_model.specs.declared.transactions.Transaction.{Transaction}
 use Rattle.im_format.specs.declared.records.Record.{Record}
+use Rattle.im_journal.specs.declared.ends.Ends.{Ends}
 
 -- a digest of 31 zero octets and this one
 abbrev pub sample_digest : ℕ → List ℕ
@@ -20,5 +21,5 @@ sample_record = record {
 }
 
 -- the ends of empty files
-abbrev pub no_ends : List ℕ
-no_ends = replicate 6 0
+abbrev pub no_ends : Ends
+no_ends = record { records = 0; commits = 0; values = replicate 4 0 }

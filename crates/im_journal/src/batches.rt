@@ -1,3 +1,4 @@
+use crate::ends::Ends;
 use im_format::spans::Span;
 
 /// How far a batch is.
@@ -28,7 +29,7 @@ pub(crate) struct Batch {
     /// How many of them are done.
     pub(crate) written: usize,
     /// Where each file ends behind it.
-    pub(crate) ends: [u64; 6],
+    pub(crate) ends: Ends,
     /// The number of its transactions.
     pub(crate) count: u64,
 }

@@ -9,12 +9,13 @@ ghost use Rattle.im_journal.specs.Faults.{IsCounted};
 ghost use Rattle.im_journal.specs.Holding.{AreFirst, AreNext, IsResting};
 ghost use Rattle.im_journal.specs.Kept.{CanStage, HasSealed, HasStaged, IsAtRest, IsInBatch, StandsBy};
 ghost use Rattle.im_journal.specs.Made.{Makes, calls_to_seal, calls_to_settle, calls_to_stage, writes_of};
-ghost use Rattle.im_journal.specs.Pieces.{end_of, pieces_of};
+ghost use Rattle.im_journal.specs.Pieces.{pieces_of};
 ghost use Rattle.im_journal.specs.declared.batches.Step.TheVariants.{Idle, Staging, Staged, Sealed, Gated};
 
 mod reading;
 
 use crate::batches::{Batch, Step};
+use crate::ends::Ends;
 use crate::errors::JournalError;
 use crate::pieces::plan_of;
 use crate::steps::{open_gate, put_pieces, seal_pieces, settle_gate};
@@ -40,7 +41,7 @@ use std::marker::Model;
 #[derive(Drop)]
 pub struct Journal<D: Disk> {
     disk: D,
-    ends: [u64; 6],
+    ends: Ends,
     durable: u64,
     batch: Batch,
     failures: u64,
@@ -68,7 +69,7 @@ impl<D: Disk> Journal<D> {
     /// A journal at rest over a disk that holds the first `durable` transactions of a history in some
     /// batches, with a closed gate behind them, and nothing else that a crash could undo. The files end
     /// there: the transaction log, the commit log at that gate, the value logs. It takes no memory.
-    pub fn resume(alloc: Global, disk: D, ends: [u64; 6], durable: u64) -> Self
+    pub fn resume(alloc: Global, disk: D, ends: Ends, durable: u64) -> Self
         requires first { (hash : Hash) × (history : List Transaction) × (batches : List (List Record))
             × AreFirst hash history batches durable ends × IfSome (D.told disk) (IsResting batches ends) }
         ensures rests { (hash : Hash) (history : List Transaction) (batches : List (List Record))
@@ -192,7 +193,7 @@ impl<D: Disk> Journal<D> {
             → Leaves (StandsBy Gated hash history self.old.durable (length rs)) (D.told self.old.disk) (D.told self.new.disk) }
         ensures kept { OnErr result ((self.new.ends ≡ self.old.ends) × (self.new.durable ≡ self.old.durable)) }
         ensures left { IsErrOf result JournalError.DiskFault → HasSealed self.new.batch.step }
-        ensures calls { Makes JournalError.DiskFault JournalError.Memory (calls_to_settle self.old.batch.step (end_of self.old.ends 1)) (calls_to_settle self.new.batch.step (end_of self.new.ends 1)) (D.told self.old.disk) (D.told self.new.disk) result }
+        ensures calls { Makes JournalError.DiskFault JournalError.Memory (calls_to_settle self.old.batch.step self.old.ends.commits) (calls_to_settle self.new.batch.step self.new.ends.commits) (D.told self.old.disk) (D.told self.new.disk) result }
         ensures counted { IsCounted (D.faults self.old.disk) (D.faults self.new.disk) self.old.failures self.new.failures result }
         ensures stopped { 0 < self.old.failures → (result ≡ Err (JournalError.Stopped self.old.failures)) × (self.new ≡ self.old) }
         ensures going { (faults : ℕ) → IsErrOf result (JournalError.Stopped faults) → 0 < self.old.failures }
@@ -345,11 +346,11 @@ impl<D: Disk> Journal<D> {
         ensures kept { (self.new.ends ≡ self.old.ends) × (self.new.durable ≡ self.old.durable)
             × (self.new.batch.ends ≡ self.old.batch.ends) × (self.new.batch.count ≡ self.old.batch.count) }
         ensures err { OnErr result (self.new.batch ≡ self.old.batch) }
-        ensures calls { Makes JournalError.DiskFault JournalError.Memory (Wrote 1 (end_of self.old.ends 1) (1 ∷ []) ∷ []) (Wrote 1 (end_of self.old.ends 1) (1 ∷ []) ∷ []) (D.told self.old.disk) (D.told self.new.disk) result }
+        ensures calls { Makes JournalError.DiskFault JournalError.Memory (Wrote 1 self.old.ends.commits (1 ∷ []) ∷ []) (Wrote 1 self.old.ends.commits (1 ∷ []) ∷ []) (D.told self.old.disk) (D.told self.new.disk) result }
         ensures counted { IsCounted (D.faults self.old.disk) (D.faults self.new.disk) self.old.failures self.new.failures result }
         ensures going { (faults : ℕ) → IsErrOf result (JournalError.Stopped faults) → ⊥ }
     {
-        match open_gate(&mut self.disk, self.ends[1]) {
+        match open_gate(&mut self.disk, self.ends.commits) {
             Ok(()) => {
                 self.batch.step = Step::Gated;
                 Ok(())

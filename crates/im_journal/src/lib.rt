@@ -2,6 +2,7 @@
 #![tactic(auto)]
 
 pub mod batches;
+pub mod ends;
 pub mod errors;
 pub mod journal;
 pub mod laws;

@@ -5,6 +5,7 @@ ghost use Rattle.im_format.specs.Records.{records_octets};
 ghost use Rattle.im_record.specs.Writing.{IsWhole};
 ghost use Rattle.im_journal.specs.Pieces.{end_of, ends_after, log_pieces, pieces_of, value_piece};
 
+use crate::ends::Ends;
 use im_clog::batches::batch_octets;
 use im_format::files::{BATCH_OCTETS, COMMIT_LOG, FIRST_VALUE_LOG, TRANSACTION_LOG};
 use im_format::records::Record;
@@ -14,18 +15,17 @@ use im_record::writing::records_octets;
 use im_vlog::octets::log_values;
 use std::alloc::{AllocError, Global};
 
-/// The writes of a batch, and where each file ends behind it: the transaction log, the commit log at
-/// its last gate, the value logs.
+/// The writes of a batch, and where the files end behind it.
 #[derive(Drop)]
 pub(crate) struct Plan {
     pub(crate) pieces: Vec<Span>,
-    pub(crate) ends: [u64; 6],
+    pub(crate) ends: Ends,
 }
 
 /// The writes of a batch of these records, of which the first has this ID, behind these ends.
 pub(crate) fn plan_of(
     alloc: Global,
-    ends: &[u64; 6],
+    ends: &Ends,
     id: u64,
     records: &[Record],
 ) -> Result<Plan, AllocError>
@@ -36,15 +36,18 @@ pub(crate) fn plan_of(
     ensures ends { IfOk result (λ plan. plan.ends ≡ ends_after ends.now id records.now) }
 {
     let mut pieces = Vec::new(alloc);
-    let first = push_value_piece(alloc, &mut pieces, 0, ends[2], records)?;
-    let second = push_value_piece(alloc, &mut pieces, 1, ends[3], records)?;
-    let third = push_value_piece(alloc, &mut pieces, 2, ends[4], records)?;
-    let fourth = push_value_piece(alloc, &mut pieces, 3, ends[5], records)?;
+    let first = push_value_piece(alloc, &mut pieces, 0, ends.values[0], records)?;
+    let second = push_value_piece(alloc, &mut pieces, 1, ends.values[1], records)?;
+    let third = push_value_piece(alloc, &mut pieces, 2, ends.values[2], records)?;
+    let fourth = push_value_piece(alloc, &mut pieces, 3, ends.values[3], records)?;
     let end = push_log_pieces(alloc, &mut pieces, ends, id, records)?;
-    let gate = ends[1] + BATCH_OCTETS as u64;
     Ok(Plan {
         pieces,
-        ends: [end, gate, first, second, third, fourth],
+        ends: Ends {
+            records: end,
+            commits: ends.commits + BATCH_OCTETS as u64,
+            values: [first, second, third, fourth],
+        },
     })
 }
 
@@ -78,33 +81,33 @@ fn push_value_piece(
 fn push_log_pieces(
     alloc: Global,
     pieces: &mut Vec<Span>,
-    ends: &[u64; 6],
+    ends: &Ends,
     id: u64,
     records: &[Record],
 ) -> Result<u64, AllocError>
     requires whole { All IsWhole records.now }
     requires few { id + length records.now < 2 ^ 63 }
-    requires log { end_of ends.now 0 < 2 ^ 61 }
-    requires gate { end_of ends.now 1 < 2 ^ 61 }
+    requires log { ends.now.records < 2 ^ 61 }
+    requires gate { ends.now.commits < 2 ^ 61 }
     ensures pieces { OnOk result (pieces.new.items ≡ pieces.old.items ++ log_pieces ends.now id records.now) }
-    ensures end { IfOk result (λ end. end ≡ end_of ends.now 0 + length (records_octets id records.now)) }
+    ensures end { IfOk result (λ end. end ≡ ends.now.records + length (records_octets id records.now)) }
 {
     let octets = records_octets(alloc, id, records)?;
-    let end = ends[0] + octets.len() as u64;
+    let end = ends.records + octets.len() as u64;
     let fields = batch_octets(id, records.len() as u64, end);
     let fields = Octets::from_slice(alloc, &fields)?;
     let octets = Octets::from_vec(octets);
     pieces
         .push(Span {
             file: TRANSACTION_LOG,
-            at: ends[0],
+            at: ends.records,
             octets,
         })
         .map_err(AllocError::from)?;
     pieces
         .push(Span {
             file: COMMIT_LOG,
-            at: ends[1] + 1,
+            at: ends.commits + 1,
             octets: fields,
         })
         .map_err(AllocError::from)?;

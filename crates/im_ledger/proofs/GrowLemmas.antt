@@ -15,6 +15,7 @@ use Rattle.im_format.specs.declared.records.Record.{Record}
 use Rattle.im_journal.specs.Holding.{AreFirst, AreNext, IsResting}
 use Rattle.im_journal.specs.Kept.{IsAtRest, Kept, StandsBy}
 use Rattle.im_journal.specs.declared.batches.Step.TheVariants.{Gated}
+use Rattle.im_journal.specs.declared.ends.Ends.{Ends}
 use Rattle.im_journal.proofs.Limits.{first_number}
 use Rattle.im_journal.proofs.Mids.{rest_stands, safe_stands}
 use Rattle.im_journal.proofs.Prefixes.{alh_front}
@@ -42,7 +43,7 @@ records-longer hash history more id (r ∷ rs) one le are = (
 )
 
 -- nor what the files hold
-pub first-longer : (hash : Hash) (history more : List Transaction) (batches : List (List Record)) (durable : ℕ) (ends : List ℕ) → IsHistory (history ++ more)
+pub first-longer : (hash : Hash) (history more : List Transaction) (batches : List (List Record)) (durable : ℕ) (ends : Ends) → IsHistory (history ++ more)
     → AreFirst hash history batches durable ends → AreFirst hash (history ++ more) batches durable ends
 first-longer hash history more batches durable ends is first = record {
   digests = first.digests;

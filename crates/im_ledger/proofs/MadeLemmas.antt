@@ -11,9 +11,10 @@ use Rattle.im_disk.specs.declared.calls.Call.TheVariants.{Wrote, Synced}
 use Rattle.im_format.specs.declared.records.Record.{Record}
 use Rattle.im_journal.specs.Kept.{Kept}
 use Rattle.im_journal.specs.Made.{Makes, MadeUpTo, calls_to_seal, calls_to_settle, calls_to_stage, spans_to_stage, writes_of}
-use Rattle.im_journal.specs.Pieces.{end_of, pieces_of}
+use Rattle.im_journal.specs.Pieces.{pieces_of}
 use Rattle.im_journal.specs.declared.batches.Step.{Step}
 use Rattle.im_journal.specs.declared.batches.Step.TheVariants.{Idle, Staged, Sealed}
+use Rattle.im_journal.specs.declared.ends.Ends.{Ends}
 use Rattle.im_journal.specs.declared.errors.JournalError.{JournalError}
 use Rattle.im_journal.specs.declared.errors.JournalError.TheVariants as Journal
 use Rattle.im_journal.proofs.Making.{makes_before, makes_then}
@@ -53,7 +54,7 @@ batch_writes k records = writes_of (pieces_of k.ends (k.durable + 1) records)
 
 -- and the calls behind its first sync
 abbrev pub calls_at_last : {D : Type 0} → Kept D → List Call
-calls_at_last k = Wrote 1 (end_of k.ends 1) (1 ∷ []) ∷ Synced ∷ []
+calls_at_last k = Wrote 1 k.ends.commits (1 ∷ []) ∷ Synced ∷ []
 
 module _ {D : Type 0} (told : D → Option Told) (old : Kept D) (records : List Record) where
   -- staging from rest makes the writes
@@ -99,18 +100,18 @@ module _ {D : Type 0} (told : D → Option Told) (old : Kept D) (records : List 
   settling : {T : Type 0} (staged sealed : Kept D) (left : List Call) (n : Option Told) (r : Result T JournalError)
       → told staged.disk ≡ option_map (after_all (batch_writes old records)) (told old.disk) → told sealed.disk ≡ option_map (after_all (Synced ∷ [])) (told staged.disk)
       → sealed.batch.step ≡ Sealed → sealed.ends ≡ old.ends
-      → Makes Journal.DiskFault Journal.Memory (calls_to_settle sealed.batch.step (end_of sealed.ends 1)) left (told sealed.disk) n r
+      → Makes Journal.DiskFault Journal.Memory (calls_to_settle sealed.batch.step sealed.ends.commits) left (told sealed.disk) n r
       → Makes Journal.DiskFault Journal.Memory (calls_of old records) left (told old.disk) n r
   settling staged sealed left n r all synced step ends m =
-      let one = subst (λ (s : Step). Makes Journal.DiskFault Journal.Memory (calls_to_settle s (end_of sealed.ends 1)) left (told sealed.disk) n r) step m in
-      let two = subst (λ (l : List ℕ). Makes Journal.DiskFault Journal.Memory (calls_to_settle Sealed (end_of l 1)) left (told sealed.disk) n r) ends one in
+      let one = subst (λ (s : Step). Makes Journal.DiskFault Journal.Memory (calls_to_settle s sealed.ends.commits) left (told sealed.disk) n r) step m in
+      let two = subst (λ (e : Ends). Makes Journal.DiskFault Journal.Memory (calls_to_settle Sealed e.commits) left (told sealed.disk) n r) ends one in
       makes_then (batch_writes old records) (calls_behind old) left (told old.disk) (told staged.disk) n r all
       (makes_then (Synced ∷ []) (calls_at_last old) left (told staged.disk) (told sealed.disk) n r synced two)
 
   pub stops-settling : (T U : Type 0) (staged sealed new : Kept D) (left : List Call) (r : Result U CommitError) (e : JournalError)
       → told staged.disk ≡ option_map (after_all (batch_writes old records)) (told old.disk) → told sealed.disk ≡ option_map (after_all (Synced ∷ [])) (told staged.disk)
       → sealed.batch.step ≡ Sealed → sealed.ends ≡ old.ends → ((faults : ℕ) → IsErrOf {T = T} (Err e) (Journal.Stopped faults) → ⊥) → IsErrAnd r (λ x. x ≡ of_journal e)
-      → Makes {T = T} Journal.DiskFault Journal.Memory (calls_to_settle sealed.batch.step (end_of sealed.ends 1)) left (told sealed.disk) (told new.disk) (Err e) → MakesDurable told records old new r
+      → Makes {T = T} Journal.DiskFault Journal.Memory (calls_to_settle sealed.batch.step sealed.ends.commits) left (told sealed.disk) (told new.disk) (Err e) → MakesDurable told records old new r
   stops-settling T U staged sealed new left r e all synced step ends going is m = (
     left,
     as-error (calls_of old records) left (told old.disk) (told new.disk) r (of_journal e) is
@@ -120,7 +121,7 @@ module _ {D : Type 0} (told : D → Option Told) (old : Kept D) (records : List 
   pub settles : (T U : Type 0) (x : T) (y : U) (staged sealed new : Kept D) (left : List Call)
       → told staged.disk ≡ option_map (after_all (batch_writes old records)) (told old.disk) → told sealed.disk ≡ option_map (after_all (Synced ∷ [])) (told staged.disk)
       → sealed.batch.step ≡ Sealed → sealed.ends ≡ old.ends
-      → Makes {T = T} Journal.DiskFault Journal.Memory (calls_to_settle sealed.batch.step (end_of sealed.ends 1)) left (told sealed.disk) (told new.disk) (Ok x) → MakesDurable told records old new (Ok y)
+      → Makes {T = T} Journal.DiskFault Journal.Memory (calls_to_settle sealed.batch.step sealed.ends.commits) left (told sealed.disk) (told new.disk) (Ok x) → MakesDurable told records old new (Ok y)
   settles T U x y staged sealed new left all synced step ends m =
       (left, ok-makes {U = U} (calls_of old records) left (told old.disk) (told new.disk) x y (settling {T = T} staged sealed left (told new.disk) (Ok x) all synced step ends m))
 

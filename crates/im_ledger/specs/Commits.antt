@@ -8,14 +8,14 @@ use Rattle.im_model.specs.declared.transactions.Transaction.{Transaction}
 use Rattle.im_format.specs.declared.records.Record.{Record}
 use Rattle.im_journal.specs.Kept.{Kept}
 use Rattle.im_journal.specs.Made.{Makes, writes_of}
-use Rattle.im_journal.specs.Pieces.{end_of, pieces_of}
+use Rattle.im_journal.specs.Pieces.{pieces_of}
 use Rattle.im_ledger.specs.Histories.{IsNextRecord, KeptHistory}
 use Rattle.im_ledger.specs.declared.errors.CommitError.{CommitError}
 use Rattle.im_ledger.specs.declared.errors.CommitError.TheVariants.{DiskFault, Memory}
 
 -- behind the writes of a batch: a sync, the octet 01 at the gate, and a sync
 abbrev pub calls_behind : {D : Type 0} → Kept D → List Call
-calls_behind k = Synced ∷ Wrote 1 (end_of k.ends 1) (1 ∷ []) ∷ Synced ∷ []
+calls_behind k = Synced ∷ Wrote 1 k.ends.commits (1 ∷ []) ∷ Synced ∷ []
 
 -- the calls that make a batch of these records durable behind a journal at rest: a write for each of its pieces, in
 -- order, and then those

@@ -1,4 +1,4 @@
-ghost use Rattle.std.specs.Prelude.{◌≡◌, ◌≤◌, length, slice_index_or, IfErr, IfOk};
+ghost use Rattle.std.specs.Prelude.{◌≡◌, ◌≤◌, length, IfErr, IfOk};
 ghost use Rattle.im_opening.specs.Opens.{FailsToOpen, Opens};
 ghost use Rattle.im_ledger.specs.Histories.{IsKept};
 
@@ -27,7 +27,7 @@ pub fn open_ledger<D: Disk, H: Hash32>(
     logs: u8,
 ) -> Result<KeptLedger<D>, OpenFailed<D>>
     requires logs { (1 ≤ logs) × (logs ≤ 4) }
-    ensures opens { IfOk result (λ kept. Opens D.told D.faults (H.digest hash.now) disk kept.journal.disk (slice_index_or kept.journal.ends 1 0) kept.held.transactions) }
+    ensures opens { IfOk result (λ kept. Opens D.told D.faults (H.digest hash.now) disk kept.journal.disk kept.journal.ends.commits kept.held.transactions) }
     ensures kept { IfOk result (IsKept D.told (H.digest hash.now)) }
     ensures filled { IfOk result (λ kept. length kept.held.tree ≡ length kept.held.transactions) }
     ensures logs { IfOk result (λ kept. kept.logs ≡ logs) }

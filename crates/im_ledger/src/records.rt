@@ -10,6 +10,7 @@ ghost use Rattle.im_model.specs.declared.transactions.Transaction.{Transaction};
 use im_digest::{D32, Hash32};
 use im_entry::digests::digest_over;
 use im_format::references::{Refs, ValueRef};
+use im_journal::ends::Ends;
 use im_model::entries::Entry;
 use im_mtree::roots::root;
 use im_vlog::placing::append_values;
@@ -21,7 +22,7 @@ pub(crate) fn references_behind<H: Hash32>(
     alloc: Global,
     hash: &H,
     logs: u8,
-    ends: &[u64; 6],
+    ends: &Ends,
     durable: u64,
     entries: &[Entry],
 ) -> Result<Refs, AllocError>
@@ -33,7 +34,7 @@ pub(crate) fn references_behind<H: Hash32>(
     ensures put { (history : List Transaction) (batches : List (List Record)) → AreFirst (H.digest hash.now) history batches durable ends.now
         → IfOk result (λ refs. AreAppended logs (durable + 1) 0 (refs_of (joined batches)) refs) }
 {
-    let mut log_ends = [ends[2], ends[3], ends[4], ends[5]];
+    let mut log_ends = ends.values;
     append_values(alloc, hash, logs, durable + 1, &mut log_ends, entries)
 }
 

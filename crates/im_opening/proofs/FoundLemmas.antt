@@ -11,6 +11,7 @@ use Rattle.im_format.specs.declared.records.Record.{Record}
 use Rattle.im_journal.specs.Holding.{AreFirst, IsResting}
 use Rattle.im_journal.specs.Phases.{IsSafe}
 use Rattle.im_journal.specs.Pieces.{end_of}
+use Rattle.im_journal.specs.declared.ends.Ends.{Ends}
 use Rattle.im_model.specs.History.{IsHistory}
 use Rattle.im_opening.specs.Cut.{IsHeld, IsHeldThroughout}
 use Rattle.im_opening.specs.Opening.{ends_behind}
@@ -20,7 +21,7 @@ use Rattle.im_opening.specs.Reach.{txs_of}
 use Rattle.im_opening.specs.declared.reading.Opened.{Opened}
 use Rattle.im_format.proofs.HeldRecords.{Has32}
 
-held-safe : (batches : List (List Record)) (ends : List ℕ) (image : Files) → IsHeld batches ends image
+held-safe : (batches : List (List Record)) (ends : Ends) (image : Files) → IsHeld batches ends image
     → IsSafe (end_of ends) (spans_of batches) (gate_of (length batches)) image
 held-safe batches ends image h = record {
   reads = h.reads;
@@ -28,11 +29,11 @@ held-safe batches ends image h = record {
   closed = record { octet = h.shut.octet; shut = h.shut.closed; reads = h.shut.reads };
 }
 
-kept-rests : (batches : List (List Record)) (ends : List ℕ) (t : Told) → IsHeldThroughout batches ends t → IsResting batches ends t
+kept-rests : (batches : List (List Record)) (ends : Ends) (t : Told) → IsHeldThroughout batches ends t → IsResting batches ends t
 kept-rests batches ends t k = record { safe = λ image left. held-safe batches ends image (k.each image left); here = held-safe batches ends (seen t) k.here }
 
 -- records that were read, in some batches
-first-of : (hash : Hash) (records : List Record) (batches : List (List Record)) (n : ℕ) (ends : List ℕ) → Has32 hash → IsHistory (txs_of records)
+first-of : (hash : Hash) (records : List Record) (batches : List (List Record)) (n : ℕ) (ends : Ends) → Has32 hash → IsHistory (txs_of records)
     → AreRecords hash (txs_of records) 1 records → joined batches ≡ records → length batches ≡ n → All (λ batch. 1 ≤ length batch) batches
     → ends ≡ ends_behind records n → AreFirst hash (txs_of records) batches (length records) ends
 first-of hash records batches n ends long history are is many filled placed =
@@ -55,7 +56,7 @@ pub record Rests (hash : Hash) (told : Option Told) (opened : Opened) : Type 0 w
   pub first : AreFirst hash (txs_of opened.found.records.items) batches (length opened.found.records.items) opened.ends
   pub resting : IfSome told (IsResting batches opened.ends)
 
-if-kept : (batches : List (List Record)) (ends : List ℕ) (o : Option Told) → IfSome o (IsHeldThroughout batches ends) → IfSome o (IsResting batches ends)
+if-kept : (batches : List (List Record)) (ends : Ends) (o : Option Told) → IfSome o (IsHeldThroughout batches ends) → IfSome o (IsResting batches ends)
 if-kept batches ends None h = tt
 if-kept batches ends (Some t) h = kept-rests batches ends t h
 

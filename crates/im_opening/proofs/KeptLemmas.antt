@@ -1,5 +1,5 @@
 -- What stays of the batches that were read, where the gate behind them is closed.
-use Rattle.std.proofs.Common.{◌≡◌, ℕ, ◌≤◌, List, [], ◌∷◌, length, get_or, refl, ap, sym, ◌∙◌, subst, arith, Option, Some, None, Result, Ok, Err}
+use Rattle.std.proofs.Common.{◌≡◌, ℕ, ◌≤◌, List, [], ◌∷◌, length, refl, ap, sym, ◌∙◌, subst, arith, Option, Some, None, Result, Ok, Err}
 use Rattle.std.specs.Option.{option_map}
 use Rattle.std.specs.Prelude.{IfSome, OnOk}
 use Rattle.im_alog.proofs.Outcomes.{keeps_long}
@@ -13,6 +13,8 @@ use Rattle.im_disk.specs.declared.disk.DiskError.{DiskError}
 use Rattle.im_format.specs.Batches.{gate_of, spans_of}
 use Rattle.im_format.specs.Spans.{octet_span}
 use Rattle.im_format.specs.declared.records.Record.{Record}
+use Rattle.im_journal.specs.Pieces.{end_of}
+use Rattle.im_journal.specs.declared.ends.Ends.{Ends}
 use Rattle.im_opening.specs.Cut.{IsHeld, IsHeldThroughout, IsShut, shut_at}
 use Rattle.im_opening.specs.Opening.{IsThere}
 use Rattle.im_opening.specs.Parts.{batches_in}
@@ -20,10 +22,10 @@ use Rattle.im_opening.specs.declared.reading.Opened.{Opened}
 use Rattle.im_opening.proofs.GateLemmas.{shut-read, spans-miss}
 
 -- an image of the same octets
-held-same : (batches : List (List Record)) (ends : List ℕ) (old new : Files) → ((k : ℕ) → new k ≡ old k) → IsHeld batches ends old → IsHeld batches ends new
+held-same : (batches : List (List Record)) (ends : Ends) (old new : Files) → ((k : ℕ) → new k ≡ old k) → IsHeld batches ends old → IsHeld batches ends new
 held-same batches ends old new same h = record {
   reads = same_all old new same (spans_of batches) h.reads;
-  long = λ k. subst (λ (l : List ℕ). get_or ends k 0 ≤ length l) (sym (same k)) (h.long k);
+  long = λ k. subst (λ (l : List ℕ). end_of ends k ≤ length l) (sym (same k)) (h.long k);
   shut = record {
     octet = h.shut.octet;
     closed = h.shut.closed;
@@ -56,7 +58,7 @@ kept-shut opened t gate there many at le =
     let shut : S gate = record { octet = 0; closed = λ e. omega (arith, e); reads = written_reads old 1 gate (0 ∷ []) le } in
     let here : IsHeld batches opened.ends new = record {
       reads = keeps_all 1 gate 1 old new (spans_of batches) torn (spans-miss gate 0 1 0 batches (omega (arith, place))) there.batches.reads;
-      long = keeps_long (λ k. get_or opened.ends k 0) 1 gate 1 old new torn there.long;
+      long = keeps_long (end_of opened.ends) 1 gate 1 old new torn there.long;
       shut = subst S place shut;
     } in
     record { each = λ image left. held-same batches opened.ends new image left here; here = here }

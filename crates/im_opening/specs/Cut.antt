@@ -1,5 +1,5 @@
 -- What opening does to a disk: its sync, and the repair of the gate behind the batches that count.
-use Rattle.std.specs.Prelude.{◌≡◌, ◌≢◌, ◌⊎◌, ◌≤◌, ◌+◌, ℕ, List, [], ◌∷◌, length, slice_index_or, All, Option, Some}
+use Rattle.std.specs.Prelude.{◌≡◌, ◌≢◌, ◌⊎◌, ◌≤◌, ◌+◌, ℕ, List, [], ◌∷◌, length, All, Option, Some}
 use Rattle.im_clog.specs.Marks.{IsUncounted}
 use Rattle.im_clog.specs.declared.marks.Uncounted.{Uncounted}
 use Rattle.im_clog.specs.declared.marks.Uncounted.TheVariants.{Missing, Closed, Short}
@@ -13,6 +13,8 @@ use Rattle.im_format.specs.Batches.{gate_of, spans_of}
 use Rattle.im_format.specs.Spans.{Reads, octet_span}
 use Rattle.im_format.specs.Standing.{Stands}
 use Rattle.im_format.specs.declared.records.Record.{Record}
+use Rattle.im_journal.specs.Pieces.{end_of}
+use Rattle.im_journal.specs.declared.ends.Ends.{Ends}
 use Rattle.im_model.specs.declared.transactions.Transaction.{Transaction}
 use Rattle.im_opening.specs.declared.errors.OpenError.{OpenError}
 use Rattle.im_opening.specs.declared.errors.OpenError.TheVariants as opened
@@ -65,13 +67,13 @@ opened_by opened t = repaired opened.behind (gate_of opened.batches) (after Sync
 
 -- the image has all that stands of these batches, and a closed gate behind them, and no file of it is shorter than
 -- its end
-pub record IsHeld (batches : List (List Record)) (ends : List ℕ) (image : Files) : Type 0 where
+pub record IsHeld (batches : List (List Record)) (ends : Ends) (image : Files) : Type 0 where
   pub reads : All (Reads image) (spans_of batches)
-  pub long : (file : ℕ) → slice_index_or ends file 0 ≤ length (image file)
+  pub long : (file : ℕ) → end_of ends file ≤ length (image file)
   pub shut : IsShut image (gate_of (length batches))
 
 -- and so has each image that a crash may leave, and what reads give
-pub record IsHeldThroughout (batches : List (List Record)) (ends : List ℕ) (t : Told) : Type 0 where
+pub record IsHeldThroughout (batches : List (List Record)) (ends : Ends) (t : Told) : Type 0 where
   pub each : (image : Files) → Images t image → IsHeld batches ends image
   pub here : IsHeld batches ends (seen t)
 

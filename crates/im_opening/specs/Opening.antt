@@ -9,6 +9,8 @@ use Rattle.im_format.specs.Reading.{history_in}
 use Rattle.im_format.specs.Records.{AreRecords, records_octets}
 use Rattle.im_format.specs.Standing.{HasBatches, Stands}
 use Rattle.im_format.specs.declared.records.Record.{Record}
+use Rattle.im_journal.specs.Pieces.{end_of}
+use Rattle.im_journal.specs.declared.ends.Ends.{Ends}
 use Rattle.im_levels.specs.Leveled.{IsLeveled}
 use Rattle.im_model.specs.History.{IsHistory, alhs_of, bl_root_of}
 use Rattle.im_proof.specs.Built.{headers_of}
@@ -32,20 +34,21 @@ pub record AreGrouped (records : List Record) (count : ℕ) : Type 0 where
 
 -- where the files end behind these records in so many batches: the transaction log, the commit log at the gate
 -- behind them, the value logs
-abbrev pub ends_behind : List Record → ℕ → List ℕ
-ends_behind records batches =
-    length (records_octets 1 records) ∷ gate_of batches
-    ∷ log_end 0 (refs_of records) ∷ log_end 1 (refs_of records) ∷ log_end 2 (refs_of records) ∷ log_end 3 (refs_of records)
-    ∷ []
+abbrev pub ends_behind : List Record → ℕ → Ends
+ends_behind records batches = record {
+  records = length (records_octets 1 records);
+  commits = gate_of batches;
+  values = log_end 0 (refs_of records) ∷ log_end 1 (refs_of records) ∷ log_end 2 (refs_of records) ∷ log_end 3 (refs_of records) ∷ [];
+}
 
 -- where the commit log and the value logs end: at the gate behind the batches, and behind the references
 pub record HasEnds (opened : Opened) : Type 0 where
   pub few : opened.batches ≤ 1048576
-  pub gate : slice_index_or opened.ends 1 0 ≡ gate_of opened.batches
-  pub first : slice_index_or opened.ends 2 0 ≡ log_end 0 (refs_of opened.found.records.items)
-  pub second : slice_index_or opened.ends 3 0 ≡ log_end 1 (refs_of opened.found.records.items)
-  pub third : slice_index_or opened.ends 4 0 ≡ log_end 2 (refs_of opened.found.records.items)
-  pub fourth : slice_index_or opened.ends 5 0 ≡ log_end 3 (refs_of opened.found.records.items)
+  pub gate : opened.ends.commits ≡ gate_of opened.batches
+  pub first : slice_index_or opened.ends.values 0 0 ≡ log_end 0 (refs_of opened.found.records.items)
+  pub second : slice_index_or opened.ends.values 1 0 ≡ log_end 1 (refs_of opened.found.records.items)
+  pub third : slice_index_or opened.ends.values 2 0 ≡ log_end 2 (refs_of opened.found.records.items)
+  pub fourth : slice_index_or opened.ends.values 3 0 ≡ log_end 3 (refs_of opened.found.records.items)
 
 -- what was found is one history's: its records, the header and the Alh of each transaction, and the tree that the last
 -- of them was placed over, whose leaves are the first Alh: its size, its whole subtrees and its root
@@ -61,7 +64,7 @@ pub record IsOneHistory (hash : Hash) (found : FoundHistory) : Type 0 where
 
 -- what was read is what the image has, which stands for its history
 pub record IsRead (hash : Hash) (image : Files) (opened : Opened) : Type 0 where
-  pub batches : AreBatches image opened.found.records.items opened.batches (slice_index_or opened.ends 0 0)
+  pub batches : AreBatches image opened.found.records.items opened.batches opened.ends.records
   pub within : gate_of opened.batches ≤ length (image 1)
   pub behind_is : IsUncounted (image 1) (gate_of opened.batches) opened.behind
   pub transactions_are : txs_of opened.found.records.items ≡ history_in image
@@ -70,7 +73,7 @@ pub record IsRead (hash : Hash) (image : Files) (opened : Opened) : Type 0 where
 -- the image has all that stands of the batches that count, and no file of it is shorter than its end
 pub record IsThere (image : Files) (opened : Opened) : Type 0 where
   pub batches : HasBatches image (batches_in image)
-  pub long : (file : ℕ) → slice_index_or opened.ends file 0 ≤ length (image file)
+  pub long : (file : ℕ) → end_of opened.ends file ≤ length (image file)
 
 -- what reading the files of a disk gives, which tells this of itself or nothing: one history, whose records can be cut
 -- into the batches that count, with the ends of the files behind them; and it is what the disk's image has

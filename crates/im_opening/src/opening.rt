@@ -1,4 +1,4 @@
-ghost use Rattle.std.specs.Prelude.{◌≡◌, List, Some, IfOk, IfErr, slice_index_or};
+ghost use Rattle.std.specs.Prelude.{◌≡◌, List, Some, IfOk, IfErr};
 ghost use Rattle.im_disk.specs.Disk.{Told, seen};
 ghost use Rattle.im_disk.specs.Grown.{Grows};
 ghost use Rattle.im_format.specs.Damages.{image_checks};
@@ -76,7 +76,7 @@ pub fn open<D: Disk, H: Hash32>(
     hash: &H,
     mut disk: D,
 ) -> Result<Recovered<D>, OpenFailed<D>>
-    ensures opens { IfOk result (λ r. Opens D.told D.faults (H.digest hash.now) disk r.journal.disk (slice_index_or r.journal.ends 1 0) (txs_of r.found.records.items)) }
+    ensures opens { IfOk result (λ r. Opens D.told D.faults (H.digest hash.now) disk r.journal.disk r.journal.ends.commits (txs_of r.found.records.items)) }
     ensures rests { IfOk result (λ r. IsFound D.told (H.digest hash.now) r.journal r.found.records.items) }
     ensures found { IfOk result (λ r. IsOneHistory (H.digest hash.now) r.found) }
     ensures fresh { IfOk result (λ r. (r.journal.failures ≡ 0) × (r.journal.batch.step ≡ Idle)) }

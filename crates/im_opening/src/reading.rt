@@ -21,6 +21,7 @@ use im_clog::marks::{Mark, Uncounted, batch_at};
 use im_digest::Hash32;
 use im_disk::disk::{Disk, DiskError};
 use im_format::files::{BATCH_OCTETS, COMMIT_LOG, FIRST_VALUE_LOG, TRANSACTION_LOG};
+use im_journal::ends::Ends;
 use std::alloc::Global;
 
 /// The files as they were read: the history of the batches that count, and where these end.
@@ -30,9 +31,8 @@ pub struct Opened {
     pub found: FoundHistory,
     /// The number of batches that count.
     pub batches: u64,
-    /// Where the files end: the transaction log, the commit log at the gate behind the batches that count, and
-    /// the value logs 0 to 3.
-    pub ends: [u64; 6],
+    /// Where the files end: the commit log at the gate behind the batches that count.
+    pub ends: Ends,
     /// Why no batch counts at that gate.
     pub behind: Uncounted,
 }
@@ -140,14 +140,16 @@ fn read_logs<D: Disk, H: Hash32>(
     } = read;
     let root = progress.bl_root;
     let records = progress.records;
-    let ends = [
-        progress.place,
-        gate as u64,
-        end_of(0, records.as_slice()),
-        end_of(1, records.as_slice()),
-        end_of(2, records.as_slice()),
-        end_of(3, records.as_slice()),
-    ];
+    let ends = Ends {
+        records: progress.place,
+        commits: gate as u64,
+        values: [
+            end_of(0, records.as_slice()),
+            end_of(1, records.as_slice()),
+            end_of(2, records.as_slice()),
+            end_of(3, records.as_slice()),
+        ],
+    };
     let found = FoundHistory {
         records,
         headers: progress.headers,

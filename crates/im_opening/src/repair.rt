@@ -56,6 +56,6 @@ pub(crate) fn repair<D: Disk>(disk: &mut D, opened: &Opened) -> Result<(), DiskE
 {
     match opened.behind {
         Uncounted::Closed { .. } => Ok(()),
-        Uncounted::Missing | Uncounted::Short { .. } => shut_gate(disk, opened.ends[1]),
+        Uncounted::Missing | Uncounted::Short { .. } => shut_gate(disk, opened.ends.commits),
     }
 }

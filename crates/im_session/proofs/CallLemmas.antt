@@ -18,7 +18,8 @@ use Rattle.im_format.specs.declared.references.ValueRef.{ValueRef}
 use Rattle.im_journal.specs.Holding.{AreFirst, ends_of}
 use Rattle.im_journal.specs.Kept.{Kept}
 use Rattle.im_journal.specs.Made.{Makes, writes_of}
-use Rattle.im_journal.specs.Pieces.{end_of, pieces_of}
+use Rattle.im_journal.specs.Pieces.{pieces_of}
+use Rattle.im_journal.specs.declared.ends.Ends.{Ends}
 use Rattle.im_journal.proofs.Limits.{first_number}
 use Rattle.im_journal.proofs.Prefixes.{joined_more}
 use Rattle.im_ledger.specs.Commits.{CommitMakes, calls_of}
@@ -81,7 +82,7 @@ calls-same : {D : Type 0} (hash : Hash) (history : List Transaction) (batches : 
     → calls_of k rs ≡ calls_of_batch batches rs
 calls-same hash history batches k rs first =
     let number : length (joined batches) ≡ k.durable = first_number hash history batches k.durable k.ends first in
-    ap (λ (e : List ℕ). writes_of (pieces_of e (k.durable + 1) rs) ++ Synced ∷ Wrote 1 (end_of e 1) (1 ∷ []) ∷ Synced ∷ []) first.ends_are
+    ap (λ (e : Ends). writes_of (pieces_of e (k.durable + 1) rs) ++ Synced ∷ Wrote 1 e.commits (1 ∷ []) ∷ Synced ∷ []) first.ends_are
     ∙ ap (λ (n : ℕ). writes_of (pieces_of (ends_of batches) (n + 1) rs) ++ Synced ∷ Wrote 1 (gate_of (length batches)) (1 ∷ []) ∷ Synced ∷ []) (sym number)
 
 -- a reference is settled by its value and its place

@@ -17,6 +17,7 @@ use Rattle.im_journal.specs.Holding.{AreFirst, IsResting}
 use Rattle.im_journal.specs.Kept.{IsAtRest, Kept}
 use Rattle.im_journal.specs.Phases.{IsSafe}
 use Rattle.im_journal.specs.Pieces.{end_of}
+use Rattle.im_journal.specs.declared.ends.Ends.{Ends}
 use Rattle.im_journal.proofs.Limits.{first_number}
 use Rattle.im_journal.proofs.Mids.{first_at}
 use Rattle.im_journal.proofs.Prefixes.{refs_more}
@@ -71,11 +72,11 @@ behind-next w n batches r p last =
     }
 
 -- an image at rest stands for what is durable with these very batches
-batches-stand : (hash : Hash) (history : List Transaction) (batches : List (List Record)) (durable : ℕ) (ends : List ℕ) → AreFirst hash history batches durable ends
+batches-stand : (hash : Hash) (history : List Transaction) (batches : List (List Record)) (durable : ℕ) (ends : Ends) → AreFirst hash history batches durable ends
     → (image : Files) → IsSafe (end_of ends) (spans_of batches) (gate_of (length batches)) image → (s : Stands hash image (take durable history)) × (s.batches ≡ batches)
 batches-stand hash history batches durable ends first image safe =
     let at = first_at hash history batches durable ends first in
-    let P : List ℕ → Type 0 = λ e. IsSafe (end_of e) (spans_of batches) (gate_of (length batches)) image in
+    let P : Ends → Type 0 = λ e. IsSafe (end_of e) (spans_of batches) (gate_of (length batches)) image in
     let there = subst P first.ends_are safe in
     (stands hash history batches durable at image there, stands_batches hash history batches durable at image there)
 

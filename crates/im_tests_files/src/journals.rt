@@ -13,6 +13,7 @@ use im_disk::memory::MemDisk;
 use im_draft::drafts::{Attrs, Draft};
 use im_draft::preconditions::Pres;
 use im_journal::batches::Step;
+use im_journal::ends::Ends;
 use im_journal::errors::JournalError;
 use im_journal::journal::Journal;
 use im_ledger::errors::CommitError;
@@ -80,8 +81,13 @@ fn place<D: Disk, H: Hash32>(
 
 // What the journal says of one durable transaction, and reads of it.
 fn holds_one(alloc: Global, journal: &mut Journal<MemDisk>) -> bool {
+    let ends = Ends {
+        records: 110,
+        commits: 25,
+        values: [3, 0, 0, 0],
+    };
     journal.durable() == 1
-        && *journal.ends() == [110, 25, 3, 0, 0, 0]
+        && *journal.ends() == ends
         && journal.step() == Step::Idle
         && shows(
             journal.read_value(alloc, &Sum, &placed(0x26, 3, 0, 0)),

@@ -11,6 +11,7 @@ ghost use Rattle.im_journal.specs.Kept.{IsAtRest, IsInBatch};
 ghost use Rattle.im_journal.specs.Values.{HasValue, HoldsBatches};
 
 use crate::batches::Step;
+use crate::ends::Ends;
 use crate::journal::Journal;
 use im_digest::Hash32;
 use im_disk::disk::Disk;
@@ -78,9 +79,8 @@ impl<D: Disk> Journal<D> {
         self.durable
     }
 
-    /// Where each file ends behind what is durable: the transaction log, the commit log at the gate
-    /// behind its last batch, the value logs. The values of the next transactions are put there.
-    pub fn ends(&self) -> &[u64; 6]
+    /// Where the files end behind what is durable. The values of the next transactions are put there.
+    pub fn ends(&self) -> &Ends
         ensures { result.now ≡ self.now.ends }
     {
         &self.ends

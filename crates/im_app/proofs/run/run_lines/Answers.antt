@@ -1,5 +1,4 @@
 use Rattle.std.proofs.Common.{◌≡◌, ◌⊎◌, ℕ, ℤ, List, ◌++◌, length, sym, ◌∙◌, ap, subst, Err, Option, Some, inl, inr, refl}
-use Rattle.std.specs.Prelude.{slice_index_or}
 use Rattle.std.specs.Io.KnownBytes.{Appends}
 use Rattle.im_digest.specs.Digests.{Hash}
 use Rattle.im_disk.specs.Disk.{Told, after, seen}
@@ -84,7 +83,7 @@ returns-clause-report g c = λ script given e.
     let opens : Opens hash found before mid = record {
       found_is = if-told before (λ t. Stands hash (seen t) found) c.in-Ok.ensures.opens.stands;
       opened = if-told before (λ t. Leaves (λ image. Stands hash image found) (Some (after Synced t)) mid) c.in-Ok.ensures.opens.moments;
-      gate = gate-opened g.D.Disk.told hash c.in-Ok.kept c.in-Ok.ensures.kept before (if-told before (λ t. IsOpenedBy (slice_index_or c.in-Ok.kept.journal.ends 1 0) t mid) c.in-Ok.ensures.opens.calls);
+      gate = gate-opened g.D.Disk.told hash c.in-Ok.kept c.in-Ok.ensures.kept before (if-told before (λ t. IsOpenedBy c.in-Ok.kept.journal.ends.commits t mid) c.in-Ok.ensures.opens.calls);
     } in
     let all : ServesAll hash constant c.in-Ok.kept.logs found c.args.lines.items mid now times_before times_now out =
     on-ok c.serve-disk.result.end (ServesAll hash constant c.in-Ok.kept.logs found c.args.lines.items mid now times_before times_now out) both.0 c.serve-disk.ensures.all in
@@ -113,7 +112,7 @@ returns-clause-part g c = λ script given e.
     let opens : Opens hash found before mid = record {
       found_is = if-told before (λ t. Stands hash (seen t) found) c.in-Ok.ensures.opens.stands;
       opened = if-told before (λ t. Leaves (λ image. Stands hash image found) (Some (after Synced t)) mid) c.in-Ok.ensures.opens.moments;
-      gate = gate-opened g.D.Disk.told hash c.in-Ok.kept c.in-Ok.ensures.kept before (if-told before (λ t. IsOpenedBy (slice_index_or c.in-Ok.kept.journal.ends 1 0) t mid) c.in-Ok.ensures.opens.calls);
+      gate = gate-opened g.D.Disk.told hash c.in-Ok.kept c.in-Ok.ensures.kept before (if-told before (λ t. IsOpenedBy c.in-Ok.kept.journal.ends.commits t mid) c.in-Ok.ensures.opens.calls);
     } in
     let all : ServesAll hash constant c.in-Ok.kept.logs found c.args.lines.items mid now times_before times_now out =
     on-ok c.serve-disk.result.end (ServesAll hash constant c.in-Ok.kept.logs found c.args.lines.items mid now times_before times_now out) answered c.serve-disk.ensures.all in
@@ -149,7 +148,7 @@ returns-clause-front g c = λ script why given e.
     let opens : Opens hash found before mid = record {
       found_is = if-told before (λ t. Stands hash (seen t) found) c.in-Ok.ensures.opens.stands;
       opened = if-told before (λ t. Leaves (λ image. Stands hash image found) (Some (after Synced t)) mid) c.in-Ok.ensures.opens.moments;
-      gate = gate-opened g.D.Disk.told hash c.in-Ok.kept c.in-Ok.ensures.kept before (if-told before (λ t. IsOpenedBy (slice_index_or c.in-Ok.kept.journal.ends 1 0) t mid) c.in-Ok.ensures.opens.calls);
+      gate = gate-opened g.D.Disk.told hash c.in-Ok.kept c.in-Ok.ensures.kept before (if-told before (λ t. IsOpenedBy c.in-Ok.kept.journal.ends.commits t mid) c.in-Ok.ensures.opens.calls);
     } in
     let wrote : W c.as_slice.result.now = wrote-either c.write_all-wrote.result (A c.as_slice.result.now) (faults_now ≡ faults_before) (B c.as_slice.result.now) (Rose faults_before faults_now)
     c.write_all-wrote.ensures.whole c.write_all-wrote.ensures.same c.write_all-wrote.ensures.unfinished c.write_all-wrote.ensures.failed in

@@ -4,7 +4,6 @@ use Rattle.im_disk.proofs.Growing.{grows_both}
 use Rattle.im_format.specs.Standing.{Stands}
 use Rattle.im_journal.specs.Kept.{HasStaged}
 use Rattle.im_journal.specs.declared.batches.Step.TheVariants.{Idle, Staged, Gated}
-use Rattle.im_journal.specs.Pieces.{end_of}
 use Rattle.im_journal.specs.declared.errors.JournalError.{JournalError}
 use Rattle.im_journal.specs.declared.errors.JournalError.TheVariants.{Memory}
 use Rattle.im_ledger.proofs.DurableLemmas.{at-last, one-more}
@@ -119,7 +118,7 @@ returns-in_err-settle-clause-undone g c hash history batches rest next out =
     let step : staged.batch.step ≡ Staged = c.in_ok-stage.ensures.step (λ has. subst HasStaged rest.idle has) in
     let error = memory-of c.from_residual-in_err-settle.result c.in_err-settle.field-0.0 c.from_residual-in_err-settle.ensures.1 out in
     let short : IsErrOf {T = Unit {0}} (Err c.in_err-settle.field-0.0) Memory = ap (λ (e : JournalError). Err e) error in
-    unsettled (λ image. Stands hash image (take old.durable history)) sealed.batch.step c.settle.new.self.batch.step (end_of sealed.ends 1) (end_of c.settle.new.self.ends 1)
+    unsettled (λ image. Stands hash image (take old.durable history)) sealed.batch.step c.settle.new.self.batch.step sealed.ends.commits c.settle.new.self.ends.commits
     (told sealed.disk) (told c.settle.new.self.disk) (Err c.in_err-settle.field-0.0) (c.in_ok-seal.ensures.step step)
     (c.in_err-settle.ensures.again hash history batches rs safe.0 short).1 short c.in_err-settle.ensures.calls
     (without-staged staged.batch.step hash history old.durable staged.durable (length rs) (told sealed.disk) step c.stage.ensures.kept.1 (c.seal.ensures.any_moment hash history batches rs batch.0).1)

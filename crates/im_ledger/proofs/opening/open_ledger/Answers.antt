@@ -1,4 +1,4 @@
-use Rattle.std.proofs.Common.{◌≡◌, List, length, get_or, ap, subst, sym, ◌∙◌}
+use Rattle.std.proofs.Common.{◌≡◌, List, length, ap, subst, sym, ◌∙◌}
 use Rattle.im_digest.specs.Digests.{Hash}
 use Rattle.im_journal.specs.Kept.{Kept}
 use Rattle.im_model.specs.declared.transactions.Transaction.{Transaction}
@@ -23,8 +23,8 @@ returns-in-Ok-clause-opens g c =
     let faults = g.D.Disk.faults in
     let txs : List Transaction = txs_of c.in_ok-journal.field-0.found.records.items in
     let same : c.over.result.held.transactions ≡ txs = ap (λ (h : Held). h.transactions) c.over.ensures.given.1 ∙ c.in-Ok.ensures.transactions in
-    let J : Kept g.row.D.Denot → Type 0 = λ j. Opens told faults hash c.args.disk j.disk (get_or j.ends 1 0) txs in
-    let T : List Transaction → Type 0 = λ l. Opens told faults hash c.args.disk c.over.result.journal.disk (get_or c.over.result.journal.ends 1 0) l in
+    let J : Kept g.row.D.Denot → Type 0 = λ j. Opens told faults hash c.args.disk j.disk j.ends.commits txs in
+    let T : List Transaction → Type 0 = λ l. Opens told faults hash c.args.disk c.over.result.journal.disk c.over.result.journal.ends.commits l in
     subst T (sym same) (subst J (sym c.over.ensures.given.0) c.in_ok-journal.ensures.opens)
 
 pub returns-in-Err-clause-failed : goal.returns-in-Err-clause-failed
@@ -35,7 +35,7 @@ returns-in-Err-clause-failed g c =
     let F : g.row.D.Denot → Type 0 = λ d. FailsToOpen told faults hash c.args.disk d opened.Memory in
     let found = c.in_ok-journal.field-0 in
     subst F (sym c.into_disk.ensures)
-    (fails-behind told faults hash c.args.disk found.journal.disk (get_or found.journal.ends 1 0) (txs_of found.found.records.items) c.in_ok-journal.ensures.opens)
+    (fails-behind told faults hash c.args.disk found.journal.disk found.journal.ends.commits (txs_of found.found.records.items) c.in_ok-journal.ensures.opens)
 
 pub returns-in_err-journal-clause-failed : goal.returns-in_err-journal-clause-failed
 returns-in_err-journal-clause-failed g c =

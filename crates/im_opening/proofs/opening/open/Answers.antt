@@ -1,6 +1,7 @@
-use Rattle.std.proofs.Common.{◌≡◌, ℕ, List, length, sym, ◌∙◌, ap, subst, arith, get_or}
+use Rattle.std.proofs.Common.{◌≡◌, ℕ, length, sym, ◌∙◌, ap, subst, arith}
 use Rattle.im_format.specs.Batches.{gate_of}
 use Rattle.im_journal.specs.Holding.{AreFirst}
+use Rattle.im_journal.specs.declared.ends.Ends.{Ends}
 use Rattle.im_opening.specs.Opens.{AreOpened, Opens}
 use Rattle.im_opening.specs.Reach.{txs_of}
 use Rattle.im_format.proofs.HeldRecords.{Has32}
@@ -53,8 +54,8 @@ returns-clause-opens g c =
     let G : ℕ → Type 0 = λ n. Opens g.D.Disk.told g.D.Disk.faults hash c.args.disk c.resume-journal.result.disk n txs in
     let opens = opens-by g.D.Disk.told g.D.Disk.faults hash c.args.disk c.open_files.new.disk opened long said c.in-Ok.ensures.grows
     (c.in-Ok.ensures.cause.others (λ e. cc)) in
-    let gate : gate_of opened.batches ≡ get_or c.resume-journal.result.ends 1 0 =
-    sym (ap (λ (l : List ℕ). get_or l 1 0) c.resume-journal.ensures.given.1 ∙ said.given.ends.gate) in
+    let gate : gate_of opened.batches ≡ c.resume-journal.result.ends.commits =
+    sym (ap (λ (e : Ends). e.commits) c.resume-journal.ensures.given.1 ∙ said.given.ends.gate) in
     subst G gate (subst O (sym c.resume-journal.ensures.given.0) opens)
 
 pub returns-in-Err-clause-failed : goal.returns-in-Err-clause-failed

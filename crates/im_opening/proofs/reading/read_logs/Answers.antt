@@ -5,6 +5,7 @@ use Rattle.im_format.specs.Places.{log_end, refs_of}
 use Rattle.im_format.specs.Reading.{history_in}
 use Rattle.im_format.specs.Standing.{HasBatches, LiesIn}
 use Rattle.im_format.specs.declared.records.Record.{Record}
+use Rattle.im_journal.specs.declared.ends.Ends.{Ends}
 use Rattle.im_opening.specs.Opening.{IsRead, IsThere, ends_behind}
 use Rattle.im_opening.specs.Parts.{batches_in}
 use Rattle.im_opening.specs.Reach.{txs_of}
@@ -35,7 +36,11 @@ returns-clause-given g c =
     let second : c.end_of-2.result ≡ log_end 1 (refs_of records) = omega (arith, low 1, c.end_of-2.ensures, ap (f 1) c.as_slice-2.ensures.value) in
     let third : c.end_of-3.result ≡ log_end 2 (refs_of records) = omega (arith, low 2, c.end_of-3.ensures, ap (f 2) c.as_slice-3.ensures.value) in
     let fourth : c.end_of-4.result ≡ log_end 3 (refs_of records) = omega (arith, low 3, c.end_of-4.ensures, ap (f 3) c.as_slice-4.ensures.value) in
-    let ends : List ℕ = p.place ∷ read.gate ∷ c.end_of.result ∷ c.end_of-2.result ∷ c.end_of-3.result ∷ c.end_of-4.result ∷ [] in
+    let ends : Ends = record {
+      records = p.place;
+      commits = read.gate;
+      values = c.end_of.result ∷ c.end_of-2.result ∷ c.end_of-3.result ∷ c.end_of-4.result ∷ [];
+    } in
     let place = ens.whole.place_is in
     let gate = ens.gate in
     let placed : ends ≡ ends_behind records read.batches = cc in

@@ -1,4 +1,4 @@
-use Rattle.std.proofs.Common.{arith, ◌≡◌, ◌+◌, ◌≤◌, ℕ, List, length, sym, subst, get_or, ⊎_elim, Option, Some}
+use Rattle.std.proofs.Common.{arith, ◌≡◌, ◌+◌, ◌≤◌, ℕ, List, length, sym, subst, ⊎_elim, Option, Some}
 use Rattle.std.specs.Prelude.{IfErr, IfSome, OnOk}
 use Rattle.im_disk.specs.Disk.{Files, Told, Images, seen}
 use Rattle.im_disk.specs.Moments.{Leaves, LeavesNow}
@@ -71,7 +71,7 @@ short-of log gate (Short len) h open_is = h.2
 pub returns-in-Missing-clause-leaves : goal.returns-in-Missing-clause-leaves
 returns-in-Missing-clause-leaves g c hash t is durable read =
     let opened = c.args.opened.now in
-    let gate = get_or opened.ends 1 0 in
+    let gate = opened.ends.commits in
     let at : gate ≡ gate_of opened.batches = c.requires.ends.gate in
     let open_is : IsNotClosed opened.behind =
     ⊎_elim (λ e. subst IsNotClosed (sym e) tt) (λ p. subst IsNotClosed (sym p.1) tt) c.in-Missing.is in
@@ -102,7 +102,7 @@ returns-in-Closed-clause-kept g c hash t is durable read there =
 pub returns-in-Missing-clause-kept : goal.returns-in-Missing-clause-kept
 returns-in-Missing-clause-kept g c hash t is durable read there =
     let opened = c.args.opened.now in
-    let gate = get_or opened.ends 1 0 in
+    let gate = opened.ends.commits in
     let at : gate ≡ gate_of opened.batches = c.requires.ends.gate in
     let within : gate_of opened.batches ≤ length (seen t 1) = read.within in
     kept-after opened t gate (g.D.Disk.told c.args.disk.now) (g.D.Disk.told c.shut_gate.new.disk) c.shut_gate.result is c.shut_gate.ensures.written

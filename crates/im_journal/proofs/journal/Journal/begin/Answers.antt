@@ -6,6 +6,7 @@ use Rattle.im_journal.specs.Holding.{AreNext}
 use Rattle.im_journal.specs.Kept.{IsAtRest}
 use Rattle.im_journal.specs.Phases.{FitsDisk, IsStaging}
 use Rattle.im_journal.specs.Pieces.{end_of}
+use Rattle.im_journal.specs.declared.ends.Ends.{Ends}
 use Rattle.im_journal.proofs.Mids.{begun, pieces_fit, rest_room, rest_whole}
 use Rattle.im_journal.proofs.journal.Journal.begin.Goals as goal
 
@@ -17,12 +18,12 @@ plan_of-requires-clause-whole g c =
 pub plan_of-requires-clause-room : goal.plan_of-requires-clause-room
 plan_of-requires-clause-room g c k =
     let n = c.requires.next in
-    subst (λ (e : List ℕ). end_of e k < 2 ^ 61) (sym (ap (λ j. j.ends) c.self.view_is)) (rest_room g.D.Disk.told n.0 n.1 n.2 c.args.self.now n.3 k)
+    subst (λ (e : Ends). end_of e k < 2 ^ 61) (sym (ap (λ j. j.ends) c.self.view_is)) (rest_room g.D.Disk.told n.0 n.1 n.2 c.args.self.now n.3 k)
 
 pub invariant_of-self : goal.invariant_of-self
 invariant_of-self g c =
     let n = c.requires.next in
-    let room : (k : ℕ) → end_of c.self.inside.ends k < 2 ^ 61 = λ k. subst (λ (e : List ℕ). end_of e k < 2 ^ 61) (sym (ap (λ j. j.ends) c.self.view_is)) (rest_room g.D.Disk.told n.0 n.1 n.2 c.args.self.now n.3 k) in (
+    let room : (k : ℕ) → end_of c.self.inside.ends k < 2 ^ 61 = λ k. subst (λ (e : Ends). end_of e k < 2 ^ 61) (sym (ap (λ j. j.ends) c.self.view_is)) (rest_room g.D.Disk.told n.0 n.1 n.2 c.args.self.now n.3 k) in (
       subst (All FitsDisk) (sym c.in_ok-plan.ensures.pieces) (pieces_fit c.self.inside.ends (c.self.inside.durable + 1) c.args.records.now room),
       omega arith,
     )

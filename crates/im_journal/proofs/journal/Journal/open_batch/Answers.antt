@@ -1,6 +1,7 @@
-use Rattle.std.proofs.Common.{arith, ◌<◌, ◌^◌, ℕ, List, sym, ap, subst, [], ◌∷◌}
+use Rattle.std.proofs.Common.{arith, ◌<◌, ◌^◌, sym, ap, subst, [], ◌∷◌}
 use Rattle.im_format.specs.Batches.{spans_of}
 use Rattle.im_journal.specs.Pieces.{end_of}
+use Rattle.im_journal.specs.declared.ends.Ends.{Ends}
 use Rattle.im_journal.proofs.Mids.{mid_room, open_leaves}
 use Rattle.std.specs.Prelude.{Ok, Err}
 use Rattle.im_disk.specs.declared.calls.Call.TheVariants.{Wrote}
@@ -26,14 +27,14 @@ returns-in-Err-Memory-clause-any_moment g c hash history batches rs mid =
 pub open_gate-requires-clause-end : goal.open_gate-requires-clause-end
 open_gate-requires-clause-end g c =
     let m = c.requires.mid in
-    let room : end_of c.self.inside.ends 1 < 2 ^ 61 = subst (λ (e : List ℕ). end_of e 1 < 2 ^ 61) (sym (ap (λ j. j.ends) c.self.view_is)) (mid_room g.D.Disk.told m.0 m.1 m.2 m.3 c.args.self.now m.4 1) in
+    let room : c.self.inside.ends.commits < 2 ^ 61 = subst (λ (e : Ends). e.commits < 2 ^ 61) (sym (ap (λ j. j.ends) c.self.view_is)) (mid_room g.D.Disk.told m.0 m.1 m.2 m.3 c.args.self.now m.4 1) in
     omega (arith, room)
 
 pub returns-in-Ok-clause-calls : goal.returns-in-Ok-clause-calls
-returns-in-Ok-clause-calls g c = made_by g.D.Disk.told (λ k. Wrote 1 (end_of k.ends 1) (1 ∷ []) ∷ []) (λ k. Wrote 1 (end_of k.ends 1) (1 ∷ []) ∷ []) _ c.args.self.now c.self.view_is (g.D.Disk.told c.open_gate.new.disk) (Ok tt) c.in-Ok.ensures.calls
+returns-in-Ok-clause-calls g c = made_by g.D.Disk.told (λ k. Wrote 1 k.ends.commits (1 ∷ []) ∷ []) (λ k. Wrote 1 k.ends.commits (1 ∷ []) ∷ []) _ c.args.self.now c.self.view_is (g.D.Disk.told c.open_gate.new.disk) (Ok tt) c.in-Ok.ensures.calls
 
 pub returns-in-Err-Failed-clause-calls : goal.returns-in-Err-Failed-clause-calls
-returns-in-Err-Failed-clause-calls g c = made_by g.D.Disk.told (λ k. Wrote 1 (end_of k.ends 1) (1 ∷ []) ∷ []) (λ k. Wrote 1 (end_of k.ends 1) (1 ∷ []) ∷ []) _ c.args.self.now c.self.view_is (g.D.Disk.told c.open_gate.new.disk) (Err Failed) (rw c.in-Err-Failed.field-0-is at c.in-Err-Failed.ensures.calls)
+returns-in-Err-Failed-clause-calls g c = made_by g.D.Disk.told (λ k. Wrote 1 k.ends.commits (1 ∷ []) ∷ []) (λ k. Wrote 1 k.ends.commits (1 ∷ []) ∷ []) _ c.args.self.now c.self.view_is (g.D.Disk.told c.open_gate.new.disk) (Err Failed) (rw c.in-Err-Failed.field-0-is at c.in-Err-Failed.ensures.calls)
 
 pub returns-in-Err-Memory-clause-calls : goal.returns-in-Err-Memory-clause-calls
-returns-in-Err-Memory-clause-calls g c = made_by g.D.Disk.told (λ k. Wrote 1 (end_of k.ends 1) (1 ∷ []) ∷ []) (λ k. Wrote 1 (end_of k.ends 1) (1 ∷ []) ∷ []) _ c.args.self.now c.self.view_is (g.D.Disk.told c.open_gate.new.disk) (Err Memory) (rw c.in-Err-Memory.field-0-is at c.in-Err-Memory.ensures.calls)
+returns-in-Err-Memory-clause-calls g c = made_by g.D.Disk.told (λ k. Wrote 1 k.ends.commits (1 ∷ []) ∷ []) (λ k. Wrote 1 k.ends.commits (1 ∷ []) ∷ []) _ c.args.self.now c.self.view_is (g.D.Disk.told c.open_gate.new.disk) (Err Memory) (rw c.in-Err-Memory.field-0-is at c.in-Err-Memory.ensures.calls)

@@ -9,8 +9,8 @@ use Rattle.im_journal.proofs.Mids.{durable_now, err_then, gated_left, on_err, se
 use Rattle.im_disk.specs.declared.calls.Call.{Call}
 use Rattle.im_disk.specs.declared.calls.Call.TheVariants.{Wrote, Synced}
 use Rattle.im_journal.specs.Made.{Makes, calls_to_settle}
-use Rattle.im_journal.specs.Pieces.{end_of}
 use Rattle.im_journal.specs.declared.batches.Step.{Step}
+use Rattle.im_journal.specs.declared.ends.Ends.{Ends}
 use Rattle.im_journal.proofs.Making.{left_as, makes_before, makes_then}
 use Rattle.im_journal.proofs.journal.Journal.settle.Goals as goal
 
@@ -88,13 +88,13 @@ returns-in_default g c =
       left = λ fault.
           subst HasSealed (sym (ap (λ b. b.step) (err_then call.result DiskFault ((new.ends ≡ now.ends) × (new.durable ≡ now.durable) × (new.batch ≡ now.batch)) call.ensures.err fault).2 ∙ gated)) tt;
       calls =
-          let gate = end_of now.ends 1 in
-          let left = calls_to_settle new.batch.step (end_of new.ends 1) in
+          let gate = now.ends.commits in
+          let left = calls_to_settle new.batch.step new.ends.commits in
           let o = g.D.Disk.told now.disk in
           let n = g.D.Disk.told new.disk in
           subst (λ (s : Step). Makes DiskFault Memory (calls_to_settle s gate) left o n call.result) (sym gated)
           (left_as (Synced ∷ []) (Synced ∷ []) left o n call.result
-          (λ e. ap (λ (s : Step). calls_to_settle s (end_of new.ends 1))
+          (λ e. ap (λ (s : Step). calls_to_settle s new.ends.commits)
           (sym (ap (λ b. b.step) (err_then call.result Memory ((new.ends ≡ now.ends) × (new.durable ≡ now.durable) × (new.batch ≡ now.batch)) call.ensures.err e).2 ∙ gated)))
           call.ensures.calls);
       counted = call.ensures.counted;
@@ -108,13 +108,13 @@ returns-in-Ok-clause-calls g c =
     let now = c.args.self.now in
     let k = c.open_batch.new.self in
     let new = c.settle_batch.new.self in
-    let gate : List Call = Wrote 1 (end_of now.ends 1) (1 ∷ []) ∷ [] in
-    let left = calls_to_settle new.batch.step (end_of new.ends 1) in
+    let gate : List Call = Wrote 1 now.ends.commits (1 ∷ []) ∷ [] in
+    let left = calls_to_settle new.batch.step new.ends.commits in
     let sealed : now.batch.step ≡ Sealed = sym (ap (λ k. k.batch.step) c.self.view_is) ∙ c.in-Sealed.is in
-    subst (λ (s : Step). Makes DiskFault Memory (calls_to_settle s (end_of now.ends 1)) left (told now.disk) (told new.disk) c.settle_batch.result) (sym sealed)
+    subst (λ (s : Step). Makes DiskFault Memory (calls_to_settle s now.ends.commits) left (told now.disk) (told new.disk) c.settle_batch.result) (sym sealed)
     (makes_then gate (Synced ∷ []) left (told now.disk) (told k.disk) (told new.disk) c.settle_batch.result c.in-Ok.ensures.calls.ok
     (left_as (Synced ∷ []) (Synced ∷ []) left (told k.disk) (told new.disk) c.settle_batch.result
-    (λ e. ap (λ (s : Step). calls_to_settle s (end_of new.ends 1))
+    (λ e. ap (λ (s : Step). calls_to_settle s new.ends.commits)
     (sym (ap (λ b. b.step) (err_then c.settle_batch.result Memory ((new.ends ≡ k.ends) × (new.durable ≡ k.durable) × (new.batch ≡ k.batch)) c.settle_batch.ensures.err e).2 ∙ c.in-Ok.ensures.step)))
     c.settle_batch.ensures.calls))
 
@@ -123,16 +123,16 @@ returns-in-Err-clause-calls g c =
     let told = g.D.Disk.told in
     let now = c.args.self.now in
     let k = c.open_batch.new.self in
-    let gate : List Call = Wrote 1 (end_of now.ends 1) (1 ∷ []) ∷ [] in
-    let all : List Call = Wrote 1 (end_of now.ends 1) (1 ∷ []) ∷ Synced ∷ [] in
-    let left = calls_to_settle k.batch.step (end_of k.ends 1) in
+    let gate : List Call = Wrote 1 now.ends.commits (1 ∷ []) ∷ [] in
+    let all : List Call = Wrote 1 now.ends.commits (1 ∷ []) ∷ Synced ∷ [] in
+    let left = calls_to_settle k.batch.step k.ends.commits in
     let sealed : now.batch.step ≡ Sealed = sym (ap (λ k. k.batch.step) c.self.view_is) ∙ c.in-Sealed.is in
-    subst (λ (s : Step). Makes DiskFault Memory (calls_to_settle s (end_of now.ends 1)) left (told now.disk) (told k.disk) (Err c.in-Err.error)) (sym sealed)
+    subst (λ (s : Step). Makes DiskFault Memory (calls_to_settle s now.ends.commits) left (told now.disk) (told k.disk) (Err c.in-Err.error)) (sym sealed)
     (left_as all all left (told now.disk) (told k.disk) (Err c.in-Err.error)
     (λ e.
     let same = err_then c.open_batch.result Memory (k.batch ≡ now.batch) c.open_batch.ensures.err (c.in-Err.is ∙ e) in
     let step : k.batch.step ≡ Sealed = ap (λ b. b.step) same ∙ sealed in
-    ap (λ (s : Step). calls_to_settle s (end_of now.ends 1)) (sym step) ∙ ap (λ (ends : List ℕ). calls_to_settle k.batch.step (end_of ends 1)) (sym c.open_batch.ensures.kept.0))
+    ap (λ (s : Step). calls_to_settle s now.ends.commits) (sym step) ∙ ap (λ (ends : Ends). calls_to_settle k.batch.step ends.commits) (sym c.open_batch.ensures.kept.0))
     (makes_before _ gate gate (Synced ∷ []) (told now.disk) (told k.disk) c.in-Err.error c.in-Err.ensures.calls))
 
 pub returns-in-Ok-clause-left : goal.returns-in-Ok-clause-left
