@@ -4,13 +4,14 @@
 //! leaves, and one more for each node. Of the digests 1 to 7, in hex: 1 + 2 + 1 is 4, 4 + 3 + 1 is 8, 3 + 4 + 1
 //! is 8, 4 + 8 + 1 is d, 5 + 6 + 1 is c, c + 7 + 1 is 14, and d + 14 + 1 is 22.
 
-ghost use Rattle.std.specs.Prelude.{◌≡◌, ◌≤◌};
+ghost use Rattle.std.specs.Prelude.{◌≡◌, ◌<◌, ◌≤◌, length};
 
 use crate::values::{are, digest, one_to};
 use im_atree::checks::{check_consistency, check_inclusion, check_last};
 use im_atree::list_trees::ListTree;
 use im_atree::trees::Tree;
-use im_digest::{Hash32, Sha, Sum};
+use im_digest::{D32, Hash32, Sha, Sum};
+use im_levels::steps::Steps;
 use im_model::growth::{newer_root, older_root};
 use im_model::paths::root_by_path;
 use im_model::trees::{leaf_digest, node_digest, plain_root, split};
@@ -21,6 +22,8 @@ use im_mtree::paths::{check_path, path};
 use im_mtree::roots::root;
 use im_proof::faults::DualFault;
 use std::alloc::{AllocError, Global};
+use std::marker::Brand;
+use std::sync::ledger::{Blank, Ledger};
 use std::test::Fail;
 
 // The root over the digests 1 to 7 by SHA-256, as Python's hashlib gives it.
@@ -136,6 +139,141 @@ fn roots_are_those_hashed_afresh(alloc: Global) -> Result<bool, AllocError> {
     Ok(same)
 }
 
+// Whether a list gives this path of leaf i in the tree of the first n.
+fn is_path_of(
+    alloc: Global,
+    list: &ListTree,
+    i: u64,
+    n: u64,
+    terms: &[D32],
+) -> Result<bool, AllocError>
+    requires some { 1 ≤ i }
+    requires inside { i ≤ n }
+    requires within { n ≤ length list.now }
+{
+    let path = list.inclusion(alloc, &Sum, i, n)?;
+    let same = path.as_slice() == terms;
+    drop(path);
+    Ok(same)
+}
+
+// Whether a tree and a list give the same path of leaf i in the tree of the first n.
+fn paths_are_the_same(
+    alloc: Global,
+    tree: &Tree,
+    list: &ListTree,
+    i: u64,
+    n: u64,
+) -> Result<bool, AllocError>
+    requires some { 1 ≤ i }
+    requires inside { i ≤ n }
+    requires tree { n ≤ tree.now.size }
+    requires list { n ≤ length list.now }
+{
+    let path = tree.inclusion(alloc, &Sum, i, n)?;
+    let same = is_path_of(alloc, list, i, n, path.as_slice());
+    drop(path);
+    same
+}
+
+// Whether a list gives this consistency list from the first m leaves to the first n.
+fn is_list_from(
+    alloc: Global,
+    list: &ListTree,
+    m: u64,
+    n: u64,
+    terms: &[D32],
+) -> Result<bool, AllocError>
+    requires some { 1 ≤ m }
+    requires grows { m ≤ n }
+    requires within { n ≤ length list.now }
+{
+    let plain = list.consistency(alloc, &Sum, m, n)?;
+    let same = plain.as_slice() == terms;
+    drop(plain);
+    Ok(same)
+}
+
+// Whether a tree and a list give the same consistency list from the first m leaves to the first n.
+fn lists_are_the_same(
+    alloc: Global,
+    tree: &Tree,
+    list: &ListTree,
+    m: u64,
+    n: u64,
+) -> Result<bool, AllocError>
+    requires some { 1 ≤ m }
+    requires grows { m ≤ n }
+    requires tree { n ≤ tree.now.size }
+    requires list { n ≤ length list.now }
+{
+    let terms = tree.consistency(alloc, &Sum, m, n)?;
+    let same = is_list_from(alloc, list, m, n, terms.as_slice());
+    drop(terms);
+    same
+}
+
+// Whether both hold of the trees of the first n leaves, for each leaf and from each number of first leaves.
+fn all_proofs_are_the_same(
+    alloc: Global,
+    tree: &Tree,
+    list: &ListTree,
+    n: u64,
+) -> Result<bool, AllocError>
+    requires few { n ≤ 9 }
+    requires tree { n ≤ tree.now.size }
+    requires list { n ≤ length list.now }
+{
+    let mut same = true;
+    for m in 1..n + 1 {
+        same = same
+            && paths_are_the_same(alloc, tree, list, m, n)?
+            && lists_are_the_same(alloc, tree, list, m, n)?;
+    }
+    Ok(same)
+}
+
+// The list of the digests 1 to 9.
+fn nine_listed(alloc: Global) -> Result<ListTree, AllocError> {
+    let mut list = ListTree::new(alloc);
+    for digest in &one_to::<9>() {
+        if let Err(failed) = list.append(digest) {
+            drop(list);
+            return Err(failed);
+        }
+    }
+    Ok(list)
+}
+
+// Whether this tree and the list of the digests 1 to 9 give the same proofs, of all numbers of first leaves.
+fn proofs_are_as_nine_listed(alloc: Global, tree: &Tree) -> Result<bool, AllocError> {
+    let list = nine_listed(alloc)?;
+    let same = proofs_are_as_listed(alloc, tree, &list);
+    drop(list);
+    same
+}
+
+// Whether a tree and a list have nine leaves each, and give the same proofs of all numbers of first leaves.
+fn proofs_are_as_listed(alloc: Global, tree: &Tree, list: &ListTree) -> Result<bool, AllocError> {
+    if tree.size() != 9 || list.size() != 9 {
+        return Ok(false);
+    }
+    let mut same = *list.leaf(9) == digest(9);
+    for n in 1..10u64 {
+        same = same && all_proofs_are_the_same(alloc, tree, list, n)?;
+    }
+    Ok(same)
+}
+
+fn nine_give_the_same_proofs(alloc: Global) -> Result<bool, AllocError> {
+    let mut tree = Tree::new(alloc);
+    let added = tree.extend(&Sum, &one_to::<9>());
+    let same = proofs_are_as_nine_listed(alloc, &tree);
+    drop(tree);
+    added?;
+    same
+}
+
 fn roots_of_seven(tree: &Tree) -> bool {
     tree.size() == 7
         && tree.root_at(&Sum, 1) == digest(1)
@@ -204,6 +342,75 @@ fn path_over_seven(alloc: Global) -> Result<bool, AllocError> {
 fn proofs_of_seven(alloc: Global) -> Result<bool, AllocError> {
     let tree = seven(alloc)?;
     Ok(roots_of_seven(&tree) && lists_of_seven(alloc, &tree)? && paths_of_seven(alloc, &tree)?)
+}
+
+// Whether the counted path of the last of seven leaves is as worked.
+fn counted_path<L: Ledger>(
+    alloc: Global,
+    tree: &Tree,
+    steps: &mut Steps<L>,
+) -> Result<bool, AllocError>
+    requires { tree.now.size ≡ 7 }
+{
+    let path = tree.inclusion_steps(alloc, &Sum, 7, 7, steps)?;
+    let worked = are(path.as_slice(), &[0x0c, 0x0d]);
+    drop(path);
+    Ok(worked)
+}
+
+// Whether the counted list from the first four of seven leaves is as worked.
+fn counted_list<L: Ledger>(
+    alloc: Global,
+    tree: &Tree,
+    steps: &mut Steps<L>,
+) -> Result<bool, AllocError>
+    requires { tree.now.size ≡ 7 }
+{
+    let list = tree.consistency_steps(alloc, &Sum, 4, 7, steps)?;
+    let worked = are(list.as_slice(), &[0x0d, 0x14]);
+    drop(list);
+    Ok(worked)
+}
+
+// Whether the counted calls over a tree of the digests 1 to 7 give what is worked, and then take an eighth leaf.
+fn counted_over<L: Ledger>(alloc: Global, tree: &mut Tree, blank: Blank) -> Result<bool, AllocError>
+    requires name { blank.name ≡ L.name }
+    requires parts { blank.parts ≡ L.parts }
+    requires one { 0 < blank.parts }
+    requires seven { tree.old.size ≡ 7 }
+{
+    let mut steps = Steps::<L>::new(blank);
+    let worked = tree.root_steps(&Sum, 7, &mut steps) == digest(0x22)
+        && counted_path(alloc, tree, &mut steps)?
+        && counted_list(alloc, tree, &mut steps)?;
+    Ok(worked && tree.append_steps(&Sum, &digest(8), &mut steps)? == 8)
+}
+
+fn counted_of_seven<L: Ledger>(alloc: Global, blank: Blank) -> Result<bool, AllocError>
+    requires name { blank.name ≡ L.name }
+    requires parts { blank.parts ≡ L.parts }
+    requires one { 0 < blank.parts }
+{
+    let mut tree = seven(alloc)?;
+    if tree.size() != 7 {
+        drop(tree);
+        return Ok(false);
+    }
+    let counted = counted_over::<L>(alloc, &mut tree, blank);
+    drop(tree);
+    counted
+}
+
+#[test]
+fn the_counted_calls_give_the_worked_proofs(rt: HostRuntime) -> Result<(), Fail> {
+    assert!(rt; counted_of_seven::<Brand>(rt.alloc(), Blank::new(1))?);
+    Ok(())
+}
+
+#[test]
+fn a_tree_and_a_list_give_the_same_proofs(rt: HostRuntime) -> Result<(), Fail> {
+    assert!(rt; nine_give_the_same_proofs(rt.alloc())?);
+    Ok(())
 }
 
 #[test]
