@@ -32,7 +32,7 @@ AreReferred hash id [] = Unit {0}
 AreReferred hash id (r ∷ rs) = AreReferences hash id r.tx.entries r.refs × AreReferred hash (id + 1) rs
 
 -- records of a history: their transactions follow each other, and their Alh are the history's; the last one's
--- tree has this size, this root and these whole subtrees
+-- tree has this size, this root and these digests of its whole subtrees
 pub record IsConsistent (hash : Hash) (records : List Record) (alhs : List (List ℕ)) (bl : ℕ) (bl_root : List ℕ) (tree : Stored) : Type 0 where
   pub few : length alhs ≤ 1048576
   pub follow : Follow 0 0 (txs_of records)
