@@ -82,7 +82,6 @@ impl Ledger {
             headers,
             alhs,
             tree: mut grown,
-            root: _,
         } = found;
         let transactions = transactions_of(alloc, records)?;
         raise(hash, &mut grown, alhs.as_slice(), alhs.len())?;

@@ -21,11 +21,11 @@ pub tree-size : (hash : Hash) (alhs : List (List ℕ)) (bl : ℕ) (tree : Stored
 tree-size hash alhs bl tree le whole = sym (whole.counted ∙ length-take-le bl alhs le)
 
 -- what was read so far is one history's
-pub consistent-found : (hash : Hash) (found : FoundHistory) (bl : ℕ) → IsConsistent hash found.records.items found.alhs.items bl found.root found.tree
+pub consistent-found : (hash : Hash) (found : FoundHistory) (bl : ℕ) (bl_root : List ℕ) → IsConsistent hash found.records.items found.alhs.items bl bl_root found.tree
     → found.headers.items ≡ headers_of hash (txs_of found.records.items) → IsOneHistory hash found
-consistent-found hash found bl h headed =
+consistent-found hash found bl bl_root h headed =
     let alhs = found.alhs.items in
-    let both = consistent-records hash found.records.items alhs bl found.root found.tree h in
+    let both = consistent-records hash found.records.items alhs bl bl_root found.tree h in
     let size : bl ≡ found.tree.size = tree-size hash alhs bl found.tree h.linked h.tree_is in
     record {
       history = both.0;
@@ -35,5 +35,4 @@ consistent-found hash found bl h headed =
       last = sym (h.last ∙ size);
       linked = subst (λ (n : ℕ). n ≤ length alhs) size h.linked;
       tree = subst (λ (n : ℕ). IsLeveled hash (take n alhs) found.tree) size h.tree_is;
-      root = h.root_is ∙ ap (λ (n : ℕ). bl_root_of hash alhs n) size;
     }

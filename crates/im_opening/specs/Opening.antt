@@ -12,7 +12,7 @@ use Rattle.im_format.specs.declared.records.Record.{Record}
 use Rattle.im_journal.specs.Pieces.{end_of}
 use Rattle.im_journal.specs.declared.ends.Ends.{Ends}
 use Rattle.im_levels.specs.Leveled.{IsLeveled}
-use Rattle.im_model.specs.History.{IsHistory, alhs_of, bl_root_of}
+use Rattle.im_model.specs.History.{IsHistory, alhs_of}
 use Rattle.im_proof.specs.Built.{headers_of}
 use Rattle.im_opening.specs.Parts.{batches_in, counted_end}
 use Rattle.im_opening.specs.Reach.{last_bl_from, txs_of}
@@ -51,7 +51,7 @@ pub record HasEnds (opened : Opened) : Type 0 where
   pub fourth : slice_index_or opened.ends.values 3 0 ≡ log_end 3 (refs_of opened.found.records.items)
 
 -- what was found is one history's: its records, the header and the Alh of each transaction, and the tree that the last
--- of them was placed over, whose leaves are the first Alh: its size, its whole subtrees and its root
+-- of them was placed over, whose leaves are the first Alh: its size and its whole subtrees
 pub record IsOneHistory (hash : Hash) (found : FoundHistory) : Type 0 where
   pub history : IsHistory (txs_of found.records.items)
   pub records : AreRecords hash (txs_of found.records.items) 1 found.records.items
@@ -60,7 +60,6 @@ pub record IsOneHistory (hash : Hash) (found : FoundHistory) : Type 0 where
   pub last : found.tree.size ≡ last_bl_from 0 (txs_of found.records.items)
   pub linked : found.tree.size ≤ length found.alhs.items
   pub tree : IsLeveled hash (take found.tree.size found.alhs.items) found.tree
-  pub root : found.root ≡ bl_root_of hash found.alhs.items found.tree.size
 
 -- what was read is what the image has, which stands for its history
 pub record IsRead (hash : Hash) (image : Files) (opened : Opened) : Type 0 where

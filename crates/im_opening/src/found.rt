@@ -14,6 +14,4 @@ pub struct FoundHistory {
     pub alhs: Vec<D32>,
     /// The tree that the last transaction was placed over: the first Alh are its leaves.
     pub tree: Tree,
-    /// The root of this tree, 32 zeros where it is empty.
-    pub root: D32,
 }

@@ -138,7 +138,6 @@ fn read_logs<D: Disk, H: Hash32>(
         batches,
         behind,
     } = read;
-    let root = progress.bl_root;
     let records = progress.records;
     let ends = Ends {
         records: progress.place,
@@ -155,7 +154,6 @@ fn read_logs<D: Disk, H: Hash32>(
         headers: progress.headers,
         alhs: progress.alhs,
         tree: progress.tree,
-        root,
     };
     Ok(Opened {
         found,

@@ -45,7 +45,7 @@ returns-clause-given g c =
     let gate = ens.gate in
     let placed : ends ≡ ends_behind records read.batches = cc in
     let opened : Opened = record {
-      found = record { records = p.records; headers = p.headers; alhs = p.alhs; tree = p.tree; root = p.bl_root };
+      found = record { records = p.records; headers = p.headers; alhs = p.alhs; tree = p.tree };
       batches = read.batches;
       ends = ends;
       behind = read.behind;
@@ -89,7 +89,7 @@ returns-clause-given g c =
     }
     ) in
     record {
-      found = consistent-found hash opened.found p.bl ens.fits ens.whole.headers_are;
+      found = consistent-found hash opened.found p.bl p.bl_root ens.fits ens.whole.headers_are;
       ends = record { few = ens.few; gate = gate; first = first; second = second; third = third; fourth = fourth };
       grouped = ens.grouped;
       placed = placed;
