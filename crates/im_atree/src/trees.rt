@@ -9,9 +9,10 @@ ghost use Rattle.im_levels.specs.Leveled.{IsLeveled};
 
 use im_digest::{D32, Hash32};
 use im_levels::growth::add_leaf;
-use im_levels::nodes::part_root;
 use im_levels::parts::Part;
+use im_levels::roots::part_root;
 use im_levels::steps::Steps;
+use im_levels::steps::nodes::Nodes;
 use im_levels::walks::{list_down, path_down};
 use im_mtree::digests::Digests;
 use im_mtree::paths::turned;
@@ -37,7 +38,7 @@ use std::sync::ledger::{Blank, Ledger};
 /// nothing else changes the list.
 #[derive(Drop)]
 pub struct Tree {
-    digests: Vec<D32>,
+    digests: Nodes,
     size: usize,
 }
 
@@ -48,9 +49,9 @@ impl Model for Tree {
 
     ghost Value = { Stored };
 
-    ghost view = { λ s. stored s.digests.items s.size };
+    ghost view = { λ s. stored s.digests s.size };
 
-    ghost invariant = { λ s. length s.digests.items ≡ whole s.size };
+    ghost invariant = { λ s. length s.digests ≡ whole s.size };
 }
 
 impl Tree {
@@ -71,7 +72,7 @@ impl Tree {
         ensures leaves { (hash : Hash) → IsLeveled hash [] result }
     {
         Tree {
-            digests: Vec::new(alloc),
+            digests: Nodes::new(alloc),
             size: 0,
         }
     }
@@ -117,12 +118,12 @@ impl Tree {
         ensures cost { steps.new + 1 ≡ steps.old + 2 * count_ones n }
         ensures bound { (b : ℕ) → n < 2 ^ b → steps.new < steps.old + 2 * b }
     {
-        let digests = self.digests.as_slice();
+        self.digests.next_fits(self.size);
         let all = Part {
             at: 0,
             width: n as usize,
         };
-        part_root(hash, digests, all, steps)
+        part_root(hash, &self.digests, all, steps)
     }
 
     /// The path of transaction i, from 1, in the tree of the first n, its terms from the leaf up: PATH of
@@ -147,7 +148,8 @@ impl Tree {
             → up (H.digest hash.now) n (i - 1) (slice_index_or leaves (i - 1) []) (reverse path) ≡ root (H.digest hash.now) (take n leaves)) }
         ensures bound { (b : ℕ) → n < 2 ^ b → steps.new ≤ steps.old + 4 * b }
     {
-        let digests = self.digests.as_slice();
+        self.digests.next_fits(self.size);
+        let digests = &self.digests;
         let terms = path_down(alloc, hash, digests, n as usize, (i - 1) as usize, steps)?;
         Ok(turned(terms))
     }
@@ -178,8 +180,8 @@ impl Tree {
         if m == n {
             return Ok(Digests::from_vec(Vec::new(alloc)));
         }
-        let digests = self.digests.as_slice();
-        let terms = list_down(alloc, hash, digests, m as usize, n as usize, steps)?;
+        self.digests.next_fits(self.size);
+        let terms = list_down(alloc, hash, &self.digests, m as usize, n as usize, steps)?;
         Ok(turned(terms))
     }
 

@@ -3,12 +3,12 @@ ghost use Rattle.im_model.specs.Trees.{root};
 ghost use Rattle.im_levels.specs.Counts.{whole};
 ghost use Rattle.im_levels.specs.Leveled.{leaves_of, AreStored, IsLeveled, stored};
 
-use crate::nodes::read;
 use crate::parts::Part;
 use crate::steps::Steps;
+use crate::steps::hashes::{leaf_step, node_step};
+use crate::steps::nodes::Nodes;
 use arrayvec::ArrayVec;
 use im_digest::{D32, Hash32};
-use im_model::trees::{leaf_digest, node_digest};
 use std::alloc::AllocError;
 use std::sync::ledger::Ledger;
 
@@ -16,24 +16,24 @@ use std::sync::ledger::Ledger;
 /// the new size it takes less than 2b steps. Its only error is want of memory, and nothing was added then.
 pub fn add_leaf<H: Hash32, L: Ledger>(
     hash: &H,
-    digests: &mut Vec<D32>,
+    digests: &mut Nodes,
     size: usize,
     alh: &D32,
     steps: &mut Steps<L>,
 ) -> Result<(), AllocError>
-    requires { length digests.old.items ≡ whole size }
+    requires { length digests.old ≡ whole size }
     ensures room { OnOk result (size + 1 < 2 ^ 64) }
-    ensures filled { OnOk result (length digests.new.items ≡ whole (size + 1)) }
-    ensures leaves { OnOk result ((leaves : List (List ℕ)) → IsLeveled (H.digest hash.now) leaves (stored digests.old.items size)
-        → IsLeveled (H.digest hash.now) (leaves ++ alh.now ∷ []) (stored digests.new.items (size + 1))) }
-    ensures err { OnErr result (digests.new.items ≡ digests.old.items) }
+    ensures filled { OnOk result (length digests.new ≡ whole (size + 1)) }
+    ensures leaves { OnOk result ((leaves : List (List ℕ)) → IsLeveled (H.digest hash.now) leaves (stored digests.old size)
+        → IsLeveled (H.digest hash.now) (leaves ++ alh.now ∷ []) (stored digests.new (size + 1))) }
+    ensures err { OnErr result (digests.new ≡ digests.old) }
     ensures cost { steps.new + 1 + 2 * whole size ≡ steps.old + 2 * whole (size + 1) }
     ensures bound { (b : ℕ) → size + 1 < 2 ^ b → steps.new < steps.old + 2 * b }
 {
-    let kept = digests.as_slice();
-    let fresh = fresh_digests(hash, kept, size, alh, steps);
+    digests.next_fits(size);
+    let fresh = fresh_digests(hash, digests, size, alh, steps);
     let more = fresh.as_slice();
-    digests.extend_from_slice(more)?;
+    digests.add(more)?;
     Ok(())
 }
 
@@ -41,7 +41,7 @@ pub fn add_leaf<H: Hash32, L: Ledger>(
 // leaf, and of a node for each one at the end of the size in binary, made with the stored digest beside it.
 fn fresh_digests<H: Hash32, L: Ledger>(
     hash: &H,
-    digests: &[D32],
+    digests: &Nodes,
     size: usize,
     alh: &D32,
     steps: &mut Steps<L>,
@@ -56,17 +56,15 @@ fn fresh_digests<H: Hash32, L: Ledger>(
         → slice_index_or result.items k [] ≡ root (H.digest hash.now) (leaves_of (leaves ++ alh.now ∷ []) (size + 1 - 2 ^ k) (2 ^ k)) }
 {
     let mut fresh = ArrayVec::<D32, 64>::new();
-    steps.tick();
-    let mut digest = leaf_digest(hash, alh);
+    let mut digest = leaf_step(hash, alh, steps);
     let mut count = size;
     let mut at = size;
     let mut width = 1;
     while count % 2 == 1 {
         fresh.push(digest);
         at -= width;
-        let left = read(digests, Part { at, width }, steps);
-        steps.tick();
-        digest = node_digest(hash, &left, &digest);
+        let left = digests.read(Part { at, width }, steps);
+        digest = node_step(hash, &left, &digest, steps);
         width = 2 * width;
         count /= 2;
     }

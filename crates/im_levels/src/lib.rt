@@ -4,7 +4,7 @@
 
 pub mod growth;
 pub mod laws;
-pub mod nodes;
 pub mod parts;
+pub mod roots;
 pub mod steps;
 pub mod walks;

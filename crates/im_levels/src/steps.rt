@@ -1,8 +1,11 @@
+pub mod hashes;
+pub mod nodes;
+
 use std::marker::Model;
 use std::sync::ledger::{Blank, Book, Ledger, Share};
 
-/// How many steps were taken. A step is one stored digest read, or one hash computed. It takes no memory and
-/// no time, and only this crate adds to it. A clause sees the number.
+/// How many steps were taken. A step is one stored digest read (`nodes::Nodes::read`), or one hash computed
+/// (`hashes`), and only these calls add to it. It takes no memory and no time. A clause sees the number.
 #[derive(Drop)]
 pub struct Steps<L: Ledger> {
     book: Book<L>,
@@ -33,8 +36,8 @@ impl<L: Ledger> Steps<L> {
         Steps { book, share }
     }
 
-    // One more step.
-    pub(crate) fn tick(&mut self)
+    // One more step. It is private, so only the modules below this one take steps.
+    fn tick(&mut self)
         ensures { self.new ≡ self.old + 1 }
     {
         self.book.add(&mut self.share, 1);

@@ -6,9 +6,10 @@ ghost use Rattle.im_proof.specs.Built.{growth_first, growth_rest};
 ghost use Rattle.im_levels.specs.Counts.{whole};
 ghost use Rattle.im_levels.specs.Leveled.{leaves_of, AreStored, IsPart};
 
-use crate::nodes::part_root;
 use crate::parts::Part;
+use crate::roots::part_root;
 use crate::steps::Steps;
+use crate::steps::nodes::Nodes;
 use im_digest::{D32, Hash32};
 use im_model::trees::split;
 use std::alloc::{AllocError, Global};
@@ -77,7 +78,7 @@ fn sides_of(part: Part, i: usize) -> Sides
 pub fn path_down<H: Hash32, L: Ledger>(
     alloc: Global,
     hash: &H,
-    digests: &[D32],
+    digests: &Nodes,
     n: usize,
     i: usize,
     steps: &mut Steps<L>,
@@ -108,7 +109,7 @@ pub fn path_down<H: Hash32, L: Ledger>(
 pub fn list_down<H: Hash32, L: Ledger>(
     alloc: Global,
     hash: &H,
-    digests: &[D32],
+    digests: &Nodes,
     m: usize,
     n: usize,
     steps: &mut Steps<L>,

@@ -8,8 +8,8 @@ loop-count-init g c =
     let none : length c.new-fresh.result.items ≡ 0 = ap (λ l. length l) c.new-fresh.ensures in
     record {
       place = growing-begins c.args.size _ none;
-      cost = omega (arith, none, c.tick.ensures);
-      leaves = λ leaves same kept. made-begins (g.H.Hash32.digest c.args.hash.now) leaves c.args.alh.now c.args.size _ _ same c.new-fresh.ensures c.leaf_digest-digest.ensures;
+      cost = omega (arith, none, c.leaf_step-digest.ensures.cost);
+      leaves = λ leaves same kept. made-begins (g.H.Hash32.digest c.args.hash.now) leaves c.args.alh.now c.args.size _ _ same c.new-fresh.ensures c.leaf_step-digest.ensures.value;
     }
 
 pub push-requires : goal.push-requires
@@ -42,10 +42,10 @@ loop-count-preserved g c =
     record {
       place = subst (λ n. IsGrowing c.args.size (c.loop-count.count / 2) (c.loop-count.at - c.loop-count.width) (2 * c.loop-count.width) n) (sym c.push.ensures.len)
           (growing-step _ _ _ _ _ c.loop-count-test.true c.loop-count.invariant.place);
-      cost = omega (arith, c.push.ensures.len, c.loop-count.invariant.cost, c.read-left.ensures.cost);
+      cost = omega (arith, c.push.ensures.len, c.loop-count.invariant.cost, c.read-left.ensures.cost, c.node_step-digest.ensures.cost);
       leaves = λ leaves same kept. made-step (g.H.Hash32.digest c.args.hash.now) leaves c.args.alh.now c.args.size c.loop-count.count c.loop-count.at c.loop-count.width _ _ _ _ _ same
           c.loop-count-test.true c.loop-count.invariant.place (c.loop-count.invariant.leaves leaves same kept) c.push.ensures.items
-          (c.read-left.ensures.value (g.H.Hash32.digest c.args.hash.now) leaves (omega (arith, high, low, same)) kept) c.node_digest-digest.ensures;
+          (c.read-left.ensures.value (g.H.Hash32.digest c.args.hash.now) leaves (omega (arith, high, low, same)) kept) c.node_step-digest.ensures.value;
     }
 
 pub returns-clause-count : goal.returns-clause-count

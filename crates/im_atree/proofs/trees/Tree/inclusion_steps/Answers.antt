@@ -1,24 +1,22 @@
-use Rattle.std.proofs.Common.{◌≤◌, ◌-◌, length, reverse, get_or, [], arith, ap, ◌∙◌}
+use Rattle.std.proofs.Common.{◌≤◌, ◌-◌, length, reverse, get_or, [], refl, arith, ap, ◌∙◌}
 use Rattle.im_model.specs.Paths.{up}
 use Rattle.im_levels.proofs.ReadLemmas.{whole-fits, leveled-parts}
-use Rattle.im_levels.proofs.FreshLemmas.{size-fits}
 use Rattle.im_atree.proofs.PassLemmas.{path-in_front}
 use Rattle.im_atree.proofs.trees.Tree.inclusion_steps.Goals as goal
 
+pub next_fits-requires : goal.next_fits-requires
+next_fits-requires g c = c.self.invariant
+
 pub path_down-requires-clause-fits : goal.path_down-requires-clause-fits
-path_down-requires-clause-fits g c =
-    let next = size-fits c.self.inside.size (length c.as_slice-digests.result.now) (ap (λ l. length l) c.as_slice-digests.ensures.value ∙ c.self.invariant) (omega arith) in
-    omega (arith, next, c.requires.within, ap (λ v. v.size) c.self.view_is)
+path_down-requires-clause-fits g c = omega (arith, c.next_fits.ensures, c.requires.within, ap (λ v. v.size) c.self.view_is)
 
 pub path_down-requires-clause-inside : goal.path_down-requires-clause-inside
 path_down-requires-clause-inside g c =
-    whole-fits _ c.self.inside.size _ (omega (arith, c.requires.within, ap (λ v. v.size) c.self.view_is))
-    (omega (arith, c.self.invariant, ap (λ l. length l) c.as_slice-digests.ensures.value))
+    whole-fits _ c.self.inside.size _ (omega (arith, c.requires.within, ap (λ v. v.size) c.self.view_is)) (omega (arith, c.self.invariant))
 
 pub returns-clause-value : goal.returns-clause-value
 returns-clause-value g c leaves f =
-    let held = leveled-parts (g.H.Hash32.digest c.args.hash.now) leaves c.self.inside.digests.items c.as_slice-digests.result.now c.self.inside.size _ c.self.view_is
-    c.as_slice-digests.ensures.value f in
+    let held = leveled-parts (g.H.Hash32.digest c.args.hash.now) leaves c.self.inside.digests c.self.inside.digests c.self.inside.size _ c.self.view_is refl f in
     c.turned.ensures
     ∙ ap (λ l. reverse l) (c.in_ok-terms.ensures.value leaves (omega (arith, held.0, c.requires.within, ap (λ v. v.size) c.self.view_is)) held.1)
 

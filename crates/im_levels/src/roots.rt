@@ -2,33 +2,20 @@ ghost use Rattle.std.specs.Prelude.{◌≡◌, ℕ, ◌<◌, ◌≤◌, ◌+◌,
 ghost use Rattle.im_digest.specs.Digests.{Hash};
 ghost use Rattle.im_model.specs.Trees.{root};
 ghost use Rattle.im_levels.specs.Counts.{whole};
-ghost use Rattle.im_levels.specs.Leveled.{leaves_of, AreStored, IsPart, IsSubtree};
+ghost use Rattle.im_levels.specs.Leveled.{leaves_of, AreStored, IsPart};
 
-use crate::parts::{Part, front, whole};
+use crate::parts::{Part, front};
 use crate::steps::Steps;
+use crate::steps::hashes::node_step;
+use crate::steps::nodes::Nodes;
 use im_digest::{D32, Hash32};
-use im_model::trees::node_digest;
 use std::sync::ledger::Ledger;
-
-/// The stored digest of a whole subtree, which is the root over its leaves. It takes one step.
-pub fn read<L: Ledger>(digests: &[D32], tree: Part, steps: &mut Steps<L>) -> D32
-    requires aligned { IsSubtree tree.at tree.width }
-    requires inside { whole (tree.at + tree.width) ≤ length digests.now }
-    ensures value { (hash : Hash) (leaves : List (List ℕ)) → tree.at + tree.width ≤ length leaves
-        → AreStored hash leaves digests.now → result ≡ root hash (leaves_of leaves tree.at tree.width) }
-    ensures cost { steps.new ≡ steps.old + 1 }
-{
-    steps.tick();
-    let before = whole(tree.at);
-    let place = before + 2 * (tree.width - 1);
-    digests[place]
-}
 
 /// The root over a part of a tree, of stored digests alone: one for each one in the binary digits of its
 /// width, and a node for each of them but one. It takes no memory.
 pub fn part_root<H: Hash32, L: Ledger>(
     hash: &H,
-    digests: &[D32],
+    digests: &Nodes,
     part: Part,
     steps: &mut Steps<L>,
 ) -> D32
@@ -45,7 +32,7 @@ pub fn part_root<H: Hash32, L: Ledger>(
         at: part.at,
         width: k,
     };
-    let left = read(digests, tree, steps);
+    let left = digests.read(tree, steps);
     if k == part.width {
         return left;
     }
@@ -54,6 +41,5 @@ pub fn part_root<H: Hash32, L: Ledger>(
         width: part.width - k,
     };
     let right = part_root(hash, digests, rest, steps);
-    steps.tick();
-    node_digest(hash, &left, &right)
+    node_step(hash, &left, &right, steps)
 }

@@ -3,7 +3,7 @@ use Rattle.im_levels.specs.Leveled.{leaves_of}
 use Rattle.im_model.specs.Trees.{root}
 use Rattle.im_levels.proofs.CountLemmas.{ones-none, whole-most}
 use Rattle.im_levels.proofs.ReadLemmas.{node-made}
-use Rattle.im_levels.proofs.nodes.+part_root.Goals as goal
+use Rattle.im_levels.proofs.roots.+part_root.Goals as goal
 
 pub returns-then-k-part-clause-value : goal.returns-then-k-part-clause-value
 returns-then-k-part-clause-value g t c leaves inside stored =
@@ -28,4 +28,4 @@ returns-clause-value g t c leaves inside stored =
     (c.front-k.ensures.node (g.H.Hash32.digest c.args.hash.now) leaves (omega arith) inside)
     (c.read-left.ensures.value (g.H.Hash32.digest c.args.hash.now) leaves (omega arith) stored)
     (c.part_root-right.ensures.value leaves (omega arith) stored)
-    c.node_digest.ensures
+    c.node_step.ensures.value
