@@ -1,2 +1,3 @@
+pub mod ExtendLemmas
 pub mod GrowLemmas
 pub mod PassLemmas

@@ -35,7 +35,7 @@ use std::sync::ledger::{Blank, Ledger};
 /// # Invariants
 ///
 /// There are as many digests as whole subtrees. A digest stays at its place: `append` adds some at the end, and
-/// nothing else changes the list.
+/// nothing else changes the list, but that `extend` takes back what it added where memory runs out.
 #[derive(Drop)]
 pub struct Tree {
     digests: Nodes,
@@ -64,7 +64,7 @@ impl Tree {
     ghost use Rattle.im_proof.specs.Built.{path_of, consistency};
     ghost use Rattle.im_proof.specs.TreeChecks.{consistency_checks};
     ghost use Rattle.im_levels.specs.Counts.{whole};
-    ghost use Rattle.im_levels.specs.Leveled.{IsLeveled};
+    ghost use Rattle.im_levels.specs.Leveled.{IsLeveled, stored};
 
     /// A tree of no leaves. It takes no memory.
     pub fn new(alloc: Global) -> Self
@@ -96,6 +96,7 @@ impl Tree {
     ) -> Result<u64, AllocError>
         ensures size { IfOk result (λ size. size ≡ self.new.size) }
         ensures ok { OnOk result (self.new.size ≡ self.old.size + 1) }
+        ensures front { OnOk result (take (length self.old.digests) self.new.digests ≡ self.old.digests) }
         ensures leaves { OnOk result ((leaves : List (List ℕ)) → IsLeveled (H.digest hash.now) leaves self.old
             → IsLeveled (H.digest hash.now) (leaves ++ alh.now ∷ []) self.new) }
         ensures err { OnErr result (self.new ≡ self.old) }
@@ -189,6 +190,7 @@ impl Tree {
     pub fn append<H: Hash32>(&mut self, hash: &H, alh: &D32) -> Result<u64, AllocError>
         ensures size { IfOk result (λ size. size ≡ self.new.size) }
         ensures ok { OnOk result (self.new.size ≡ self.old.size + 1) }
+        ensures front { OnOk result (take (length self.old.digests) self.new.digests ≡ self.old.digests) }
         ensures leaves { OnOk result ((leaves : List (List ℕ)) → IsLeveled (H.digest hash.now) leaves self.old
             → IsLeveled (H.digest hash.now) (leaves ++ alh.now ∷ []) self.new) }
         ensures err { OnErr result (self.new ≡ self.old) }
@@ -196,12 +198,48 @@ impl Tree {
         append_counted::<H, Brand>(self, hash, alh, Blank::new(1))
     }
 
-    /// Adds the leaves of some digests in their order behind all others, each as `append` does. Its only error is
-    /// want of memory, and the tree may then have some of them.
+    /// Adds the leaves of some digests in their order behind all others, each as `append` does: all of them, or none.
+    /// Its only error is want of memory, and the tree is then unchanged.
     pub fn extend<H: Hash32>(&mut self, hash: &H, alhs: &[D32]) -> Result<(), AllocError>
         ensures size { OnOk result (self.new.size ≡ self.old.size + length alhs.now) }
         ensures leaves { OnOk result ((leaves : List (List ℕ)) → IsLeveled (H.digest hash.now) leaves self.old
             → IsLeveled (H.digest hash.now) (leaves ++ alhs.now) self.new) }
+        ensures err { OnErr result (self.new ≡ self.old) }
+    {
+        let size = self.size() as usize;
+        let count = self.count();
+        match self.extend_some(hash, alhs) {
+            Ok(()) => Ok(()),
+            Err(failed) => {
+                self.cut(size, count);
+                Err(failed)
+            }
+        }
+    }
+
+    // The number of digests, which is that of the whole subtrees.
+    fn count(&self) -> usize
+        ensures value { result ≡ length self.now.digests }
+        ensures whole { result ≡ whole self.now.size }
+    {
+        self.digests.count()
+    }
+
+    // Goes back to the first leaves, so many, which have so many digests.
+    fn cut(&mut self, size: usize, count: usize)
+        requires { length (take count self.old.digests) ≡ whole size }
+        ensures { self.new ≡ stored (take count self.old.digests) size }
+    {
+        self.digests.cut(count);
+        self.size = size;
+    }
+
+    // Adds leaves, each as `append` does. After an error the tree has some of them.
+    fn extend_some<H: Hash32>(&mut self, hash: &H, alhs: &[D32]) -> Result<(), AllocError>
+        ensures size { OnOk result (self.new.size ≡ self.old.size + length alhs.now) }
+        ensures leaves { OnOk result ((leaves : List (List ℕ)) → IsLeveled (H.digest hash.now) leaves self.old
+            → IsLeveled (H.digest hash.now) (leaves ++ alhs.now) self.new) }
+        ensures front { take (length self.old.digests) self.new.digests ≡ self.old.digests }
     {
         for alh in alhs {
             self.append(hash, alh)?;
@@ -274,6 +312,7 @@ fn append_counted<H: Hash32, L: Ledger>(
     requires one { 0 < blank.parts }
     ensures size { IfOk result (λ size. size ≡ tree.new.size) }
     ensures ok { OnOk result (tree.new.size ≡ tree.old.size + 1) }
+    ensures front { OnOk result (take (length tree.old.digests) tree.new.digests ≡ tree.old.digests) }
     ensures leaves { OnOk result ((leaves : List (List ℕ)) → IsLeveled (H.digest hash.now) leaves tree.old
         → IsLeveled (H.digest hash.now) (leaves ++ alh.now ∷ []) tree.new) }
     ensures err { OnErr result (tree.new ≡ tree.old) }

@@ -16,6 +16,10 @@ use Rattle.im_dual.specs.Kept.{header_at, no_header}
 use Rattle.im_book.specs.Booked.{Booked, IsBook}
 use Rattle.im_ledger.specs.Ledgers.{Held, IsLedger}
 
+-- a ledger's lists, and what is kept of its tree, as its calls see them
+abbrev pub held_of : List Transaction → List Header → List (List ℕ) → Stored → Held
+held_of transactions headers alhs tree = record { transactions = transactions; headers = headers; alhs = alhs; tree = take tree.size alhs; levels = tree }
+
 -- what is so of lists, and of what is kept of the tree, is so of equal ones
 pub held-same : (P : Held → Type 0) (a b : Held) → a.transactions ≡ b.transactions → a.headers ≡ b.headers → a.alhs ≡ b.alhs → a.tree ≡ b.tree → a.levels ≡ b.levels → P b → P a
 held-same P a b transactions headers alhs tree levels p =

@@ -156,8 +156,9 @@ impl<D: Disk> KeptLedger<D> {
         Ok((header, record))
     }
 
-    /// Raises the tree by so many transactions, at most to the last one, and leaves the disk as it is. It hashes
-    /// the leaves that are added. Its only error is want of memory. After an error the ledger isn't used again.
+    /// Raises the tree by so many transactions, at most to the last one, by all of them or by none, and leaves the
+    /// disk as it is. It hashes the leaves that are added. Its only error is want of memory, and nothing has changed
+    /// then.
     pub fn link<H: Hash32>(&mut self, hash: &H, count: u64) -> Result<(), AllocError>
         requires { IsLedger (H.digest hash.now) self.old.held }
         ensures journal { self.new.journal ≡ self.old.journal }
@@ -166,6 +167,7 @@ impl<D: Disk> KeptLedger<D> {
         ensures size { OnOk result (length self.new.held.tree ≡ min (length self.old.held.tree + count) (length self.old.held.transactions)) }
         ensures ledger { OnOk result (IsLedger (H.digest hash.now) self.new.held) }
         ensures kept { IsKept D.told (H.digest hash.now) self.old → OnOk result (IsKept D.told (H.digest hash.now) self.new) }
+        ensures err { OnErr result (self.new ≡ self.old) }
     {
         self.ledger.link(hash, count)?;
         Ok(())

@@ -1,4 +1,4 @@
-ghost use Rattle.std.specs.Prelude.{◌≡◌, ◌≤◌, ℕ, List, length, take, IfOk, OnOk};
+ghost use Rattle.std.specs.Prelude.{◌≡◌, ◌≤◌, ℕ, List, length, take, IfOk, OnErr, OnOk};
 ghost use Rattle.im_levels.specs.Leveled.{IsLeveled};
 ghost use Rattle.im_model.specs.History.{bl_root_of};
 ghost use Rattle.im_opening.specs.Reach.{txs_of};
@@ -183,15 +183,15 @@ impl Ledger {
         self.book.header_for(alloc, hash, tx, top, eh)
     }
 
-    /// Raises the tree by so many transactions, at most to the last one. It hashes the leaves that are added, and
-    /// no other ones. Its only error is want of memory. After an error the tree may have some of the leaves, and
-    /// the ledger isn't used again.
+    /// Raises the tree by so many transactions, at most to the last one: by all of them, or by none. It hashes the
+    /// leaves that are added, and no other ones. Its only error is want of memory, and the ledger is then unchanged.
     pub fn link<H: Hash32>(&mut self, hash: &H, count: u64) -> Result<(), AllocError>
         requires { IsLedger (H.digest hash.now) self.old }
         ensures same { self.new.transactions ≡ self.old.transactions }
         ensures kept { (self.new.headers ≡ self.old.headers) × (self.new.alhs ≡ self.old.alhs) }
         ensures size { OnOk result (length self.new.tree ≡ min (length self.old.tree + count) (length self.old.transactions)) }
         ensures ledger { OnOk result (IsLedger (H.digest hash.now) self.new) }
+        ensures err { OnErr result (self.new ≡ self.old) }
     {
         let end = self.tree.size().saturating_add(count).min(self.book.len());
         let alhs = self.book.alhs();
@@ -200,13 +200,14 @@ impl Ledger {
     }
 }
 
-// Raises a tree of the first of these Alh to a size. It hashes the leaves that are added.
+// Raises a tree of the first of these Alh to a size, or leaves it as it was. It hashes the leaves that are added.
 fn raise<H: Hash32>(hash: &H, tree: &mut Tree, alhs: &[D32], end: usize) -> Result<(), AllocError>
     requires tree { IsLeveled (H.digest hash.now) (take tree.old.size alhs.now) tree.old }
     requires up { tree.old.size ≤ end }
     requires within { end ≤ length alhs.now }
     ensures size { OnOk result (tree.new.size ≡ end) }
     ensures leaves { OnOk result (IsLeveled (H.digest hash.now) (take end alhs.now) tree.new) }
+    ensures err { OnErr result (tree.new ≡ tree.old) }
 {
     let start = tree.size() as usize;
     tree.extend(hash, &alhs[start..end])?;

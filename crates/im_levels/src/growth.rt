@@ -1,4 +1,4 @@
-ghost use Rattle.std.specs.Prelude.{◌≡◌, ℕ, ◌<◌, ◌≤◌, ◌+◌, ◌-◌, ◌*◌, ◌^◌, List, [], ◌∷◌, ◌++◌, length, slice_index_or, OnOk, OnErr};
+ghost use Rattle.std.specs.Prelude.{◌≡◌, ℕ, ◌<◌, ◌≤◌, ◌+◌, ◌-◌, ◌*◌, ◌^◌, List, [], ◌∷◌, ◌++◌, length, take, slice_index_or, OnOk, OnErr};
 ghost use Rattle.im_model.specs.Trees.{root};
 ghost use Rattle.im_levels.specs.Counts.{whole};
 ghost use Rattle.im_levels.specs.Leveled.{leaves_of, AreStored, IsLeveled, stored};
@@ -24,6 +24,7 @@ pub fn add_leaf<H: Hash32, L: Ledger>(
     requires { length digests.old ≡ whole size }
     ensures room { OnOk result (size + 1 < 2 ^ 64) }
     ensures filled { OnOk result (length digests.new ≡ whole (size + 1)) }
+    ensures front { OnOk result (take (length digests.old) digests.new ≡ digests.old) }
     ensures leaves { OnOk result ((leaves : List (List ℕ)) → IsLeveled (H.digest hash.now) leaves (stored digests.old size)
         → IsLeveled (H.digest hash.now) (leaves ++ alh.now ∷ []) (stored digests.new (size + 1))) }
     ensures err { OnErr result (digests.new ≡ digests.old) }

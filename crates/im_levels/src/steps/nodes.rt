@@ -21,7 +21,7 @@ impl Model for Nodes {
 }
 
 impl Nodes {
-    ghost use Rattle.std.specs.Prelude.{◌≡◌, ◌<◌, ◌≤◌, ℕ, ◌+◌, ◌^◌, List, [], ◌++◌, length, OnOk, OnErr};
+    ghost use Rattle.std.specs.Prelude.{◌≡◌, ◌<◌, ◌≤◌, ℕ, ◌+◌, ◌^◌, List, [], ◌++◌, length, take, OnOk, OnErr};
     ghost use Rattle.im_digest.specs.Digests.{Hash};
     ghost use Rattle.im_model.specs.Trees.{root};
     ghost use Rattle.im_levels.specs.Counts.{whole};
@@ -73,5 +73,12 @@ impl Nodes {
     {
         self.digests.extend_from_slice(more)?;
         Ok(())
+    }
+
+    /// Goes back to the first so many digests.
+    pub fn cut(&mut self, count: usize)
+        ensures { self.new ≡ take count self.old }
+    {
+        self.digests.truncate(count);
     }
 }

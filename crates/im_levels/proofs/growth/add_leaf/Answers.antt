@@ -1,4 +1,5 @@
-use Rattle.std.proofs.Common.{arith}
+use Rattle.std.proofs.Common.{ℕ, List, length, take, refl, arith, ap, ◌∙◌}
+use Rattle.std.proofs.lemmas.List.{take_at}
 use Rattle.im_levels.proofs.FreshLemmas.{filled-more, leveled-more, fresh-bound}
 use Rattle.im_levels.proofs.growth.add_leaf.Goals as goal
 
@@ -14,6 +15,11 @@ returns-clause-room g c = c.next_fits.ensures
 pub returns-clause-filled : goal.returns-clause-filled
 returns-clause-filled g c =
     filled-more _ _ _ _ _ c.in_ok-add.ensures.ok c.as_slice-more.ensures.value c.requires c.fresh_digests-fresh.ensures.count
+
+pub returns-clause-front : goal.returns-clause-front
+returns-clause-front g c =
+    let before : List (List ℕ) = c.args.digests.now in
+    ap (λ (l : List (List ℕ)). take (length before) l) c.in_ok-add.ensures.ok ∙ take_at before c.as_slice-more.result.now (length before) refl
 
 pub returns-clause-leaves : goal.returns-clause-leaves
 returns-clause-leaves g c leaves f =

@@ -1,10 +1,10 @@
 use Rattle.std.proofs.Common.{◌≡◌, ◌≤◌, ◌+◌, ℕ, List, length, min, take, refl, ap, subst, ◌∙◌, arith}
 use Rattle.std.proofs.lemmas.List.{length-take-le}
 use Rattle.im_digest.specs.Digests.{Hash}
-use Rattle.im_levels.specs.Leveled.{IsLeveled}
+use Rattle.im_levels.specs.Leveled.{IsLeveled, Stored}
 use Rattle.im_model.proofs.HistoryLemmas.{length-alhs_of}
 use Rattle.im_ledger.specs.Ledgers.{Held, IsLedger}
-use Rattle.im_ledger.proofs.LedgerLemmas.{held-same, ledger-raised, raised_to}
+use Rattle.im_ledger.proofs.LedgerLemmas.{held-same, held_of, ledger-raised, raised_to}
 use Rattle.im_ledger.proofs.RootLemmas.{first-kept}
 use Rattle.im_ledger.proofs.ledger.Ledger.link.Goals as goal
 
@@ -81,3 +81,7 @@ returns-clause-ledger g c =
     (ap (λ (h : Held). h.transactions) c.self.view_is) (ap (λ (h : Held). h.headers) c.self.view_is) (ap (λ (h : Held). h.alhs) c.self.view_is)
     (ap (λ (n : ℕ). take n c.self.inside.book.alhs) sized ∙ ap (λ (ds : List (List ℕ)). take end ds) book) refl
     (ledger-raised hash held end c.raise.new.tree c.requires up inside kept)
+
+pub returns-in_err-raise-clause-err : goal.returns-in_err-raise-clause-err
+returns-in_err-raise-clause-err g c =
+    ap (λ (t : Stored). held_of c.self.inside.book.transactions c.self.inside.book.headers c.self.inside.book.alhs t) c.in_err-raise.ensures.err ∙ c.self.view_is
