@@ -28,6 +28,10 @@ told_by d = told_of d.first d.calls
 abbrev pub fails_next : Recorded → Bool
 fails_next d = list_any (λ number. number == length d.calls + 1) d.failing
 
+-- with the next changing call to fail, too
+abbrev pub failing_next : Recorded → Recorded
+failing_next d = record { first = d.first; calls = d.calls; failing = d.failing ++ (length d.calls + 1) ∷ []; faults = d.faults }
+
 -- after one changing call more
 abbrev pub with_call : Call → Recorded → Recorded
 with_call call d = record { first = d.first; calls = d.calls ++ call ∷ []; failing = d.failing; faults = d.faults }

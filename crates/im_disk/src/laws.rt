@@ -1,8 +1,9 @@
 //! What holds of the definitions. Each function does nothing, and its contract is the law.
 
-ghost use Rattle.std.specs.Prelude.{◌≡◌, ◌↔◌, ℕ};
+ghost use Rattle.std.specs.Prelude.{◌≡◌, ◌↔◌, ℕ, IsTrue};
 ghost use Rattle.im_disk.specs.declared.calls.Call.TheVariants.{Synced};
 ghost use Rattle.im_disk.specs.Disk.{Files, Told, Images, ImagesSince, seen, time, after};
+ghost use Rattle.im_disk.specs.Recorded.{Recorded, failing_next, fails_next};
 ghost use Rattle.im_disk.specs.Records.{AreWithin};
 
 /// What reads give is one of the images that a crash may leave, where each write lay within what
@@ -22,4 +23,9 @@ pub fn a_sync_is_durable()
 /// The images of the moments since now are those of now.
 pub fn moments_end_now()
     ensures { (t : Told) (image : Files) → ImagesSince t (time t) image ↔ Images t image }
+{}
+
+/// The next changing call of a disk in memory that was told that it is to fail is one that fails.
+pub fn a_disk_told_to_fail_fails_next()
+    ensures { (d : Recorded) → IsTrue (fails_next (failing_next d)) }
 {}

@@ -1,8 +1,8 @@
-ghost use Rattle.std.specs.Prelude.{◌≡◌, ◌≤◌, ◌<◌, ◌+◌, ◌^◌, ℕ, [], length, take, drop, reverse, IsTrue, IfOk};
+ghost use Rattle.std.specs.Prelude.{◌≡◌, ◌≤◌, ◌<◌, ◌+◌, ◌^◌, ℕ, [], length, take, drop, reverse, IsTrue, IfOk, OnErr, OnOk};
 ghost use Rattle.im_disk.specs.declared.disk.DiskError.TheVariants.{Failed, Memory};
 ghost use Rattle.im_disk.specs.Disk.{seen};
 ghost use Rattle.im_disk.specs.Records.{files_of, AreWithin, FitsBehind};
-ghost use Rattle.im_disk.specs.Recorded.{unchanged, told_by, fails_next, with_failure, is_failure};
+ghost use Rattle.im_disk.specs.Recorded.{unchanged, told_by, fails_next, failing_next, with_failure, is_failure};
 
 use crate::calls::Call;
 use crate::content::Content;
@@ -13,8 +13,9 @@ use std::marker::Model;
 
 /// A double for tests: a disk in memory, which keeps each changing call, and tells by them what a
 /// crash may leave at any moment. Some changing calls are to fail: those change no octet that reads
-/// give, and count as written. No other call fails. A clause sees the files at first, the changing
-/// calls, the numbers of those that are to fail, and how often it has failed, at most `u64::MAX`.
+/// give, and count as written. No other call fails. Which ones are to fail is told as it is made, and
+/// `fail_next` adds to them. A clause sees the files at first, the changing calls, the numbers of those
+/// that are to fail, and how often it has failed, at most `u64::MAX`.
 ///
 /// `read` copies its octets once, and a write that succeeds copies its piece twice, for the record and
 /// for the file. A changing call looks for its number among all of those that are to fail.
@@ -118,6 +119,19 @@ impl MemDisk {
         ensures { result ≡ self.now.faults }
     {
         self.faults
+    }
+
+    /// Has the next changing call fail, beside those that are to fail already. Its only error is want of
+    /// memory, and leaves the disk as it was. It tells what it told. That the next call then fails is said by
+    /// the law `a_disk_told_to_fail_fails_next`.
+    pub fn fail_next(&mut self) -> Result<(), AllocError>
+        ensures ok { OnOk result (self.new ≡ failing_next self.old) }
+        ensures told { told_by self.new ≡ told_by self.old }
+        ensures err { OnErr result (self.new ≡ self.old) }
+    {
+        let number = self.calls.len() as u64 + 1;
+        self.failing.push(number)?;
+        Ok(())
     }
 
     // Whether the next changing call is to fail.

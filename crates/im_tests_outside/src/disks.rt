@@ -86,6 +86,30 @@ fn a_disk_in_memory(rt: HostRuntime) -> Result<(), Fail> {
     Ok(())
 }
 
+// Whether a call fails exactly where it was told to, and the one behind it doesn't.
+fn fails_once(alloc: Global) -> Result<bool, AllocError> {
+    let mut disk = MemDisk::new(alloc, vec![in alloc; 2]?)?;
+    let first = disk.write_at(3, 0, b"abc") == Ok(());
+    let second = disk.sync() == Err(DiskError::Failed);
+    disk.fail_next()?;
+    let third = disk.write_at(3, 0, b"XY") == Err(DiskError::Failed);
+    let fourth = disk.sync() == Ok(());
+    Ok(
+        first
+            && second
+            && third
+            && fourth
+            && disk.file(3) == b"abc".as_slice()
+            && disk.faults() == 2,
+    )
+}
+
+#[test]
+fn a_disk_that_is_told_to_fail(rt: HostRuntime) -> Result<(), Fail> {
+    assert!(rt; fails_once(rt.alloc())?);
+    Ok(())
+}
+
 // The two files of a disk that held `abc` and `de`, behind a write of `f` at the end of the second.
 fn left(alloc: Global) -> Result<Option<Vec<Octets>>, AllocError> {
     let first = vec![in alloc;
