@@ -7,10 +7,9 @@ use Rattle.im_disk.specs.Disk.{Files, Told, after}
 use Rattle.im_disk.specs.Moments.{Leaves}
 use Rattle.im_disk.specs.declared.calls.Call.TheVariants.{Synced}
 use Rattle.im_disk.proofs.Leaving.{leaves_weaker}
-use Rattle.im_format.specs.Standing.{Stands}
+use Rattle.im_format.specs.Standing.{Stands, StandsFrom}
 use Rattle.im_model.specs.declared.transactions.Transaction.{Transaction}
 use Rattle.im_opening.specs.Cut.{WasOpened}
-use Rattle.im_session.specs.Served.{StandsFrom}
 use Rattle.im_app.specs.Runs.{ContinuesHistory, KeepsFound}
 
 -- an image that stands for the history itself

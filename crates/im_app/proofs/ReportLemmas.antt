@@ -8,7 +8,7 @@ use Rattle.im_disk.specs.Moments.{Leaves}
 use Rattle.im_disk.specs.declared.calls.Call.TheVariants.{Synced}
 use Rattle.im_disk.proofs.Leaving.{leaves_both, leaves_weaker}
 use Rattle.im_format.specs.Batches.{gate_of}
-use Rattle.im_format.specs.Standing.{HasBatches, Stands}
+use Rattle.im_format.specs.Standing.{HasBatches, Stands, StandsFrom}
 use Rattle.im_format.specs.declared.records.Record.{Record}
 use Rattle.im_model.specs.declared.transactions.Transaction.{Transaction}
 use Rattle.im_text.specs.Fields.{IsSession}
@@ -18,7 +18,7 @@ use Rattle.im_accept.proofs.CutLemmas.{report-texts, script-sessions}
 use Rattle.im_accept.proofs.TakenLemmas.{report-taken}
 use Rattle.im_ledger.specs.declared.errors.CommitError.{CommitError}
 use Rattle.im_opening.specs.Cut.{IsOpenedBy}
-use Rattle.im_session.specs.Served.{Serves, ServesAll, ServesFront, StandsFrom, StopsAt}
+use Rattle.im_session.specs.Served.{Serves, ServesAll, ServesFront, StopsAt}
 use Rattle.im_app.specs.Runs.{IsGiven, IsReport, IsWholeReport}
 
 -- the first lines of a script have sessions' names too

@@ -8,7 +8,7 @@ use Rattle.im_disk.specs.Disk.{Files, Told, after, seen}
 use Rattle.im_disk.specs.Moments.{Leaves, LeavesNow}
 use Rattle.im_disk.specs.declared.calls.Call.TheVariants.{Synced, Missed}
 use Rattle.im_format.specs.Batches.{gate_of}
-use Rattle.im_format.specs.Standing.{Stands}
+use Rattle.im_format.specs.Standing.{Stands, StandsFrom}
 use Rattle.im_model.specs.declared.transactions.Transaction.{Transaction}
 use Rattle.im_report.specs.Report.{Report, floor_after}
 use Rattle.im_script.specs.Script.{IsScript}
@@ -21,7 +21,7 @@ use Rattle.im_opening.specs.declared.errors.OpenError.{OpenError}
 use Rattle.im_opening.specs.declared.errors.OpenError.TheVariants as opened
 use Rattle.im_session.specs.Made.{MakesCalls}
 use Rattle.im_session.specs.Put.{StandsPut}
-use Rattle.im_session.specs.Served.{IsLeft, StandsFrom, StandsWith, StopsAt}
+use Rattle.im_session.specs.Served.{IsLeft, StandsWith, StopsAt}
 use Rattle.im_session.specs.Turns.{AskedFor, HasTime}
 
 -- these octets are a script that isn't too long

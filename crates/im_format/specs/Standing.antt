@@ -1,5 +1,5 @@
 -- What an image of the files stands for.
-use Rattle.std.specs.Prelude.{◌≡◌, ◌<◌, ◌≤◌, ◌+◌, ℕ, List, length, map, All}
+use Rattle.std.specs.Prelude.{◌≡◌, ◌<◌, ◌≤◌, ◌+◌, ℕ, List, length, map, take, All}
 use Rattle.im_digest.specs.Digests.{Hash}
 use Rattle.im_disk.specs.Disk.{Files}
 use Rattle.im_model.specs.History.{IsHistory}
@@ -30,3 +30,10 @@ pub record Stands (hash : Hash) (image : Files) (history : List Transaction) : T
   pub transactions_are : map (λ r. r.tx) (joined batches) ≡ history
   pub history_is : IsHistory history
   pub records_are : AreRecords hash history 1 (joined batches)
+
+-- the image stands for the first transactions of a history: at least so many of them
+pub record StandsFrom (hash : Hash) (least : ℕ) (history : List Transaction) (image : Files) : Type 0 where
+  pub count : ℕ
+  pub no_fewer : least ≤ count
+  pub no_more : count ≤ length history
+  pub stands : Stands hash image (take count history)

@@ -9,7 +9,7 @@ use Rattle.im_digest.specs.Digests.{Hash}
 use Rattle.im_disk.specs.Disk.{Files, Told as DiskTold, seen}
 use Rattle.im_disk.specs.Moments.{Leaves, LeavesNow}
 use Rattle.im_disk.proofs.Leaving.{leaves_both, leaves_nothing, leaves_weaker}
-use Rattle.im_format.specs.Standing.{Stands}
+use Rattle.im_format.specs.Standing.{Stands, StandsFrom}
 use Rattle.im_journal.specs.Kept.{Kept}
 use Rattle.im_ledger.specs.Histories.{KeptHistory}
 use Rattle.im_ledger.specs.Ledgers.{Held}
@@ -24,7 +24,7 @@ use Rattle.im_script.specs.declared.commands.Line.{Line}
 use Rattle.im_session.specs.Made.{MakesCalls}
 use Rattle.im_session.specs.Moves.{MayPlace, StandsBetween}
 use Rattle.im_session.specs.Put.{StandsPut}
-use Rattle.im_session.specs.Served.{IsLeft, IsWhy, ReachesDisk, Serves, ServesAll, ServesFront, StandsFrom, StandsWith}
+use Rattle.im_session.specs.Served.{IsLeft, IsWhy, ReachesDisk, Serves, ServesAll, ServesFront, StandsWith}
 use Rattle.im_session.specs.Turns.{AskedFor, HasTime, Turn}
 use Rattle.im_session.proofs.AgainLemmas.{Told, report-again}
 use Rattle.im_session.proofs.TimeLemmas.{asked-both, asked-ended}

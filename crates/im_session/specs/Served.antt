@@ -1,9 +1,9 @@
 -- What a session made of the lines of a script, and what it left on the disk.
-use Rattle.std.specs.Prelude.{◌≡◌, ◌⊎◌, ℤ, ℕ, ◌≤◌, List, [], ◌∷◌, ◌++◌, length, map, take, drop, All, Option, None, IfSome, Result, Ok, Err}
+use Rattle.std.specs.Prelude.{◌≡◌, ◌⊎◌, ℤ, ℕ, List, [], ◌∷◌, ◌++◌, length, map, take, drop, All, Option, None, IfSome, Result, Ok, Err}
 use Rattle.im_digest.specs.Digests.{Hash}
 use Rattle.im_disk.specs.Disk.{Files, Told, seen}
 use Rattle.im_disk.specs.Moments.{Leaves, LeavesNow}
-use Rattle.im_format.specs.Standing.{Stands}
+use Rattle.im_format.specs.Standing.{Stands, StandsFrom}
 use Rattle.im_model.specs.declared.transactions.Transaction.{Transaction}
 use Rattle.im_draft.specs.Drafts.{entry_of, AreEntries, AreFree}
 use Rattle.im_draft.specs.declared.drafts.Draft.{Draft}
@@ -19,13 +19,6 @@ use Rattle.im_ledger.specs.declared.errors.CommitError.TheVariants.{DiskFault, M
 use Rattle.im_session.specs.Made.{MakesCalls}
 use Rattle.im_session.specs.Put.{StandsPut}
 use Rattle.im_session.specs.Turns.{AskedFor, HasTime}
-
--- the image stands for the first transactions of a history: at least so many of them
-pub record StandsFrom (hash : Hash) (least : ℕ) (history : List Transaction) (image : Files) : Type 0 where
-  pub count : ℕ
-  pub no_fewer : least ≤ count
-  pub no_more : count ≤ length history
-  pub stands : Stands hash image (take count history)
 
 -- the image stands for a history, or for it with what was placed behind it
 abbrev pub StandsWith : Hash → List Transaction → List Transaction → Files → Type 0

@@ -4,7 +4,7 @@ use Rattle.im_disk.specs.Moments.{Leaves}
 use Rattle.im_report.proofs.ReportLemmas.{Standing}
 use Rattle.im_ledger.specs.Histories.{IsKept}
 use Rattle.im_session.specs.Put.{IsKeptPut}
-use Rattle.im_session.specs.Served.{StandsFrom}
+use Rattle.im_format.specs.Standing.{StandsFrom}
 use Rattle.im_session.specs.Turns.{AskedFor, HasTime, IsIndexWithin}
 use Rattle.im_session.proofs.AgainLemmas.{Told}
 use Rattle.im_session.proofs.serve.serve.Given as goal
