@@ -8,6 +8,7 @@ pub mod Placing
 pub mod Prefixes
 pub mod Same
 pub mod Shown
+pub mod Single
 pub mod Torn
 pub mod Turns
 pub mod Whole

@@ -1,5 +1,5 @@
 -- What a journal keeps, and the states that it goes through.
-use Rattle.std.specs.Prelude.{◌≡◌, ◌⊎◌, ◌+◌, ℕ, List, [], length, take, drop, Option, IfSome}
+use Rattle.std.specs.Prelude.{◌≡◌, ◌⊎◌, ◌+◌, ℕ, List, [], length, take, drop, nat_lt, if◌then◌else◌, Option, IfSome}
 use Rattle.im_digest.specs.Digests.{Hash}
 use Rattle.im_disk.specs.Disk.{Files, Told}
 use Rattle.im_model.specs.declared.transactions.Transaction.{Transaction}
@@ -31,6 +31,10 @@ pub record Kept (D : Type 0) : Type 0 where
   pub durable : ℕ
   pub batch : Batch
   pub failures : ℕ
+
+-- how far a batch is of which so many pieces are written, of so many
+abbrev pub step_behind : ℕ → ℕ → Step
+step_behind written count = if nat_lt written count then Staging else Staged
 
 -- a batch is in progress, and all of it is written but for its gate
 abbrev pub HasStaged : Step → Type 0

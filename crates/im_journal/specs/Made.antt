@@ -1,5 +1,5 @@
 -- Which changing calls of the disk the steps of a batch make.
-use Rattle.std.specs.Prelude.{◌≡◌, ◌+◌, ℕ, List, [], ◌∷◌, ◌++◌, length, drop, Option, Result, OnOk, IsErrOf}
+use Rattle.std.specs.Prelude.{◌≡◌, ◌+◌, ℕ, List, [], ◌∷◌, ◌++◌, length, take, drop, Option, Result, OnOk, IsErrOf}
 use Rattle.std.specs.Option.{option_map}
 use Rattle.im_disk.specs.Disk.{Told, after}
 use Rattle.im_disk.specs.Grown.{after_all}
@@ -51,6 +51,10 @@ spans_to_stage Gated k handed = []
 -- the calls of staging: one write for each of them
 abbrev pub calls_to_stage : {D : Type 0} → Kept D → List Record → List Call
 calls_to_stage k handed = writes_of (spans_to_stage k.batch.step k handed)
+
+-- the call of writing the next piece of the batch in progress: none where all are written
+abbrev pub call_to_put : {D : Type 0} → Kept D → List Call
+call_to_put k = writes_of (take 1 (drop k.batch.written k.batch.pieces))
 
 -- the calls of sealing at a step: one sync, where it isn't done
 abbrev pub calls_to_seal : Step → List Call

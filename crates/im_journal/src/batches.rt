@@ -1,3 +1,6 @@
+ghost use Rattle.std.specs.Prelude.{◌≡◌, length};
+ghost use Rattle.im_journal.specs.Kept.{step_behind};
+
 use crate::ends::Ends;
 use im_format::spans::Span;
 
@@ -32,4 +35,15 @@ pub(crate) struct Batch {
     pub(crate) ends: Ends,
     /// The number of its transactions.
     pub(crate) count: u64,
+}
+
+/// How far a batch is by its pieces that are written.
+pub(crate) fn step_behind(batch: &Batch) -> Step
+    ensures { result ≡ step_behind batch.now.written (length batch.now.pieces.items) }
+{
+    if batch.written < batch.pieces.len() {
+        Step::Staging
+    } else {
+        Step::Staged
+    }
 }

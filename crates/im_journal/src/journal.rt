@@ -7,18 +7,19 @@ ghost use Rattle.im_format.specs.Standing.{Stands};
 ghost use Rattle.im_format.specs.declared.records.Record.{Record};
 ghost use Rattle.im_journal.specs.Faults.{IsCounted};
 ghost use Rattle.im_journal.specs.Holding.{AreFirst, AreNext, IsResting};
-ghost use Rattle.im_journal.specs.Kept.{CanStage, HasSealed, HasStaged, IsAtRest, IsInBatch, StandsBy};
-ghost use Rattle.im_journal.specs.Made.{Makes, calls_to_seal, calls_to_settle, calls_to_stage, writes_of};
+ghost use Rattle.im_journal.specs.Kept.{CanStage, HasSealed, HasStaged, IsAtRest, IsInBatch, StandsBy, step_behind};
+ghost use Rattle.im_journal.specs.Made.{Makes, call_to_put, calls_to_seal, calls_to_settle, calls_to_stage, writes_of};
 ghost use Rattle.im_journal.specs.Pieces.{pieces_of};
 ghost use Rattle.im_journal.specs.declared.batches.Step.TheVariants.{Idle, Staging, Staged, Sealed, Gated};
 
 mod reading;
+mod single;
 
-use crate::batches::{Batch, Step};
+use crate::batches::{Batch, Step, step_behind};
 use crate::ends::Ends;
 use crate::errors::JournalError;
 use crate::pieces::plan_of;
-use crate::steps::{open_gate, put_pieces, seal_pieces, settle_gate};
+use crate::steps::{open_gate, put_next, put_pieces, seal_pieces, settle_gate};
 use im_disk::disk::{Disk, DiskError};
 use im_format::records::Record;
 use std::alloc::{AllocError, Global};
@@ -126,7 +127,7 @@ impl<D: Disk> Journal<D> {
         self.go()?;
         match self.batch.step {
             Step::Idle => {
-                self.begin(alloc, records)?;
+                self.begin_batch(alloc, records)?;
                 self.put_batch()
             }
             Step::Staging => self.put_batch(),
@@ -153,6 +154,7 @@ impl<D: Disk> Journal<D> {
             → Leaves (StandsBy self.old.batch.step hash history self.old.durable (length rs)) (D.told self.old.disk) (D.told self.new.disk) }
         ensures kept { (self.new.ends ≡ self.old.ends) × (self.new.durable ≡ self.old.durable) }
         ensures batch { OnErr result (self.new.batch ≡ self.old.batch) }
+        ensures pieces { (self.new.batch.pieces ≡ self.old.batch.pieces) × (self.new.batch.ends ≡ self.old.batch.ends) × (self.new.batch.count ≡ self.old.batch.count) }
         ensures calls { Makes JournalError.DiskFault JournalError.Memory (calls_to_seal self.old.batch.step) (calls_to_seal self.new.batch.step) (D.told self.old.disk) (D.told self.new.disk) result }
         ensures counted { IsCounted (D.faults self.old.disk) (D.faults self.new.disk) self.old.failures self.new.failures result }
         ensures stopped { 0 < self.old.failures → (result ≡ Err (JournalError.Stopped self.old.failures)) × (self.new ≡ self.old) }
@@ -185,6 +187,7 @@ impl<D: Disk> Journal<D> {
             → IsInBatch D.told hash history batches rs self.old
             → OnOk result (LeavesNow (λ image. Stands hash image (take self.new.durable history)) (D.told self.new.disk)) }
         ensures moved { OnOk result ((self.new.durable ≡ self.old.durable + self.old.batch.count) × (self.new.ends ≡ self.old.batch.ends)) }
+        ensures step { OnOk result (self.new.batch.step ≡ Idle) }
         ensures again { (hash : Hash) (history : List Transaction) (batches : List (List Record)) (rs : List Record)
             → IsInBatch D.told hash history batches rs self.old → IsErrOf result JournalError.Memory
             → IsInBatch D.told hash history batches rs self.new × HasSealed self.new.batch.step }
@@ -236,7 +239,7 @@ impl<D: Disk> Journal<D> {
     }
 
     // Begins a batch.
-    fn begin(&mut self, alloc: Global, records: &[Record]) -> Result<(), AllocError>
+    fn begin_batch(&mut self, alloc: Global, records: &[Record]) -> Result<(), AllocError>
         requires idle { self.old.batch.step ≡ Idle }
         requires next { (hash : Hash) × (history : List Transaction) × (batches : List (List Record))
             × IsAtRest D.told hash history batches self.old × AreNext hash history batches self.old.durable records.now }
@@ -298,6 +301,46 @@ impl<D: Disk> Journal<D> {
         }
     }
 
+    // Writes the next piece of the batch.
+    fn put_one(&mut self) -> Result<(), JournalError>
+        requires staging { self.old.batch.step ≡ Staging }
+        requires left { self.old.batch.written < length self.old.batch.pieces }
+        requires mid { (hash : Hash) × (history : List Transaction) × (batches : List (List Record)) × (rs : List Record)
+            × IsInBatch D.told hash history batches rs self.old }
+        ensures ok { (hash : Hash) (history : List Transaction) (batches : List (List Record)) (rs : List Record)
+            → IsInBatch D.told hash history batches rs self.old → OnOk result (IsInBatch D.told hash history batches rs self.new) }
+        ensures step { OnOk result (self.new.batch.step ≡ step_behind (self.old.batch.written + 1) (length self.old.batch.pieces)) }
+        ensures written { OnOk result (self.new.batch.written ≡ self.old.batch.written + 1) }
+        ensures memory { (hash : Hash) (history : List Transaction) (batches : List (List Record)) (rs : List Record)
+            → IsInBatch D.told hash history batches rs self.old → IsErrOf result JournalError.Memory
+            → IsInBatch D.told hash history batches rs self.new }
+        ensures any_moment { (hash : Hash) (history : List Transaction) (batches : List (List Record)) (rs : List Record)
+            → IsInBatch D.told hash history batches rs self.old
+            → Leaves (λ image. Stands hash image (take self.old.durable history)) (D.told self.old.disk) (D.told self.new.disk) }
+        ensures kept { (self.new.ends ≡ self.old.ends) × (self.new.durable ≡ self.old.durable) }
+        ensures pieces { (self.new.batch.pieces ≡ self.old.batch.pieces) × (self.new.batch.ends ≡ self.old.batch.ends) × (self.new.batch.count ≡ self.old.batch.count) }
+        ensures err { OnErr result ((self.new.batch.step ≡ self.old.batch.step) × (self.new.batch.written ≡ self.old.batch.written)) }
+        ensures calls { Makes JournalError.DiskFault JournalError.Memory (call_to_put self.old) (call_to_put self.old) (D.told self.old.disk) (D.told self.new.disk) result }
+        ensures counted { IsCounted (D.faults self.old.disk) (D.faults self.new.disk) self.old.failures self.new.failures result }
+        ensures going { (faults : ℕ) → IsErrOf result (JournalError.Stopped faults) → ⊥ }
+    {
+        match put_next(
+            &mut self.disk,
+            self.batch.pieces.as_slice(),
+            &mut self.batch.written,
+        ) {
+            Ok(()) => {
+                self.batch.step = step_behind(&self.batch);
+                Ok(())
+            }
+            Err(DiskError::Failed) => {
+                self.failures = self.failures.saturating_add(1);
+                Err(JournalError::DiskFault)
+            }
+            Err(DiskError::Memory) => Err(JournalError::Memory),
+        }
+    }
+
     // Makes the pieces of the batch durable.
     fn seal_batch(&mut self) -> Result<(), JournalError>
         requires staged { self.old.batch.step ≡ Staged }
@@ -311,6 +354,7 @@ impl<D: Disk> Journal<D> {
             → IsInBatch D.told hash history batches rs self.old
             → Leaves (λ image. Stands hash image (take self.old.durable history)) (D.told self.old.disk) (D.told self.new.disk) }
         ensures kept { (self.new.ends ≡ self.old.ends) × (self.new.durable ≡ self.old.durable) }
+        ensures pieces { (self.new.batch.pieces ≡ self.old.batch.pieces) × (self.new.batch.ends ≡ self.old.batch.ends) × (self.new.batch.count ≡ self.old.batch.count) }
         ensures err { OnErr result (self.new.batch ≡ self.old.batch) }
         ensures calls { Makes JournalError.DiskFault JournalError.Memory (Synced ∷ []) (Synced ∷ []) (D.told self.old.disk) (D.told self.new.disk) result }
         ensures counted { IsCounted (D.faults self.old.disk) (D.faults self.new.disk) self.old.failures self.new.failures result }
@@ -345,6 +389,7 @@ impl<D: Disk> Journal<D> {
             → Leaves (StandsBy Gated hash history self.old.durable (length rs)) (D.told self.old.disk) (D.told self.new.disk) }
         ensures kept { (self.new.ends ≡ self.old.ends) × (self.new.durable ≡ self.old.durable)
             × (self.new.batch.ends ≡ self.old.batch.ends) × (self.new.batch.count ≡ self.old.batch.count) }
+        ensures pieces { self.new.batch.pieces ≡ self.old.batch.pieces }
         ensures err { OnErr result (self.new.batch ≡ self.old.batch) }
         ensures calls { Makes JournalError.DiskFault JournalError.Memory (Wrote 1 self.old.ends.commits (1 ∷ []) ∷ []) (Wrote 1 self.old.ends.commits (1 ∷ []) ∷ []) (D.told self.old.disk) (D.told self.new.disk) result }
         ensures counted { IsCounted (D.faults self.old.disk) (D.faults self.new.disk) self.old.failures self.new.failures result }
@@ -372,6 +417,7 @@ impl<D: Disk> Journal<D> {
             → IsInBatch D.told hash history batches rs self.old
             → OnOk result (IsAtRest D.told hash history (batches ++ rs ∷ []) self.new) }
         ensures moved { OnOk result ((self.new.durable ≡ self.old.durable + self.old.batch.count) × (self.new.ends ≡ self.old.batch.ends)) }
+        ensures step { OnOk result (self.new.batch.step ≡ Idle) }
         ensures memory { (hash : Hash) (history : List Transaction) (batches : List (List Record)) (rs : List Record)
             → IsInBatch D.told hash history batches rs self.old → IsErrOf result JournalError.Memory
             → IsInBatch D.told hash history batches rs self.new }

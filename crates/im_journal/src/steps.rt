@@ -1,5 +1,5 @@
 // The device calls of a batch, one a function.
-ghost use Rattle.std.specs.Prelude.{◌≡◌, ◌<◌, ◌≤◌, ◌+◌, ◌^◌, ◌++◌, ◌∷◌, [], ℕ, List, length, OnOk, IfSome, IsErrOf, All, take, drop};
+ghost use Rattle.std.specs.Prelude.{◌≡◌, ◌<◌, ◌≤◌, ◌+◌, ◌^◌, ◌++◌, ◌∷◌, [], ℕ, List, length, OnErr, OnOk, IfSome, IsErrOf, All, take, drop};
 ghost use Rattle.im_disk.specs.Disk.{LiesWithin};
 ghost use Rattle.im_disk.specs.Causes.{HasCause};
 ghost use Rattle.im_disk.specs.Moments.{Leaves};
@@ -29,6 +29,41 @@ fn put_piece<D: Disk>(disk: &mut D, piece: &Span) -> Result<(), DiskError>
     ensures cause { HasCause (D.faults disk.old) (D.faults disk.new) result }
 {
     put(disk, piece)
+}
+
+/// Writes the next piece of a batch, and counts it.
+pub(crate) fn put_next<D: Disk>(
+    disk: &mut D,
+    pieces: &[Span],
+    written: &mut usize,
+) -> Result<(), DiskError>
+    requires left { written.old < length pieces.now }
+    requires fit { All FitsDisk pieces.now }
+    requires staging { (ends : ℕ → ℕ) × (spans : List Span) × (gate : ℕ)
+        × IfSome (D.told disk.old) (IsStaging ends spans gate (take written.old pieces.now) (drop written.old pieces.now)) }
+    ensures ok { (ends : ℕ → ℕ) (spans : List Span) (gate : ℕ)
+        → IfSome (D.told disk.old) (IsStaging ends spans gate (take written.old pieces.now) (drop written.old pieces.now))
+        → OnOk result (IfSome (D.told disk.new) (IsStaging ends spans gate (take (written.old + 1) pieces.now) (drop (written.old + 1) pieces.now))) }
+    ensures again { (ends : ℕ → ℕ) (spans : List Span) (gate : ℕ)
+        → IfSome (D.told disk.old) (IsStaging ends spans gate (take written.old pieces.now) (drop written.old pieces.now))
+        → IsErrOf result DiskError.Memory
+        → IfSome (D.told disk.new) (IsStaging ends spans gate (take written.new pieces.now) (drop written.new pieces.now)) }
+    ensures any_moment { (ends : ℕ → ℕ) (spans : List Span) (gate : ℕ)
+        → IfSome (D.told disk.old) (IsStaging ends spans gate (take written.old pieces.now) (drop written.old pieces.now))
+        → Leaves (IsSafe ends spans gate) (D.told disk.old) (D.told disk.new) }
+    ensures one { OnOk result (written.new ≡ written.old + 1) }
+    ensures none { OnErr result (written.new ≡ written.old) }
+    ensures within { written.new ≤ length pieces.now }
+    ensures calls { Makes DiskError.Failed DiskError.Memory (writes_of (take 1 (drop written.old pieces.now))) (writes_of (take 1 (drop written.old pieces.now))) (D.told disk.old) (D.told disk.new) result }
+    ensures cause { HasCause (D.faults disk.old) (D.faults disk.new) result }
+{
+    match put_piece(disk, &pieces[*written]) {
+        Ok(()) => {
+            *written += 1;
+            Ok(())
+        }
+        Err(error) => Err(error),
+    }
 }
 
 /// Writes what is left of the pieces of a batch.

@@ -148,6 +148,9 @@ fn is_stopped<D: Disk>(alloc: Global, journal: &mut Journal<D>, faults: u64) -> 
         && journal.failures() == faults
         && journal.durable() == 0
         && journal.stage(alloc, &[]) == Err(JournalError::Stopped { faults })
+        && journal.begin(alloc, &[]) == Err(JournalError::Stopped { faults })
+        && journal.stage_piece() == Err(JournalError::Stopped { faults })
+        && journal.open_gate() == Err(JournalError::Stopped { faults })
         && journal.seal() == Err(JournalError::Stopped { faults })
         && journal.settle() == Err(JournalError::Stopped { faults })
         && journal.failures() == faults

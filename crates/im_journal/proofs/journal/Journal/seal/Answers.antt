@@ -36,6 +36,7 @@ returns-in_default g c =
       any_moment = λ hash history batches rs mid. stays g.D.Disk.told hash history batches rs c.args.self.now mid;
       kept = (refl, refl);
       batch = tt;
+      pieces = (refl, refl, refl);
       calls = subst (λ (l : List Call). Makes DiskFault Memory l (calls_to_seal c.args.self.now.batch.step) (g.D.Disk.told c.args.self.now.disk) (g.D.Disk.told c.args.self.now.disk) (Ok tt))
           (sym (seal_none c.args.self.now.batch.step (λ e. c.in_default.not-Staged (ap (λ k. k.batch.step) c.self.view_is ∙ e)))) (none_makes tt (calls_to_seal c.args.self.now.batch.step) (g.D.Disk.told c.args.self.now.disk));
       counted = record { later = omega arith; rose = λ e. absurd (ok_isnt tt DiskFault e); more = λ e. absurd (ok_isnt tt DiskFault e); faults = λ n. refl; failures = λ n. refl };
@@ -62,3 +63,6 @@ returns-in-Staged-clause-calls g c =
 
 pub returns-in-Staged-clause-batch : goal.returns-in-Staged-clause-batch
 returns-in-Staged-clause-batch g c = c.seal_batch.ensures.err
+
+pub returns-in-Staged-clause-pieces : goal.returns-in-Staged-clause-pieces
+returns-in-Staged-clause-pieces g c = c.seal_batch.ensures.pieces

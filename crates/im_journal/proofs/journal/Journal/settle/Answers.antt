@@ -79,6 +79,7 @@ returns-in_default g c =
           settled_now g.D.Disk.told hash history batches rs now new call.result mid.count (call.ensures.ok hash history batches rs mid) call.ensures.moved;
       durable = λ hash history batches rs mid. durable_now g.D.Disk.told hash history (batches ++ rs ∷ []) new call.result (call.ensures.ok hash history batches rs mid);
       moved = call.ensures.moved;
+      step = call.ensures.step;
       again = λ hash history batches rs mid memory. (
         call.ensures.memory hash history batches rs mid memory,
         subst HasSealed (sym (ap (λ b. b.step) (err_then call.result Memory ((new.ends ≡ now.ends) × (new.durable ≡ now.durable) × (new.batch ≡ now.batch)) call.ensures.err memory).2 ∙ gated)) tt,
@@ -146,3 +147,6 @@ pub returns-in-Err-clause-left : goal.returns-in-Err-clause-left
 returns-in-Err-clause-left g c e =
     let same = err_then c.open_batch.result DiskFault (c.open_batch.new.self.batch ≡ c.args.self.now.batch) c.open_batch.ensures.err (c.in-Err.is ∙ e) in
     subst HasSealed (sym (ap (λ b. b.step) same ∙ sym (ap (λ j. j.batch.step) c.self.view_is) ∙ c.in-Sealed.is)) tt
+
+pub returns-in-Ok-clause-step : goal.returns-in-Ok-clause-step
+returns-in-Ok-clause-step g c = c.settle_batch.ensures.step

@@ -15,23 +15,23 @@ use Rattle.im_journal.proofs.journal.Journal.stage.Goals as goal
 pub returns-in_err-go-clause-any_moment : goal.returns-in_err-go-clause-any_moment
 returns-in_err-go-clause-any_moment g c hash history batches rs can = can_stay g.D.Disk.told hash history batches rs c.args.records.now c.args.self.now can
 
-pub returns-in_err-begin-in-Idle-clause-any_moment : goal.returns-in_err-begin-in-Idle-clause-any_moment
-returns-in_err-begin-in-Idle-clause-any_moment g c hash history batches rs can =
+pub returns-in_err-begin_batch-in-Idle-clause-any_moment : goal.returns-in_err-begin_batch-in-Idle-clause-any_moment
+returns-in_err-begin_batch-in-Idle-clause-any_moment g c hash history batches rs can =
     let now = c.args.self.now in
-    subst (λ d. Leaves (StandsBy now.batch.step hash history now.durable (length rs)) (g.D.Disk.told now.disk) (g.D.Disk.told d)) (sym c.begin.ensures.disk)
+    subst (λ d. Leaves (StandsBy now.batch.step hash history now.durable (length rs)) (g.D.Disk.told now.disk) (g.D.Disk.told d)) (sym c.begin_batch.ensures.disk)
     (can_stay g.D.Disk.told hash history batches rs c.args.records.now now can)
 
-pub returns-in_ok-begin-in-Idle-clause-any_moment : goal.returns-in_ok-begin-in-Idle-clause-any_moment
-returns-in_ok-begin-in-Idle-clause-any_moment g c hash history batches rs can =
+pub returns-in_ok-begin_batch-in-Idle-clause-any_moment : goal.returns-in_ok-begin_batch-in-Idle-clause-any_moment
+returns-in_ok-begin_batch-in-Idle-clause-any_moment g c hash history batches rs can =
     let told = g.D.Disk.told in
     let now = c.args.self.now in
     let end = told c.put_batch.new.self.disk in
     let idle : now.batch.step ≡ Idle = sym (ap (λ k. k.batch.step) c.self.view_is) ∙ c.in-Idle.is in
     let rest = rest_of told hash history batches rs c.args.records.now now can idle in
-    let mid = c.in_ok-begin-in-Idle.ensures.ok hash history batches rest.0 rest.1 in
+    let mid = c.in_ok-begin_batch-in-Idle.ensures.ok hash history batches rest.0 rest.1 in
     let one = c.put_batch.ensures.any_moment hash history batches c.args.records.now mid in
-    let two = subst (λ d. Leaves (λ image. Stands hash image (take c.begin.new.self.durable history)) (told d) end) c.begin.ensures.disk one in
-    let three = subst (λ (n : ℕ). Leaves (λ image. Stands hash image (take n history)) (told now.disk) end) c.begin.ensures.kept.1 two in
+    let two = subst (λ d. Leaves (λ image. Stands hash image (take c.begin_batch.new.self.durable history)) (told d) end) c.begin_batch.ensures.disk one in
+    let three = subst (λ (n : ℕ). Leaves (λ image. Stands hash image (take n history)) (told now.disk) end) c.begin_batch.ensures.kept.1 two in
     subst (λ (s : Step). Leaves (StandsBy s hash history now.durable (length rs)) (told now.disk) end) (sym idle) three
 
 pub returns-in-Staging-clause-any_moment : goal.returns-in-Staging-clause-any_moment
@@ -65,23 +65,23 @@ returns-in_default g c =
       step = λ no. absurd (no (staged_left now.batch.step not_idle not_staging));
     }
 
-pub returns-in_err-begin-in-Idle-clause-nothing : goal.returns-in_err-begin-in-Idle-clause-nothing
-returns-in_err-begin-in-Idle-clause-nothing g c zero has = absurd (subst HasStaged (sym (ap (λ k. k.batch.step) c.self.view_is) ∙ c.in-Idle.is) has)
+pub returns-in_err-begin_batch-in-Idle-clause-nothing : goal.returns-in_err-begin_batch-in-Idle-clause-nothing
+returns-in_err-begin_batch-in-Idle-clause-nothing g c zero has = absurd (subst HasStaged (sym (ap (λ k. k.batch.step) c.self.view_is) ∙ c.in-Idle.is) has)
 
-pub returns-in_ok-begin-in-Idle-clause-nothing : goal.returns-in_ok-begin-in-Idle-clause-nothing
-returns-in_ok-begin-in-Idle-clause-nothing g c zero has = absurd (subst HasStaged (sym (ap (λ k. k.batch.step) c.self.view_is) ∙ c.in-Idle.is) has)
+pub returns-in_ok-begin_batch-in-Idle-clause-nothing : goal.returns-in_ok-begin_batch-in-Idle-clause-nothing
+returns-in_ok-begin_batch-in-Idle-clause-nothing g c zero has = absurd (subst HasStaged (sym (ap (λ k. k.batch.step) c.self.view_is) ∙ c.in-Idle.is) has)
 
 pub returns-in-Staging-clause-nothing : goal.returns-in-Staging-clause-nothing
 returns-in-Staging-clause-nothing g c zero has = absurd (subst HasStaged (sym (ap (λ k. k.batch.step) c.self.view_is) ∙ c.in-Staging.is) has)
 
-pub returns-in_ok-begin-in-Idle-clause-calls : goal.returns-in_ok-begin-in-Idle-clause-calls
-returns-in_ok-begin-in-Idle-clause-calls g c =
+pub returns-in_ok-begin_batch-in-Idle-clause-calls : goal.returns-in_ok-begin_batch-in-Idle-clause-calls
+returns-in_ok-begin_batch-in-Idle-clause-calls g c =
     let told = g.D.Disk.told in
     let now = c.args.self.now in
-    let k = c.begin.new.self in
+    let k = c.begin_batch.new.self in
     let end = told c.put_batch.new.self.disk in
     let idle : now.batch.step ≡ Idle = sym (ap (λ k. k.batch.step) c.self.view_is) ∙ c.in-Idle.is in
-    let pieces = c.in_ok-begin-in-Idle.ensures.pieces in
+    let pieces = c.in_ok-begin_batch-in-Idle.ensures.pieces in
     let all : drop k.batch.written k.batch.pieces ≡ pieces_of now.ends (now.durable + 1) c.args.records.now = ap (λ (n : ℕ). drop n k.batch.pieces) pieces.1 ∙ pieces.0 in
     let handed = c.args.records.now in
     let new = c.put_batch.new.self in
@@ -89,7 +89,7 @@ returns-in_ok-begin-in-Idle-clause-calls g c =
     let left = writes_of (drop new.batch.written new.batch.pieces) in
     let calls = writes_of (pieces_of now.ends (now.durable + 1) handed) in
     let one = subst (λ (l : List Span). Makes DiskFault Memory (writes_of l) left (told k.disk) end result) all c.put_batch.ensures.calls in
-    let two = subst (λ d. Makes DiskFault Memory calls left (told d) end result) c.begin.ensures.disk one in
+    let two = subst (λ d. Makes DiskFault Memory calls left (told d) end result) c.begin_batch.ensures.disk one in
     let three = left_as calls left (calls_to_stage new handed) (told now.disk) end result
     (λ e. ap (λ (s : Step). writes_of (spans_to_stage s new handed)) (sym (err_then result Memory (new.batch.step ≡ Staging) c.put_batch.ensures.stays e))) two in
     subst (λ (s : Step). Makes DiskFault Memory (writes_of (spans_to_stage s now handed)) (calls_to_stage new handed) (told now.disk) end result) (sym idle) three
@@ -109,18 +109,18 @@ returns-in-Staging-clause-calls g c =
     (λ e. ap (λ (s : Step). writes_of (spans_to_stage s new handed)) (sym (err_then result Memory (new.batch.step ≡ Staging) c.put_batch-in-Staging.ensures.stays e)))
     c.put_batch-in-Staging.ensures.calls)
 
-pub returns-in_err-begin-in-Idle-clause-calls : goal.returns-in_err-begin-in-Idle-clause-calls
-returns-in_err-begin-in-Idle-clause-calls g c =
+pub returns-in_err-begin_batch-in-Idle-clause-calls : goal.returns-in_err-begin_batch-in-Idle-clause-calls
+returns-in_err-begin_batch-in-Idle-clause-calls g c =
     let told = g.D.Disk.told in
     let now = c.args.self.now in
-    let result = c.from_residual-in_err-begin-in-Idle.result in
+    let result = c.from_residual-in_err-begin_batch-in-Idle.result in
     let handed = c.args.records.now in
-    let same : c.begin.new.self ≡ now = c.in_err-begin-in-Idle.ensures.err in
+    let same : c.begin_batch.new.self ≡ now = c.in_err-begin_batch-in-Idle.ensures.err in
     subst (λ k. Makes DiskFault Memory (calls_to_stage now handed) (calls_to_stage k handed) (told now.disk) (told k.disk) result) (sym same)
-    (unbegun_makes (calls_to_stage now handed) (told now.disk) result c.from_residual-in_err-begin-in-Idle.ensures.1)
+    (unbegun_makes (calls_to_stage now handed) (told now.disk) result c.from_residual-in_err-begin_batch-in-Idle.ensures.1)
 
-pub returns-in_ok-begin-in-Idle-clause-left : goal.returns-in_ok-begin-in-Idle-clause-left
-returns-in_ok-begin-in-Idle-clause-left g c e = err_then c.put_batch.result DiskFault (c.put_batch.new.self.batch.step ≡ Staging) c.put_batch.ensures.stays e
+pub returns-in_ok-begin_batch-in-Idle-clause-left : goal.returns-in_ok-begin_batch-in-Idle-clause-left
+returns-in_ok-begin_batch-in-Idle-clause-left g c e = err_then c.put_batch.result DiskFault (c.put_batch.new.self.batch.step ≡ Staging) c.put_batch.ensures.stays e
 
 pub returns-in-Staging-clause-left : goal.returns-in-Staging-clause-left
 returns-in-Staging-clause-left g c e = err_then c.put_batch-in-Staging.result DiskFault (c.put_batch-in-Staging.new.self.batch.step ≡ Staging) c.put_batch-in-Staging.ensures.stays e
