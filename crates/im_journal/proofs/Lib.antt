@@ -1,5 +1,6 @@
 pub mod Calls
 pub mod Clear
+pub mod Held
 pub mod Limits
 pub mod Making
 pub mod Mids

@@ -120,9 +120,11 @@ pub holds_shows : {D : Type 0} (told : D → Option Told) (hash : Hash) (history
     → HoldsBatches told hash history batches k → HasValue (joined batches) value ref → IfSome (told k.disk) (λ t. Shows hash (seen t) value ref)
 holds_shows told hash history batches k value ref (inl rest) has =
     if_told (IsResting batches k.ends) (λ t. Shows hash (seen t) value ref) (λ t h. value_shows hash history (seen t) batches value ref rest.first.records_are h.here.reads has) (told k.disk) rest.resting
-holds_shows told hash history batches k value ref (inr mid) has =
+holds_shows told hash history batches k value ref (inr (inl mid)) has =
     if_told (λ t. All (Reads (seen t)) (spans_of batches)) (λ t. Shows hash (seen t) value ref) (λ t reads. value_shows hash history (seen t) batches value ref mid.1.first.records_are reads has) (told k.disk)
     (spans_at k.batch.step (told k.disk) (end_of k.ends) (spans_of batches) (gate_of (length batches)) k.batch.pieces k.batch.written mid.1.at)
+holds_shows told hash history batches k value ref (inr (inr held)) has =
+    if_told (λ t. All (Reads (seen t)) (spans_of batches)) (λ t. Shows hash (seen t) value ref) (λ t reads. value_shows hash history (seen t) batches value ref held.first.records_are reads has) (told k.disk) held.reads
 
 -- octets that were read are the value
 pub placed_read : {X E : Type 0} (items : X → List ℕ) (result : Result X E) (o : Option Told) (hash : Hash) (value : List ℕ) (ref : ValueRef) → IsSome o → IfSome o (λ t. Shows hash (seen t) value ref)

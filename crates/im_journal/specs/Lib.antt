@@ -1,3 +1,4 @@
+pub mod Durable
 pub mod Faults
 pub mod Holding
 pub mod Kept

@@ -26,6 +26,10 @@ pub record HasOpenGate (ends : ℕ → ℕ) (spans : List Span) (gate : ℕ) (im
   pub long : ReachesEnds ends image
   pub opened : Reads image (octet_span 1 gate 1)
 
+-- what reads give has these spans
+abbrev pub ReadsAll : List Span → Told → Type 0
+ReadsAll spans t = All (Reads (seen t)) spans
+
 -- a piece that lies outside of these spans and behind the gate
 pub record IsClear (spans : List Span) (gate : ℕ) (p : Span) : Type 0 where
   pub misses : All (Misses p.file p.at (length p.octets)) spans

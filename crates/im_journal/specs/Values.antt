@@ -6,6 +6,7 @@ use Rattle.im_model.specs.declared.entries.Entry.{Entry}
 use Rattle.im_model.specs.declared.transactions.Transaction.{Transaction}
 use Rattle.im_format.specs.declared.records.Record.{Record}
 use Rattle.im_format.specs.declared.references.ValueRef.{ValueRef}
+use Rattle.im_journal.specs.Durable.{HoldsDurable}
 use Rattle.im_journal.specs.Kept.{IsAtRest, IsInBatch, Kept}
 
 -- an entry of one of these records has this value, and this reference: which record, and which entry of it, both
@@ -20,6 +21,8 @@ pub record HasValue (rs : List Record) (value : List ℕ) (reference : ValueRef)
   pub value_is : entry.value ≡ value
   pub reference_is : slice_get holder.refs place ≡ Some reference
 
--- these batches are durable: the journal is at rest with them, or a batch is in progress behind them
+-- these batches are durable: the journal is at rest with them, or a batch is in progress behind them, or a call of the disk
+-- has failed since
 abbrev pub HoldsBatches : {D : Type 0} → (D → Option Told) → Hash → List Transaction → List (List Record) → Kept D → Type 0
-HoldsBatches told hash history batches k = IsAtRest told hash history batches k ⊎ ((rs : List Record) × IsInBatch told hash history batches rs k)
+HoldsBatches told hash history batches k =
+    IsAtRest told hash history batches k ⊎ (((rs : List Record) × IsInBatch told hash history batches rs k) ⊎ HoldsDurable told hash history batches k)

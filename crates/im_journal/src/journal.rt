@@ -3,12 +3,15 @@ ghost use Rattle.im_digest.specs.Digests.{Hash};
 ghost use Rattle.im_disk.specs.Moments.{Leaves, LeavesNow};
 ghost use Rattle.im_disk.specs.declared.calls.Call.TheVariants.{Wrote, Synced};
 ghost use Rattle.im_model.specs.declared.transactions.Transaction.{Transaction};
+ghost use Rattle.im_format.specs.Batches.{spans_of};
 ghost use Rattle.im_format.specs.Standing.{Stands};
 ghost use Rattle.im_format.specs.declared.records.Record.{Record};
+ghost use Rattle.im_journal.specs.Durable.{HoldsDurable};
 ghost use Rattle.im_journal.specs.Faults.{IsCounted};
 ghost use Rattle.im_journal.specs.Holding.{AreFirst, AreNext, IsResting};
 ghost use Rattle.im_journal.specs.Kept.{CanStage, HasSealed, HasStaged, IsAtRest, IsInBatch, StandsBy, step_behind};
 ghost use Rattle.im_journal.specs.Made.{Makes, call_to_put, calls_to_seal, calls_to_settle, calls_to_stage, writes_of};
+ghost use Rattle.im_journal.specs.Phases.{ReadsAll};
 ghost use Rattle.im_journal.specs.Pieces.{pieces_of};
 ghost use Rattle.im_journal.specs.declared.batches.Step.TheVariants.{Idle, Staging, Staged, Sealed, Gated};
 
@@ -37,7 +40,9 @@ use std::marker::Model;
 ///   a call of the disk fails (`staged`, `sealed`, `settled`, `again`). What each image then stands for is said by the
 ///   law `images_stand`, and within a call by `any_moment`.
 /// - Only `settle` moves what is durable and where the files end (`kept`, `moved`).
-/// - Where a call of the disk has failed, no step of a batch does anything from then on (`stopped`).
+/// - Where a call of the disk has failed, no step of a batch does anything from then on (`stopped`). What is durable stays
+///   held: each image still stands for a front part of the placed history with all of it, and its values are read
+///   (`held`).
 /// - Each piece of its batch is one that a disk takes, and no more of them are written than there are.
 #[derive(Drop)]
 pub struct Journal<D: Disk> {
@@ -115,6 +120,9 @@ impl<D: Disk> Journal<D> {
         ensures any_moment { (hash : Hash) (history : List Transaction) (batches : List (List Record)) (rs : List Record)
             → CanStage D.told hash history batches rs records.now self.old
             → Leaves (StandsBy self.old.batch.step hash history self.old.durable (length rs)) (D.told self.old.disk) (D.told self.new.disk) }
+        ensures held { (hash : Hash) (history : List Transaction) (batches : List (List Record)) (rs : List Record)
+            → CanStage D.told hash history batches rs records.now self.old → IsErrOf result JournalError.DiskFault
+            → HoldsDurable D.told hash history batches self.new }
         ensures kept { (self.new.ends ≡ self.old.ends) × (self.new.durable ≡ self.old.durable) }
         ensures left { IsErrOf result JournalError.DiskFault → self.new.batch.step ≡ Staging }
         ensures calls { Makes JournalError.DiskFault JournalError.Memory (calls_to_stage self.old records.now) (calls_to_stage self.new records.now) (D.told self.old.disk) (D.told self.new.disk) result }
@@ -152,6 +160,9 @@ impl<D: Disk> Journal<D> {
         ensures any_moment { (hash : Hash) (history : List Transaction) (batches : List (List Record)) (rs : List Record)
             → IsInBatch D.told hash history batches rs self.old
             → Leaves (StandsBy self.old.batch.step hash history self.old.durable (length rs)) (D.told self.old.disk) (D.told self.new.disk) }
+        ensures held { (hash : Hash) (history : List Transaction) (batches : List (List Record)) (rs : List Record)
+            → IsInBatch D.told hash history batches rs self.old → IsErrOf result JournalError.DiskFault
+            → HoldsDurable D.told hash history batches self.new }
         ensures kept { (self.new.ends ≡ self.old.ends) × (self.new.durable ≡ self.old.durable) }
         ensures batch { OnErr result (self.new.batch ≡ self.old.batch) }
         ensures pieces { (self.new.batch.pieces ≡ self.old.batch.pieces) × (self.new.batch.ends ≡ self.old.batch.ends) × (self.new.batch.count ≡ self.old.batch.count) }
@@ -194,6 +205,9 @@ impl<D: Disk> Journal<D> {
         ensures any_moment { (hash : Hash) (history : List Transaction) (batches : List (List Record)) (rs : List Record)
             → IsInBatch D.told hash history batches rs self.old
             → Leaves (StandsBy Gated hash history self.old.durable (length rs)) (D.told self.old.disk) (D.told self.new.disk) }
+        ensures held { (hash : Hash) (history : List Transaction) (batches : List (List Record)) (rs : List Record)
+            → IsInBatch D.told hash history batches rs self.old → IsErrOf result JournalError.DiskFault
+            → HoldsDurable D.told hash history batches self.new }
         ensures kept { OnErr result ((self.new.ends ≡ self.old.ends) × (self.new.durable ≡ self.old.durable)) }
         ensures left { IsErrOf result JournalError.DiskFault → HasSealed self.new.batch.step }
         ensures calls { Makes JournalError.DiskFault JournalError.Memory (calls_to_settle self.old.batch.step self.old.ends.commits) (calls_to_settle self.new.batch.step self.new.ends.commits) (D.told self.old.disk) (D.told self.new.disk) result }
@@ -279,6 +293,9 @@ impl<D: Disk> Journal<D> {
         ensures any_moment { (hash : Hash) (history : List Transaction) (batches : List (List Record)) (rs : List Record)
             → IsInBatch D.told hash history batches rs self.old
             → Leaves (λ image. Stands hash image (take self.old.durable history)) (D.told self.old.disk) (D.told self.new.disk) }
+        ensures here { (hash : Hash) (history : List Transaction) (batches : List (List Record)) (rs : List Record)
+            → IsInBatch D.told hash history batches rs self.old
+            → IfSome (D.told self.new.disk) (ReadsAll (spans_of batches)) }
         ensures kept { (self.new.ends ≡ self.old.ends) × (self.new.durable ≡ self.old.durable) }
         ensures calls { Makes JournalError.DiskFault JournalError.Memory (writes_of (drop self.old.batch.written self.old.batch.pieces)) (writes_of (drop self.new.batch.written self.new.batch.pieces)) (D.told self.old.disk) (D.told self.new.disk) result }
         ensures counted { IsCounted (D.faults self.old.disk) (D.faults self.new.disk) self.old.failures self.new.failures result }
@@ -317,6 +334,9 @@ impl<D: Disk> Journal<D> {
         ensures any_moment { (hash : Hash) (history : List Transaction) (batches : List (List Record)) (rs : List Record)
             → IsInBatch D.told hash history batches rs self.old
             → Leaves (λ image. Stands hash image (take self.old.durable history)) (D.told self.old.disk) (D.told self.new.disk) }
+        ensures here { (hash : Hash) (history : List Transaction) (batches : List (List Record)) (rs : List Record)
+            → IsInBatch D.told hash history batches rs self.old
+            → IfSome (D.told self.new.disk) (ReadsAll (spans_of batches)) }
         ensures kept { (self.new.ends ≡ self.old.ends) × (self.new.durable ≡ self.old.durable) }
         ensures pieces { (self.new.batch.pieces ≡ self.old.batch.pieces) × (self.new.batch.ends ≡ self.old.batch.ends) × (self.new.batch.count ≡ self.old.batch.count) }
         ensures err { OnErr result ((self.new.batch.step ≡ self.old.batch.step) × (self.new.batch.written ≡ self.old.batch.written)) }
@@ -353,6 +373,9 @@ impl<D: Disk> Journal<D> {
         ensures any_moment { (hash : Hash) (history : List Transaction) (batches : List (List Record)) (rs : List Record)
             → IsInBatch D.told hash history batches rs self.old
             → Leaves (λ image. Stands hash image (take self.old.durable history)) (D.told self.old.disk) (D.told self.new.disk) }
+        ensures here { (hash : Hash) (history : List Transaction) (batches : List (List Record)) (rs : List Record)
+            → IsInBatch D.told hash history batches rs self.old
+            → IfSome (D.told self.new.disk) (ReadsAll (spans_of batches)) }
         ensures kept { (self.new.ends ≡ self.old.ends) × (self.new.durable ≡ self.old.durable) }
         ensures pieces { (self.new.batch.pieces ≡ self.old.batch.pieces) × (self.new.batch.ends ≡ self.old.batch.ends) × (self.new.batch.count ≡ self.old.batch.count) }
         ensures err { OnErr result (self.new.batch ≡ self.old.batch) }
@@ -387,6 +410,9 @@ impl<D: Disk> Journal<D> {
         ensures any_moment { (hash : Hash) (history : List Transaction) (batches : List (List Record)) (rs : List Record)
             → IsInBatch D.told hash history batches rs self.old
             → Leaves (StandsBy Gated hash history self.old.durable (length rs)) (D.told self.old.disk) (D.told self.new.disk) }
+        ensures here { (hash : Hash) (history : List Transaction) (batches : List (List Record)) (rs : List Record)
+            → IsInBatch D.told hash history batches rs self.old
+            → IfSome (D.told self.new.disk) (ReadsAll (spans_of batches)) }
         ensures kept { (self.new.ends ≡ self.old.ends) × (self.new.durable ≡ self.old.durable)
             × (self.new.batch.ends ≡ self.old.batch.ends) × (self.new.batch.count ≡ self.old.batch.count) }
         ensures pieces { self.new.batch.pieces ≡ self.old.batch.pieces }
@@ -424,6 +450,9 @@ impl<D: Disk> Journal<D> {
         ensures any_moment { (hash : Hash) (history : List Transaction) (batches : List (List Record)) (rs : List Record)
             → IsInBatch D.told hash history batches rs self.old
             → Leaves (StandsBy Gated hash history self.old.durable (length rs)) (D.told self.old.disk) (D.told self.new.disk) }
+        ensures here { (hash : Hash) (history : List Transaction) (batches : List (List Record)) (rs : List Record)
+            → IsInBatch D.told hash history batches rs self.old
+            → IfSome (D.told self.new.disk) (ReadsAll (spans_of batches)) }
         ensures err { OnErr result ((self.new.ends ≡ self.old.ends) × (self.new.durable ≡ self.old.durable) × (self.new.batch ≡ self.old.batch)) }
         ensures calls { Makes JournalError.DiskFault JournalError.Memory (Synced ∷ []) (Synced ∷ []) (D.told self.old.disk) (D.told self.new.disk) result }
         ensures counted { IsCounted (D.faults self.old.disk) (D.faults self.new.disk) self.old.failures self.new.failures result }

@@ -6,7 +6,7 @@ ghost use Rattle.im_disk.specs.Moments.{Leaves};
 ghost use Rattle.im_format.specs.declared.spans.Span.{Span};
 ghost use Rattle.im_disk.specs.declared.calls.Call.TheVariants.{Wrote, Synced};
 ghost use Rattle.im_journal.specs.Made.{Makes, writes_of};
-ghost use Rattle.im_journal.specs.Phases.{FitsDisk, IsSafe, IsStaging, IsSealed, IsEither, IsGated, IsDone};
+ghost use Rattle.im_journal.specs.Phases.{FitsDisk, IsSafe, IsStaging, IsSealed, IsEither, IsGated, IsDone, ReadsAll};
 
 use im_alog::laying::{put, sync};
 use im_disk::disk::{Disk, DiskError};
@@ -24,6 +24,8 @@ fn put_piece<D: Disk>(disk: &mut D, piece: &Span) -> Result<(), DiskError>
     ensures any_moment { (ends : ℕ → ℕ) (spans : List Span) (gate : ℕ) (pieces left : List Span)
         → IfSome (D.told disk.old) (IsStaging ends spans gate pieces (piece.now ∷ left))
         → Leaves (IsSafe ends spans gate) (D.told disk.old) (D.told disk.new) }
+    ensures here { (ends : ℕ → ℕ) (spans : List Span) (gate : ℕ) (pieces left : List Span)
+        → IfSome (D.told disk.old) (IsStaging ends spans gate pieces (piece.now ∷ left)) → IfSome (D.told disk.new) (ReadsAll spans) }
     ensures memory { IsErrOf result DiskError.Memory → D.told disk.new ≡ D.told disk.old }
     ensures calls { Makes DiskError.Failed DiskError.Memory (writes_of (piece.now ∷ [])) (writes_of (piece.now ∷ [])) (D.told disk.old) (D.told disk.new) result }
     ensures cause { HasCause (D.faults disk.old) (D.faults disk.new) result }
@@ -51,6 +53,9 @@ pub(crate) fn put_next<D: Disk>(
     ensures any_moment { (ends : ℕ → ℕ) (spans : List Span) (gate : ℕ)
         → IfSome (D.told disk.old) (IsStaging ends spans gate (take written.old pieces.now) (drop written.old pieces.now))
         → Leaves (IsSafe ends spans gate) (D.told disk.old) (D.told disk.new) }
+    ensures here { (ends : ℕ → ℕ) (spans : List Span) (gate : ℕ)
+        → IfSome (D.told disk.old) (IsStaging ends spans gate (take written.old pieces.now) (drop written.old pieces.now))
+        → IfSome (D.told disk.new) (ReadsAll spans) }
     ensures one { OnOk result (written.new ≡ written.old + 1) }
     ensures none { OnErr result (written.new ≡ written.old) }
     ensures within { written.new ≤ length pieces.now }
@@ -86,6 +91,9 @@ pub(crate) fn put_pieces<D: Disk>(
     ensures any_moment { (ends : ℕ → ℕ) (spans : List Span) (gate : ℕ)
         → IfSome (D.told disk.old) (IsStaging ends spans gate (take written.old pieces.now) (drop written.old pieces.now))
         → Leaves (IsSafe ends spans gate) (D.told disk.old) (D.told disk.new) }
+    ensures here { (ends : ℕ → ℕ) (spans : List Span) (gate : ℕ)
+        → IfSome (D.told disk.old) (IsStaging ends spans gate (take written.old pieces.now) (drop written.old pieces.now))
+        → IfSome (D.told disk.new) (ReadsAll spans) }
     ensures forth { written.old ≤ written.new }
     ensures within { written.new ≤ length pieces.now }
     ensures all { OnOk result (written.new ≡ length pieces.now) }
@@ -110,6 +118,8 @@ pub(crate) fn seal_pieces<D: Disk>(disk: &mut D) -> Result<(), DiskError>
     ensures any_moment { (ends : ℕ → ℕ) (spans : List Span) (gate : ℕ) (pieces : List Span)
         → IfSome (D.told disk.old) (IsStaging ends spans gate pieces [])
         → Leaves (IsSafe ends spans gate) (D.told disk.old) (D.told disk.new) }
+    ensures here { (ends : ℕ → ℕ) (spans : List Span) (gate : ℕ) (pieces : List Span)
+        → IfSome (D.told disk.old) (IsStaging ends spans gate pieces []) → IfSome (D.told disk.new) (ReadsAll spans) }
     ensures memory { IsErrOf result DiskError.Memory → D.told disk.new ≡ D.told disk.old }
     ensures calls { Makes DiskError.Failed DiskError.Memory (Synced ∷ []) (Synced ∷ []) (D.told disk.old) (D.told disk.new) result }
     ensures cause { HasCause (D.faults disk.old) (D.faults disk.new) result }
@@ -127,6 +137,8 @@ pub(crate) fn open_gate<D: Disk>(disk: &mut D, gate: u64) -> Result<(), DiskErro
     ensures any_moment { (ends : ℕ → ℕ) (spans pieces : List Span)
         → IfSome (D.told disk.old) (IsSealed ends spans gate pieces)
         → Leaves (IsEither ends spans gate pieces) (D.told disk.old) (D.told disk.new) }
+    ensures here { (ends : ℕ → ℕ) (spans pieces : List Span)
+        → IfSome (D.told disk.old) (IsSealed ends spans gate pieces) → IfSome (D.told disk.new) (ReadsAll spans) }
     ensures memory { IsErrOf result DiskError.Memory → D.told disk.new ≡ D.told disk.old }
     ensures calls { Makes DiskError.Failed DiskError.Memory (Wrote 1 gate (1 ∷ []) ∷ []) (Wrote 1 gate (1 ∷ []) ∷ []) (D.told disk.old) (D.told disk.new) result }
     ensures cause { HasCause (D.faults disk.old) (D.faults disk.new) result }
@@ -142,6 +154,8 @@ pub(crate) fn settle_gate<D: Disk>(disk: &mut D) -> Result<(), DiskError>
     ensures any_moment { (ends : ℕ → ℕ) (spans : List Span) (gate : ℕ) (pieces : List Span)
         → IfSome (D.told disk.old) (IsGated ends spans gate pieces)
         → Leaves (IsEither ends spans gate pieces) (D.told disk.old) (D.told disk.new) }
+    ensures here { (ends : ℕ → ℕ) (spans : List Span) (gate : ℕ) (pieces : List Span)
+        → IfSome (D.told disk.old) (IsGated ends spans gate pieces) → IfSome (D.told disk.new) (ReadsAll spans) }
     ensures memory { IsErrOf result DiskError.Memory → D.told disk.new ≡ D.told disk.old }
     ensures calls { Makes DiskError.Failed DiskError.Memory (Synced ∷ []) (Synced ∷ []) (D.told disk.old) (D.told disk.new) result }
     ensures cause { HasCause (D.faults disk.old) (D.faults disk.new) result }

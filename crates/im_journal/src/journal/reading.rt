@@ -6,6 +6,7 @@ ghost use Rattle.im_model.specs.declared.transactions.Transaction.{Transaction};
 ghost use Rattle.im_format.specs.Batches.{joined};
 ghost use Rattle.im_format.specs.declared.records.Record.{Record};
 ghost use Rattle.im_vlog.specs.Showing.{IsCorrupt, shown};
+ghost use Rattle.im_journal.specs.Durable.{HoldsDurable};
 ghost use Rattle.im_journal.specs.Faults.{IsReadCounted};
 ghost use Rattle.im_journal.specs.Kept.{IsAtRest, IsInBatch};
 ghost use Rattle.im_journal.specs.Values.{HasValue, HoldsBatches};
@@ -50,6 +51,8 @@ impl<D: Disk> Journal<D> {
             → IsAtRest D.told digest history batches self.old → IsAtRest D.told digest history batches self.new }
         ensures in_batch { (digest : Hash) (history : List Transaction) (batches : List (List Record)) (rs : List Record)
             → IsInBatch D.told digest history batches rs self.old → IsInBatch D.told digest history batches rs self.new }
+        ensures held { (digest : Hash) (history : List Transaction) (batches : List (List Record))
+            → HoldsDurable D.told digest history batches self.old → HoldsDurable D.told digest history batches self.new }
         ensures told { D.told self.new.disk ≡ D.told self.old.disk }
         ensures none { 3 < value.now.log → self.new ≡ self.old }
         ensures hashed { 3 < value.now.log → (IsErrOf result ValueError.DiskFault → ⊥) × (IsErrOf result ValueError.Memory → ⊥) }

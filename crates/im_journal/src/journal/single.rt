@@ -5,6 +5,7 @@ ghost use Rattle.im_disk.specs.Moments.{Leaves};
 ghost use Rattle.im_disk.specs.declared.calls.Call.TheVariants.{Wrote};
 ghost use Rattle.im_model.specs.declared.transactions.Transaction.{Transaction};
 ghost use Rattle.im_format.specs.declared.records.Record.{Record};
+ghost use Rattle.im_journal.specs.Durable.{HoldsDurable};
 ghost use Rattle.im_journal.specs.Faults.{IsCounted};
 ghost use Rattle.im_journal.specs.Holding.{AreNext};
 ghost use Rattle.im_journal.specs.Kept.{IsAtRest, IsInBatch, StandsBy, step_behind};
@@ -68,6 +69,9 @@ impl<D: Disk> Journal<D> {
         ensures any_moment { (hash : Hash) (history : List Transaction) (batches : List (List Record)) (rs : List Record)
             → IsInBatch D.told hash history batches rs self.old
             → Leaves (StandsBy self.old.batch.step hash history self.old.durable (length rs)) (D.told self.old.disk) (D.told self.new.disk) }
+        ensures held { (hash : Hash) (history : List Transaction) (batches : List (List Record)) (rs : List Record)
+            → IsInBatch D.told hash history batches rs self.old → IsErrOf result JournalError.DiskFault
+            → HoldsDurable D.told hash history batches self.new }
         ensures kept { (self.new.ends ≡ self.old.ends) × (self.new.durable ≡ self.old.durable) }
         ensures pieces { (self.new.batch.pieces ≡ self.old.batch.pieces) × (self.new.batch.ends ≡ self.old.batch.ends) × (self.new.batch.count ≡ self.old.batch.count) }
         ensures err { OnErr result ((self.new.batch.step ≡ self.old.batch.step) × (self.new.batch.written ≡ self.old.batch.written)) }
@@ -99,6 +103,9 @@ impl<D: Disk> Journal<D> {
         ensures any_moment { (hash : Hash) (history : List Transaction) (batches : List (List Record)) (rs : List Record)
             → IsInBatch D.told hash history batches rs self.old
             → Leaves (StandsBy Gated hash history self.old.durable (length rs)) (D.told self.old.disk) (D.told self.new.disk) }
+        ensures held { (hash : Hash) (history : List Transaction) (batches : List (List Record)) (rs : List Record)
+            → IsInBatch D.told hash history batches rs self.old → IsErrOf result JournalError.DiskFault
+            → HoldsDurable D.told hash history batches self.new }
         ensures kept { (self.new.ends ≡ self.old.ends) × (self.new.durable ≡ self.old.durable)
             × (self.new.batch.ends ≡ self.old.batch.ends) × (self.new.batch.count ≡ self.old.batch.count) }
         ensures pieces { self.new.batch.pieces ≡ self.old.batch.pieces }

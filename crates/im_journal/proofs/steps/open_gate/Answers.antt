@@ -1,10 +1,12 @@
 use Rattle.std.proofs.Common.{[], ◌∷◌, inl}
-use Rattle.std.specs.Prelude.{IfSome}
-use Rattle.im_disk.specs.Disk.{after}
+use Rattle.std.specs.Prelude.{Option, IfSome}
+use Rattle.im_disk.specs.Disk.{Told, after, seen}
 use Rattle.im_disk.specs.declared.calls.Call.TheVariants.{Wrote, Tore}
-use Rattle.im_disk.proofs.Leaving.{if_told, leaves_by_answer, on_ok_after}
+use Rattle.im_disk.proofs.Leaving.{by_answer, if_told, leaves_by_answer, on_ok_after}
+use Rattle.im_format.proofs.AllLemmas.{all-left}
+use Rattle.im_format.specs.Spans.{Reads}
 use Rattle.im_alog.proofs.Outcomes.{if_mapped}
-use Rattle.im_journal.specs.Phases.{IsEither, IsGated}
+use Rattle.im_journal.specs.Phases.{IsEither, IsGated, IsSealed, ReadsAll}
 use Rattle.im_journal.proofs.Calls.{gated, torn_gate, safe_front}
 use Rattle.im_journal.proofs.Making.{one_makes}
 use Rattle.im_journal.proofs.steps.open_gate.Goals as goal
@@ -23,3 +25,13 @@ returns-clause-any_moment g c ends spans pieces s =
 
 pub returns-clause-calls : goal.returns-clause-calls
 returns-clause-calls g c = one_makes (Wrote 1 c.args.gate (1 ∷ [])) _ _ c.write_at.result c.write_at.ensures.ok c.write_at.ensures.failed c.write_at.ensures.memory
+
+pub returns-clause-here : goal.returns-clause-here
+returns-clause-here g c ends spans pieces s =
+    let o = g.D.Disk.told c.args.disk.now in
+    let P : Told → Type 0 = IsSealed ends spans c.args.gate pieces in
+    let front : (t : Told) → P t → ReadsAll spans t = λ t h. all-left (Reads (seen t)) spans pieces h.here.reads in
+    by_answer (λ (m : Option Told). IfSome m (ReadsAll spans)) (Wrote 1 c.args.gate (1 ∷ [])) (Tore 1 c.args.gate 1) o _ c.write_at.result c.write_at.ensures.ok c.write_at.ensures.failed c.write_at.ensures.memory
+    (if_mapped P (ReadsAll spans) (after (Wrote 1 c.args.gate (1 ∷ []))) (λ t h. all-left (Reads (seen (after (Wrote 1 c.args.gate (1 ∷ [])) t))) spans pieces (gated ends spans c.args.gate pieces t h).here.reads) o s)
+    (if_mapped P (ReadsAll spans) (after (Tore 1 c.args.gate 1)) (λ t h. front t h) o s)
+    (if_told P (ReadsAll spans) front o s)

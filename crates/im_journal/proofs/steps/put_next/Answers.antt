@@ -53,3 +53,17 @@ returns-in-Err-clause-calls g c =
     let k = c.args.written.now in
     subst (λ (l : List Span). Makes {T = Unit {0}} Disk.Failed Disk.Memory (writes_of (take 1 l)) (writes_of (take 1 l)) (g.D.Disk.told c.args.disk.now) (g.D.Disk.told c.put_piece.new.disk) (Err c.in-Err.error))
     (sym (next_left ps k c.index-pieces-written.result c.requires.left c.index-pieces-written.is)) c.in-Err.ensures.calls
+
+pub returns-in-Ok-clause-here : goal.returns-in-Ok-clause-here
+returns-in-Ok-clause-here g c ends spans gate h =
+    let ps = c.args.pieces.now in
+    let k = c.args.written.now in
+    c.put_piece.ensures.here ends spans gate (take k ps) (drop (k + 1) ps)
+    (subst (λ (l : List Span). IfSome (g.D.Disk.told c.args.disk.now) (IsStaging ends spans gate (take k ps) l)) (next_left ps k c.index-pieces-written.result c.requires.left c.index-pieces-written.is) h)
+
+pub returns-in-Err-clause-here : goal.returns-in-Err-clause-here
+returns-in-Err-clause-here g c ends spans gate h =
+    let ps = c.args.pieces.now in
+    let k = c.args.written.now in
+    c.put_piece.ensures.here ends spans gate (take k ps) (drop (k + 1) ps)
+    (subst (λ (l : List Span). IfSome (g.D.Disk.told c.args.disk.now) (IsStaging ends spans gate (take k ps) l)) (next_left ps k c.index-pieces-written.result c.requires.left c.index-pieces-written.is) h)

@@ -1,9 +1,12 @@
 use Rattle.std.proofs.Common.{rules, ◌+◌, List, take, drop, subst, sym, Err}
 use Rattle.std.specs.Prelude.{IfSome}
 use Rattle.im_octet.proofs.Common.{ok-isnt}
-use Rattle.im_disk.proofs.Leaving.{leaves_both}
+use Rattle.im_disk.proofs.Leaving.{if_told, leaves_both}
+use Rattle.im_disk.specs.Disk.{seen}
+use Rattle.im_format.proofs.AllLemmas.{all-left}
+use Rattle.im_format.specs.Spans.{Reads}
 use Rattle.im_format.specs.declared.spans.Span.{Span}
-use Rattle.im_journal.specs.Phases.{IsSafe, IsStaging}
+use Rattle.im_journal.specs.Phases.{IsSafe, IsStaging, ReadsAll}
 use Rattle.im_journal.proofs.Calls.{next_left, next_taken, next_within}
 use Rattle.im_disk.specs.declared.calls.Call.TheVariants.{Wrote}
 use Rattle.im_disk.specs.declared.disk.DiskError.TheVariants as Disk
@@ -75,3 +78,18 @@ returns-clause-calls g c =
       failed = λ e. absurd (ok-isnt tt Disk.Failed e);
       ran_out = λ e. absurd (ok-isnt tt Disk.Memory e);
     }
+
+pub returns-in-Err-clause-here : goal.returns-in-Err-clause-here
+returns-in-Err-clause-here g c ends spans gate h =
+    let ps = c.args.pieces.now in
+    let k = c.loop-written.written in
+    let now = c.loop-written.invariant.staging ends spans gate h in
+    c.put_piece.ensures.here ends spans gate (take k ps) (drop (k + 1) ps)
+    (subst (λ (l : List Span). IfSome (g.D.Disk.told c.loop-written.disk) (IsStaging ends spans gate (take k ps) l)) (next_left ps k c.index-pieces-written.result c.loop-written-test.true c.index-pieces-written.is) now.0)
+
+pub returns-clause-here : goal.returns-clause-here
+returns-clause-here g c ends spans gate h =
+    let ps = c.args.pieces.now in
+    let k = c.loop-written.written in
+    if_told (IsStaging ends spans gate (take k ps) (drop k ps)) (ReadsAll spans) (λ t s. all-left (Reads (seen t)) spans (take k ps) s.here.reads) (g.D.Disk.told c.loop-written.disk)
+    (c.loop-written.invariant.staging ends spans gate h).0

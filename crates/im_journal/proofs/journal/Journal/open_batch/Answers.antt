@@ -2,6 +2,7 @@ use Rattle.std.proofs.Common.{arith, ◌<◌, ◌^◌, sym, ap, subst, [], ◌�
 use Rattle.im_format.specs.Batches.{spans_of}
 use Rattle.im_journal.specs.Pieces.{end_of}
 use Rattle.im_journal.specs.declared.ends.Ends.{Ends}
+use Rattle.im_journal.proofs.Held.{open_here}
 use Rattle.im_journal.proofs.Mids.{mid_room, open_leaves}
 use Rattle.std.specs.Prelude.{Ok, Err}
 use Rattle.im_disk.specs.declared.calls.Call.TheVariants.{Wrote}
@@ -38,3 +39,15 @@ returns-in-Err-Failed-clause-calls g c = made_by g.D.Disk.told (λ k. Wrote 1 k.
 
 pub returns-in-Err-Memory-clause-calls : goal.returns-in-Err-Memory-clause-calls
 returns-in-Err-Memory-clause-calls g c = made_by g.D.Disk.told (λ k. Wrote 1 k.ends.commits (1 ∷ []) ∷ []) (λ k. Wrote 1 k.ends.commits (1 ∷ []) ∷ []) _ c.args.self.now c.self.view_is (g.D.Disk.told c.open_gate.new.disk) (Err Memory) (rw c.in-Err-Memory.field-0-is at c.in-Err-Memory.ensures.calls)
+
+pub returns-in-Ok-clause-here : goal.returns-in-Ok-clause-here
+returns-in-Ok-clause-here g c hash history batches rs mid =
+    open_here g.D.Disk.told hash history batches rs _ c.args.self.now c.self.view_is mid c.requires.sealed (g.D.Disk.told c.open_gate.new.disk) (c.open_gate.ensures.here (end_of c.self.inside.ends) (spans_of batches) c.self.inside.batch.pieces.items)
+
+pub returns-in-Err-Failed-clause-here : goal.returns-in-Err-Failed-clause-here
+returns-in-Err-Failed-clause-here g c hash history batches rs mid =
+    open_here g.D.Disk.told hash history batches rs _ c.args.self.now c.self.view_is mid c.requires.sealed (g.D.Disk.told c.open_gate.new.disk) (c.open_gate.ensures.here (end_of c.self.inside.ends) (spans_of batches) c.self.inside.batch.pieces.items)
+
+pub returns-in-Err-Memory-clause-here : goal.returns-in-Err-Memory-clause-here
+returns-in-Err-Memory-clause-here g c hash history batches rs mid =
+    open_here g.D.Disk.told hash history batches rs _ c.args.self.now c.self.view_is mid c.requires.sealed (g.D.Disk.told c.open_gate.new.disk) (c.open_gate.ensures.here (end_of c.self.inside.ends) (spans_of batches) c.self.inside.batch.pieces.items)

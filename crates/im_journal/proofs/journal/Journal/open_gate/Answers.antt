@@ -1,3 +1,5 @@
+use Rattle.im_journal.specs.declared.batches.Step.TheVariants.{Gated}
+use Rattle.im_journal.proofs.Held.{held_by}
 use Rattle.im_journal.proofs.Mids.{stays_at_last}
 use Rattle.im_journal.proofs.journal.Journal.open_gate.Goals as goal
 
@@ -27,3 +29,8 @@ returns-clause-kept g c = c.open_batch.ensures.kept
 
 pub returns-clause-pieces : goal.returns-clause-pieces
 returns-clause-pieces g c = c.open_batch.ensures.pieces
+
+pub returns-clause-held : goal.returns-clause-held
+returns-clause-held g c hash history batches rs mid e =
+    held_by g.D.Disk.told hash history batches rs c.args.self.now c.open_batch.new.self Gated mid c.open_batch.ensures.kept.0 c.open_batch.ensures.kept.1
+    (c.open_batch.ensures.any_moment hash history batches rs mid).1 (c.open_batch.ensures.here hash history batches rs mid)

@@ -8,6 +8,7 @@ use Rattle.im_journal.specs.Phases.{IsStaging}
 use Rattle.im_journal.specs.Pieces.{end_of}
 use Rattle.im_journal.specs.declared.batches.Step.{Step}
 use Rattle.im_journal.specs.declared.batches.Step.TheVariants.{Staging}
+use Rattle.im_journal.proofs.Held.{put_here}
 use Rattle.im_journal.proofs.Mids.{at_step, put_leaves}
 use Rattle.im_journal.proofs.Single.{one_put, put_at}
 use Rattle.im_journal.proofs.journal.Journal.put_one.Goals as goal
@@ -71,3 +72,15 @@ returns-in-Err-Failed-clause-calls g c =
 pub returns-in-Err-Memory-clause-calls : goal.returns-in-Err-Memory-clause-calls
 returns-in-Err-Memory-clause-calls g c =
     one_put g.D.Disk.told _ c.args.self.now c.self.view_is c.as_slice.result.now c.as_slice.ensures.value (g.D.Disk.told c.put_next.new.disk) (Err Memory) (rw c.in-Err-Memory.field-0-is at c.in-Err-Memory.ensures.calls)
+
+pub returns-in-Ok-clause-here : goal.returns-in-Ok-clause-here
+returns-in-Ok-clause-here g c hash history batches rs mid =
+    put_here g.D.Disk.told hash history batches rs _ c.args.self.now c.self.view_is mid c.requires.staging c.as_slice.result.now c.as_slice.ensures.value (g.D.Disk.told c.put_next.new.disk) (c.put_next.ensures.here (end_of c.self.inside.ends) (spans_of batches) (gate_of (length batches)))
+
+pub returns-in-Err-Failed-clause-here : goal.returns-in-Err-Failed-clause-here
+returns-in-Err-Failed-clause-here g c hash history batches rs mid =
+    put_here g.D.Disk.told hash history batches rs _ c.args.self.now c.self.view_is mid c.requires.staging c.as_slice.result.now c.as_slice.ensures.value (g.D.Disk.told c.put_next.new.disk) (c.put_next.ensures.here (end_of c.self.inside.ends) (spans_of batches) (gate_of (length batches)))
+
+pub returns-in-Err-Memory-clause-here : goal.returns-in-Err-Memory-clause-here
+returns-in-Err-Memory-clause-here g c hash history batches rs mid =
+    put_here g.D.Disk.told hash history batches rs _ c.args.self.now c.self.view_is mid c.requires.staging c.as_slice.result.now c.as_slice.ensures.value (g.D.Disk.told c.put_next.new.disk) (c.put_next.ensures.here (end_of c.self.inside.ends) (spans_of batches) (gate_of (length batches)))

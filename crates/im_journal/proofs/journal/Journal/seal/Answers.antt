@@ -3,6 +3,7 @@ use Rattle.im_disk.specs.Moments.{Leaves}
 use Rattle.im_journal.specs.Kept.{HasSealed, HasStaged, StandsBy}
 use Rattle.im_journal.specs.declared.batches.Step.{Step}
 use Rattle.im_journal.specs.declared.errors.JournalError.TheVariants.{DiskFault, Memory, Stopped}
+use Rattle.im_journal.proofs.Held.{held_by}
 use Rattle.im_journal.proofs.Mids.{err_then, ok_isnt, sealed_left, stays}
 use Rattle.im_disk.specs.declared.calls.Call.{Call}
 use Rattle.im_disk.specs.declared.calls.Call.TheVariants.{Synced}
@@ -34,6 +35,7 @@ returns-in_default g c =
           (mid, sealed_left c.args.self.now.batch.step (c.requires.staged zero) (λ e. c.in_default.not-Staged (ap (λ k. k.batch.step) c.self.view_is ∙ e)));
       again = λ hash history batches rs mid e. absurd (ok_isnt tt Memory e);
       any_moment = λ hash history batches rs mid. stays g.D.Disk.told hash history batches rs c.args.self.now mid;
+      held = λ hash history batches rs mid e. absurd (ok_isnt tt DiskFault e);
       kept = (refl, refl);
       batch = tt;
       pieces = (refl, refl, refl);
@@ -66,3 +68,8 @@ returns-in-Staged-clause-batch g c = c.seal_batch.ensures.err
 
 pub returns-in-Staged-clause-pieces : goal.returns-in-Staged-clause-pieces
 returns-in-Staged-clause-pieces g c = c.seal_batch.ensures.pieces
+
+pub returns-in-Staged-clause-held : goal.returns-in-Staged-clause-held
+returns-in-Staged-clause-held g c hash history batches rs mid e =
+    held_by g.D.Disk.told hash history batches rs c.args.self.now c.seal_batch.new.self Staged mid c.seal_batch.ensures.kept.0 c.seal_batch.ensures.kept.1
+    (c.seal_batch.ensures.any_moment hash history batches rs mid).1 (c.seal_batch.ensures.here hash history batches rs mid)

@@ -5,6 +5,7 @@ use Rattle.std.specs.Prelude.{OnOk}
 use Rattle.im_journal.specs.Kept.{HasSealed, IsAtRest, StandsBy}
 use Rattle.im_journal.specs.declared.batches.Step.TheVariants.{Sealed, Gated}
 use Rattle.im_journal.specs.declared.errors.JournalError.TheVariants.{DiskFault, Memory}
+use Rattle.im_journal.proofs.Held.{held_by}
 use Rattle.im_journal.proofs.Mids.{durable_now, err_then, gated_left, on_err, settled_now, stays_at_last}
 use Rattle.im_disk.specs.declared.calls.Call.{Call}
 use Rattle.im_disk.specs.declared.calls.Call.TheVariants.{Wrote, Synced}
@@ -85,6 +86,10 @@ returns-in_default g c =
         subst HasSealed (sym (ap (λ b. b.step) (err_then call.result Memory ((new.ends ≡ now.ends) × (new.durable ≡ now.durable) × (new.batch ≡ now.batch)) call.ensures.err memory).2 ∙ gated)) tt,
       );
       any_moment = λ hash history batches rs mid. call.ensures.any_moment hash history batches rs mid;
+      held = λ hash history batches rs mid e.
+          let same = err_then call.result DiskFault ((new.ends ≡ now.ends) × (new.durable ≡ now.durable) × (new.batch ≡ now.batch)) call.ensures.err e in
+          held_by g.D.Disk.told hash history batches rs now new Gated mid same.0 same.1
+          (call.ensures.any_moment hash history batches rs mid).1 (call.ensures.here hash history batches rs mid);
       kept = on_err call.result ((new.ends ≡ now.ends) × (new.durable ≡ now.durable) × (new.batch ≡ now.batch)) ((new.ends ≡ now.ends) × (new.durable ≡ now.durable)) call.ensures.err (λ h. (h.0, h.1));
       left = λ fault.
           subst HasSealed (sym (ap (λ b. b.step) (err_then call.result DiskFault ((new.ends ≡ now.ends) × (new.durable ≡ now.durable) × (new.batch ≡ now.batch)) call.ensures.err fault).2 ∙ gated)) tt;
@@ -150,3 +155,17 @@ returns-in-Err-clause-left g c e =
 
 pub returns-in-Ok-clause-step : goal.returns-in-Ok-clause-step
 returns-in-Ok-clause-step g c = c.settle_batch.ensures.step
+
+pub returns-in-Ok-clause-held : goal.returns-in-Ok-clause-held
+returns-in-Ok-clause-held g c hash history batches rs mid e =
+    let k = c.open_batch.new.self in
+    let new = c.settle_batch.new.self in
+    let at = c.in-Ok.ensures.ok hash history batches rs mid in
+    let same = err_then c.settle_batch.result DiskFault ((new.ends ≡ k.ends) × (new.durable ≡ k.durable) × (new.batch ≡ k.batch)) c.settle_batch.ensures.err e in
+    held_by g.D.Disk.told hash history batches rs k new Gated at same.0 same.1
+    (c.settle_batch.ensures.any_moment hash history batches rs at).1 (c.settle_batch.ensures.here hash history batches rs at)
+
+pub returns-in-Err-clause-held : goal.returns-in-Err-clause-held
+returns-in-Err-clause-held g c hash history batches rs mid e =
+    held_by g.D.Disk.told hash history batches rs c.args.self.now c.open_batch.new.self Gated mid c.open_batch.ensures.kept.0 c.open_batch.ensures.kept.1
+    (c.open_batch.ensures.any_moment hash history batches rs mid).1 (c.open_batch.ensures.here hash history batches rs mid)

@@ -3,6 +3,7 @@ use Rattle.im_format.specs.Batches.{gate_of, spans_of}
 use Rattle.im_journal.specs.Kept.{IsInBatch}
 use Rattle.im_journal.specs.Pieces.{end_of}
 use Rattle.im_journal.specs.declared.batches.Step.TheVariants.{Gated}
+use Rattle.im_journal.proofs.Held.{settle_here}
 use Rattle.im_journal.proofs.Mids.{at_step, done_first, done_rests, settle_leaves}
 use Rattle.std.specs.Prelude.{Ok, Err}
 use Rattle.im_disk.specs.declared.calls.Call.TheVariants.{Synced}
@@ -45,3 +46,15 @@ returns-in-Err-Failed-clause-calls g c = made_by g.D.Disk.told (λ k. Synced ∷
 
 pub returns-in-Err-Memory-clause-calls : goal.returns-in-Err-Memory-clause-calls
 returns-in-Err-Memory-clause-calls g c = made_by g.D.Disk.told (λ k. Synced ∷ []) (λ k. Synced ∷ []) _ c.args.self.now c.self.view_is (g.D.Disk.told c.settle_gate.new.disk) (Err Memory) (rw c.in-Err-Memory.field-0-is at c.in-Err-Memory.ensures.calls)
+
+pub returns-in-Ok-clause-here : goal.returns-in-Ok-clause-here
+returns-in-Ok-clause-here g c hash history batches rs mid =
+    settle_here g.D.Disk.told hash history batches rs _ c.args.self.now c.self.view_is mid c.requires.gated (g.D.Disk.told c.settle_gate.new.disk) (c.settle_gate.ensures.here (end_of c.self.inside.ends) (spans_of batches) (gate_of (length batches)) c.self.inside.batch.pieces.items)
+
+pub returns-in-Err-Failed-clause-here : goal.returns-in-Err-Failed-clause-here
+returns-in-Err-Failed-clause-here g c hash history batches rs mid =
+    settle_here g.D.Disk.told hash history batches rs _ c.args.self.now c.self.view_is mid c.requires.gated (g.D.Disk.told c.settle_gate.new.disk) (c.settle_gate.ensures.here (end_of c.self.inside.ends) (spans_of batches) (gate_of (length batches)) c.self.inside.batch.pieces.items)
+
+pub returns-in-Err-Memory-clause-here : goal.returns-in-Err-Memory-clause-here
+returns-in-Err-Memory-clause-here g c hash history batches rs mid =
+    settle_here g.D.Disk.told hash history batches rs _ c.args.self.now c.self.view_is mid c.requires.gated (g.D.Disk.told c.settle_gate.new.disk) (c.settle_gate.ensures.here (end_of c.self.inside.ends) (spans_of batches) (gate_of (length batches)) c.self.inside.batch.pieces.items)

@@ -5,6 +5,7 @@ use Rattle.im_journal.specs.Kept.{HasStaged, StandsBy}
 use Rattle.im_journal.specs.declared.batches.Step.{Step}
 use Rattle.im_journal.specs.declared.batches.Step.TheVariants.{Idle, Staging}
 use Rattle.im_journal.specs.declared.errors.JournalError.TheVariants.{DiskFault, Memory, Stopped}
+use Rattle.im_journal.proofs.Held.{held_by}
 use Rattle.im_journal.proofs.Mids.{can_stay, err_then, mid_of, ok_isnt, rest_of, staged_left}
 use Rattle.im_format.specs.declared.spans.Span.{Span}
 use Rattle.im_journal.specs.Made.{Makes, calls_to_stage, spans_to_stage, writes_of}
@@ -54,6 +55,7 @@ returns-in_default g c =
           (mid_of g.D.Disk.told hash history batches rs c.args.records.now now can not_idle, staged_left now.batch.step not_idle not_staging);
       again = λ hash history batches rs can e. absurd (ok_isnt tt Memory e);
       any_moment = λ hash history batches rs can. can_stay g.D.Disk.told hash history batches rs c.args.records.now now can;
+      held = λ hash history batches rs can e. absurd (ok_isnt tt DiskFault e);
       kept = (refl, refl);
       left = λ e. absurd (ok_isnt tt DiskFault e);
       calls = subst (λ (l : List Span). Makes DiskFault Memory (writes_of l) (calls_to_stage now c.args.records.now) (g.D.Disk.told now.disk) (g.D.Disk.told now.disk) (Ok tt))
@@ -124,3 +126,23 @@ returns-in_ok-begin_batch-in-Idle-clause-left g c e = err_then c.put_batch.resul
 
 pub returns-in-Staging-clause-left : goal.returns-in-Staging-clause-left
 returns-in-Staging-clause-left g c e = err_then c.put_batch-in-Staging.result DiskFault (c.put_batch-in-Staging.new.self.batch.step ≡ Staging) c.put_batch-in-Staging.ensures.stays e
+
+pub returns-in_ok-begin_batch-in-Idle-clause-held : goal.returns-in_ok-begin_batch-in-Idle-clause-held
+returns-in_ok-begin_batch-in-Idle-clause-held g c hash history batches rs can e =
+    let told = g.D.Disk.told in
+    let now = c.args.self.now in
+    let handed = c.args.records.now in
+    let idle : now.batch.step ≡ Idle = sym (ap (λ k. k.batch.step) c.self.view_is) ∙ c.in-Idle.is in
+    let rest = rest_of told hash history batches rs handed now can idle in
+    let mid = c.in_ok-begin_batch-in-Idle.ensures.ok hash history batches rest.0 rest.1 in
+    held_by told hash history batches handed c.begin_batch.new.self c.put_batch.new.self Staging mid c.put_batch.ensures.kept.0 c.put_batch.ensures.kept.1
+    (c.put_batch.ensures.any_moment hash history batches handed mid).1 (c.put_batch.ensures.here hash history batches handed mid)
+
+pub returns-in-Staging-clause-held : goal.returns-in-Staging-clause-held
+returns-in-Staging-clause-held g c hash history batches rs can e =
+    let told = g.D.Disk.told in
+    let now = c.args.self.now in
+    let staging : now.batch.step ≡ Staging = sym (ap (λ k. k.batch.step) c.self.view_is) ∙ c.in-Staging.is in
+    let mid = mid_of told hash history batches rs c.args.records.now now can (λ idle. cc) in
+    held_by told hash history batches rs now c.put_batch-in-Staging.new.self Staging mid c.put_batch-in-Staging.ensures.kept.0 c.put_batch-in-Staging.ensures.kept.1
+    (c.put_batch-in-Staging.ensures.any_moment hash history batches rs mid).1 (c.put_batch-in-Staging.ensures.here hash history batches rs mid)

@@ -3,6 +3,7 @@ use Rattle.im_disk.specs.Moments.{Leaves}
 use Rattle.im_journal.specs.Kept.{StandsBy}
 use Rattle.im_journal.specs.declared.batches.Step.{Step}
 use Rattle.im_journal.specs.declared.batches.Step.TheVariants.{Staging}
+use Rattle.im_journal.proofs.Held.{held_by}
 use Rattle.im_journal.proofs.Mids.{stays}
 use Rattle.im_journal.proofs.journal.Journal.stage_piece.Goals as goal
 
@@ -39,3 +40,8 @@ returns-clause-kept g c = c.put_one.ensures.kept
 
 pub returns-clause-pieces : goal.returns-clause-pieces
 returns-clause-pieces g c = c.put_one.ensures.pieces
+
+pub returns-clause-held : goal.returns-clause-held
+returns-clause-held g c hash history batches rs mid e =
+    held_by g.D.Disk.told hash history batches rs c.args.self.now c.put_one.new.self Staging mid c.put_one.ensures.kept.0 c.put_one.ensures.kept.1
+    (c.put_one.ensures.any_moment hash history batches rs mid).1 (c.put_one.ensures.here hash history batches rs mid)
