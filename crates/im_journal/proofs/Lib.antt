@@ -2,6 +2,7 @@ pub mod Calls
 pub mod Clear
 pub mod Held
 pub mod Limits
+pub mod Longer
 pub mod Making
 pub mod Mids
 pub mod Parts

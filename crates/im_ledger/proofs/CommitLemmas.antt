@@ -19,7 +19,8 @@ use Rattle.im_model.specs.declared.transactions.Transaction.{Transaction}
 use Rattle.im_ledger.specs.Commits.{MayLeave}
 use Rattle.im_ledger.specs.Histories.{HasCommitted, IsKept, IsNextRecord, KeptHistory, StandsWithin}
 use Rattle.im_ledger.specs.Ledgers.{Held, IsLedger}
-use Rattle.im_ledger.proofs.GrowLemmas.{leaves-within, record-next, rest-longer}
+use Rattle.im_journal.proofs.Longer.{rest_longer}
+use Rattle.im_ledger.proofs.GrowLemmas.{leaves-within, record-next}
 use Rattle.im_ledger.proofs.LedgerLemmas.{ledger-grown, ledger-placed}
 
 -- the ledger can take this transaction
@@ -37,7 +38,7 @@ module _ {D : Type 0} (told : D → Option Told) (hash : Hash) (k : KeptHistory 
   pub next-rests : (batches : List (List Record)) (j : Kept D) → j ≡ k.journal → IsAtRest told hash k.held.transactions batches k.journal
       → IsAtRest told hash (k.held.transactions ++ tx ∷ []) batches j
   next-rests batches j same rest = subst (λ (x : Kept D). IsAtRest told hash (k.held.transactions ++ tx ∷ []) batches x) (sym same)
-      (rest-longer told hash k.held.transactions (tx ∷ []) batches k.journal history-next rest)
+      (rest_longer told hash k.held.transactions (tx ∷ []) batches k.journal history-next rest)
 
   -- and the batch of its record is the next
   pub next-follows : (batches : List (List Record)) (j : Kept D) → j ≡ k.journal → IsAtRest told hash k.held.transactions batches k.journal

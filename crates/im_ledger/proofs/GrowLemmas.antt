@@ -1,7 +1,7 @@
 -- A history that a disk keeps, with one transaction more.
-use Rattle.std.proofs.Common.{◌≡◌, ◌≤◌, ◌+◌, ℕ, List, [], ◌∷◌, ◌++◌, length, take, get_or, refl, arith, ap, subst, ◌∙◌, sym, inl, inr, length-append}
+use Rattle.std.proofs.Common.{◌≡◌, ◌+◌, ℕ, List, [], ◌∷◌, ◌++◌, length, take, get_or, arith, ap, subst, ◌∙◌, sym, inl, inr, length-append}
 use Rattle.std.proofs.Math.Seq.{get_or-append_seam, take-length}
-use Rattle.std.proofs.lemmas.List.{drop_at, take_at, take-append-le}
+use Rattle.std.proofs.lemmas.List.{drop_at, take_at}
 use Rattle.std.specs.Prelude.{Option, IfSome}
 use Rattle.im_digest.specs.Digests.{Hash}
 use Rattle.im_disk.specs.Disk.{Files, Told, seen}
@@ -9,59 +9,20 @@ use Rattle.im_disk.specs.Moments.{Leaves, LeavesNow}
 use Rattle.im_disk.proofs.Leaving.{if_told, leaves_nothing, leaves_weaker}
 use Rattle.im_format.specs.Batches.{joined}
 use Rattle.im_format.specs.Places.{AreAppended, refs_of}
-use Rattle.im_format.specs.Records.{AreRecords, AreReferences}
+use Rattle.im_format.specs.Records.{AreReferences}
 use Rattle.im_format.specs.Standing.{Stands}
 use Rattle.im_format.specs.declared.records.Record.{Record}
-use Rattle.im_journal.specs.Holding.{AreFirst, AreNext, IsResting}
-use Rattle.im_journal.specs.Kept.{IsAtRest, Kept, StandsBy}
+use Rattle.im_journal.specs.Holding.{AreNext, IsResting}
+use Rattle.im_journal.specs.Kept.{StandsBy}
 use Rattle.im_journal.specs.declared.batches.Step.TheVariants.{Gated}
-use Rattle.im_journal.specs.declared.ends.Ends.{Ends}
-use Rattle.im_journal.proofs.Limits.{first_number}
 use Rattle.im_journal.proofs.Mids.{rest_stands, safe_stands}
-use Rattle.im_journal.proofs.Prefixes.{alh_front}
 use Rattle.im_model.specs.Headers.{alh}
-use Rattle.im_model.specs.History.{alh_of, alhs_of, next_header, IsHistory}
+use Rattle.im_model.specs.History.{alh_of, alhs_of, next_header}
 use Rattle.im_model.specs.declared.transactions.Transaction.{Transaction}
 use Rattle.im_model.proofs.HistoryLemmas.{length-alhs_of}
 use Rattle.im_model.proofs.HeaderLemmas.{alhs-next}
 use Rattle.im_ledger.specs.Histories.{IsKept, KeptHistory, StandsWithin}
 use Rattle.im_ledger.proofs.ReadLemmas.{alh-at}
-
--- what follows doesn't change an Alh
-alh-longer : (hash : Hash) (history more : List Transaction) (k : ℕ) → 1 ≤ k → k ≤ length history → alh_of hash history k ≡ alh_of hash (history ++ more) k
-alh-longer hash history more k one le =
-    ap (λ (h : List Transaction). alh_of hash h k) (sym (take_at history more (length history) refl))
-    ∙ alh_front hash (history ++ more) (length history) k one le
-
--- nor the records
-records-longer : (hash : Hash) (history more : List Transaction) (id : ℕ) (rs : List Record) → 1 ≤ id → id + length rs ≤ length history + 1
-    → AreRecords hash history id rs → AreRecords hash (history ++ more) id rs
-records-longer hash history more id [] one le are = tt
-records-longer hash history more id (r ∷ rs) one le are = (
-  record { refs = are.0.refs; alh = are.0.alh ∙ alh-longer hash history more id one (omega (arith, le)) },
-  records-longer hash history more (id + 1) rs (omega (arith, one)) (omega (arith, le)) are.1,
-)
-
--- nor what the files hold
-pub first-longer : (hash : Hash) (history more : List Transaction) (batches : List (List Record)) (durable : ℕ) (ends : Ends) → IsHistory (history ++ more)
-    → AreFirst hash history batches durable ends → AreFirst hash (history ++ more) batches durable ends
-first-longer hash history more batches durable ends is first = record {
-  digests = first.digests;
-  history_is = is;
-  placed = omega (arith, first.placed, length-append history more);
-  transactions_are = first.transactions_are ∙ sym (take-append-le durable history more first.placed);
-  records_are = records-longer hash history more 1 (joined batches) (omega arith) (omega (arith, first_number hash history batches durable ends first, first.placed)) first.records_are;
-  filled = first.filled;
-  ends_are = first.ends_are;
-}
-
-pub rest-longer : {D : Type 0} (told : D → Option Told) (hash : Hash) (history more : List Transaction) (batches : List (List Record)) (k : Kept D) → IsHistory (history ++ more)
-    → IsAtRest told hash history batches k → IsAtRest told hash (history ++ more) batches k
-rest-longer told hash history more batches k is rest = record {
-  idle = rest.idle;
-  first = first-longer hash history more batches k.durable k.ends is rest.first;
-  resting = rest.resting;
-}
 
 -- the Alh of one transaction more
 alh-next : (hash : Hash) (history : List Transaction) (tx : Transaction) → alh_of hash (history ++ tx ∷ []) (length history + 1) ≡ alh hash (next_header hash (alhs_of hash history) tx)
