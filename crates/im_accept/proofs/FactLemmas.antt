@@ -14,7 +14,7 @@ use Rattle.im_model.proofs.HeaderLemmas.{header-prefix}
 use Rattle.im_proof.specs.declared.proofs.DualProof.{DualProof}
 use Rattle.im_dual.proofs.RecordLemmas.{id-of}
 use Rattle.im_wire.specs.declared.messages.Message.{Message}
-use Rattle.im_report.specs.Replies.{anchor_between, dual_between, no_entry}
+use Rattle.im_proof.specs.Between.{anchor_between, dual_between, no_entry}
 use Rattle.im_facts.specs.Facts.{Known, with_message, known_header, is_lower, is_level, is_before, is_beside, both_headers, anchor_headers, headers_shown, entries_shown, Agrees, IsAlike, IsEntryAlike}
 use Rattle.im_facts.specs.declared.facts.EntryFact.{EntryFact}
 use Rattle.im_facts.proofs.AgreeLemmas.{each-agrees}

@@ -22,7 +22,7 @@ use Rattle.im_octet.proofs.Common.{bytes-same}
 use Rattle.im_mtree.proofs.CheckLemmas.{one-holds, two-hold, two-then, both-hold}
 use Rattle.im_dual.proofs.RecordLemmas.{bl-of, headers-recorded, history-passes, id-of}
 use Rattle.im_wire.specs.declared.messages.Message.TheVariants as says
-use Rattle.im_report.specs.Replies.{anchor_between, dual_between, no_entry}
+use Rattle.im_proof.specs.Between.{anchor_between, dual_between, no_entry}
 use Rattle.im_client.specs.LineChecks.{anchor_checks, anchor_ends_checks, dual_line_checks, is_anchored, line_checks, same_state_checks}
 use Rattle.im_client.specs.declared.faults.LineFault.{LineFault}
 use Rattle.im_client.specs.declared.faults.LineFault.TheVariants.{State, StateId, StateAlh, SourceId, SourceAlh, TargetId, TargetAlh, Dual, AnchorMissing, AnchorExtra, AnchorSourceId, AnchorTargetId, AnchorSourceAlh, AnchorTargetAlh, Anchor, Path}

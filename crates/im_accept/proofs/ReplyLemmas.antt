@@ -27,7 +27,8 @@ use Rattle.im_wire.specs.declared.messages.Message.TheVariants as says
 use Rattle.im_script.specs.declared.commands.Command.{Command}
 use Rattle.im_script.specs.declared.commands.Command.TheVariants.{Set, Get, Scan, History, Header, State, Prove, Advance, Item, Link}
 use Rattle.im_report.specs.Reads.{history_reply, bare_or_hex, place_reply, scan_reply, scanned_text, value_reply, version_text, IsGetAnswer, IsReadAt, IsScanAnswer}
-use Rattle.im_report.specs.Replies.{advance_reply, anchor_between, between_reply, beyond_reply, dual_between, header_reply, item_reply, item_shown, no_entry_reply, order_reply, prove_reply, refused_reply, reserved_reply, shown_header, state_reply, tx_reply}
+use Rattle.im_proof.specs.Between.{anchor_between, dual_between}
+use Rattle.im_report.specs.Replies.{advance_reply, between_reply, beyond_reply, header_reply, item_reply, item_shown, no_entry_reply, order_reply, prove_reply, refused_reply, reserved_reply, shown_header, state_reply, tx_reply}
 use Rattle.im_report.specs.Report.{IsAnswer, IsSetAnswer}
 use Rattle.im_accept.proofs.LfLemmas.{digits-lack, each-lacks, header-lacks, hex-lacks, octets-lack, text-lacks}
 

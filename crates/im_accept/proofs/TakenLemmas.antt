@@ -21,7 +21,8 @@ use Rattle.im_wire.specs.declared.messages.Message.TheVariants as says
 use Rattle.im_script.specs.declared.commands.Line.{Line}
 use Rattle.im_script.specs.declared.commands.Command.{Command}
 use Rattle.im_script.specs.declared.commands.Command.TheVariants.{Set, Get, Scan, History, Header, State, Prove, Advance, Item, Link}
-use Rattle.im_report.specs.Replies.{anchor_between, dual_between, item_reply}
+use Rattle.im_proof.specs.Between.{anchor_between, dual_between}
+use Rattle.im_report.specs.Replies.{item_reply}
 use Rattle.im_report.specs.Report.{Answered, IsAnswer, Report}
 use Rattle.im_client.specs.Folds.{state_with}
 use Rattle.im_client.specs.LineChecks.{line_checks}

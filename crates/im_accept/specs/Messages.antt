@@ -11,7 +11,7 @@ use Rattle.im_wire.specs.declared.messages.Message.{Message}
 use Rattle.im_wire.specs.declared.messages.Message.TheVariants as says
 use Rattle.im_script.specs.declared.commands.Command.{Command}
 use Rattle.im_script.specs.declared.commands.Command.TheVariants.{Set, Get, Scan, History, Header, State, Prove, Advance, Item, Link}
-use Rattle.im_report.specs.Replies.{anchor_between, dual_between, no_entry}
+use Rattle.im_proof.specs.Between.{anchor_between, dual_between, no_entry}
 
 -- entry i of transaction t, with its path there and the dual proof from t to s
 abbrev pub item_between : Hash → List Transaction → ℕ → ℕ → ℕ → Message

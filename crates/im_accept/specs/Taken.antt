@@ -12,7 +12,7 @@ use Rattle.im_wire.specs.declared.messages.Message.{Message}
 use Rattle.im_script.specs.declared.commands.Line.{Line}
 use Rattle.im_script.specs.declared.commands.Command.{Command}
 use Rattle.im_script.specs.declared.commands.Command.TheVariants.{Set, Get, Scan, History, Header, State, Prove, Advance, Item, Link}
-use Rattle.im_report.specs.Replies.{no_entry}
+use Rattle.im_proof.specs.Between.{no_entry}
 use Rattle.im_report.specs.Report.{Answered}
 use Rattle.im_client.specs.Folds.{state_with}
 use Rattle.im_facts.specs.Facts.{Known, with_message}

@@ -3,3 +3,4 @@ pub mod TreeChecks
 pub mod ChainChecks
 pub mod Duals
 pub mod Built
+pub mod Between

@@ -19,7 +19,8 @@ use Rattle.im_versions.specs.declared.versions.Version.{Version}
 use Rattle.im_versions.specs.declared.refusals.PlaceError.{PlaceError}
 use Rattle.im_versions.specs.declared.refusals.PlaceError.TheVariants as place
 use Rattle.im_report.specs.Reads.{history_reply, bare_or_hex, place_reply, scan_reply, value_reply, IsGetAnswer, IsReadAt, IsScanAnswer}
-use Rattle.im_report.specs.Replies.{advance_reply, anchor_between, between_reply, beyond_reply, dual_between, full_reply, header_reply, item_reply, item_shown, linked_reply, no_entry_reply, order_reply, prove_reply, refused_reply, reserved_reply, shown_header, state_reply, tx_reply}
+use Rattle.im_proof.specs.Between.{anchor_between, dual_between}
+use Rattle.im_report.specs.Replies.{advance_reply, between_reply, beyond_reply, full_reply, header_reply, item_reply, item_shown, linked_reply, no_entry_reply, order_reply, prove_reply, refused_reply, reserved_reply, shown_header, state_reply, tx_reply}
 
 -- `tx <n>` says so
 pub tx-placed : (n : ℕ) → bytes_eq (tx_reply n) (tx_reply n) ≡ true

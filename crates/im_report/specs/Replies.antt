@@ -1,18 +1,19 @@
 -- The texts of replies.
-use Rattle.std.specs.Prelude.{ℕ, ◌==◌, ◌&&◌, ◌||◌, List, [], ◌++◌, length, map, nat_lt, slice_index_or, if◌then◌else◌, Option, Some, None, codes}
+use Rattle.std.specs.Prelude.{ℕ, ◌==◌, ◌||◌, List, [], ◌++◌, length, map, nat_lt, slice_index_or, if◌then◌else◌, codes}
 use Rattle.std.specs.Fmt.{decimal}
 use Rattle.hex.specs.Hex.{encode_lower}
 use Rattle.im_digest.specs.Digests.{Hash}
 use Rattle.im_model.specs.Headers.{alh}
 use Rattle.im_model.specs.Entries.{entry_digest}
-use Rattle.im_model.specs.History.{alhs_of, header_of, transaction_of}
+use Rattle.im_model.specs.History.{header_of, transaction_of}
 use Rattle.im_model.specs.declared.entries.Entry.{Entry}
 use Rattle.im_model.specs.declared.headers.Header.{Header}
 use Rattle.im_model.specs.declared.transactions.Transaction.{Transaction}
 use Rattle.im_draft.specs.declared.refusals.PrepareError.{PrepareError}
 use Rattle.im_draft.specs.declared.refusals.PrepareError.TheVariants.{Memory, NoEntries, TooMany, KeyEmpty, KeyLong, ValueLong, Twice}
 use Rattle.im_wire.specs.Headers.{header_text}
-use Rattle.im_proof.specs.Built.{dual_of, inners_of, path_of}
+use Rattle.im_proof.specs.Between.{anchor_between, dual_between, no_entry}
+use Rattle.im_proof.specs.Built.{path_of}
 use Rattle.im_proof.specs.declared.proofs.DualProof.{DualProof}
 use Rattle.im_wire.specs.Texts.{text}
 use Rattle.im_wire.specs.declared.messages.Message.TheVariants as says
@@ -73,19 +74,6 @@ between_reply history s t shown =
     else (if nat_lt (length history) t then beyond_reply (length history)
     else shown)
 
--- the dual proof between transactions s and t of a history
-abbrev pub dual_between : Hash → List Transaction → ℕ → ℕ → DualProof
-dual_between hash history s t =
-    dual_of hash (header_of hash history s) (header_of hash history t) (alhs_of hash history) (inners_of hash history)
-
--- the anchor of an advance from s to t: where the tree of t ends behind that of s and before s, the dual
--- proof from that end to s
-unfoldable pub anchor_between : Hash → List Transaction → ℕ → ℕ → Option DualProof
-anchor_between hash history s t =
-    let old = (transaction_of history s).bl in
-    let size = (transaction_of history t).bl in
-    if nat_lt old size && nat_lt size s then Some (dual_between hash history size s) else None
-
 -- of `prove s t`, after these transactions
 unfoldable pub prove_reply : Hash → List Transaction → ℕ → ℕ → List ℕ
 prove_reply hash history s t = between_reply history s t (text (says.Dual (dual_between hash history s t)))
@@ -98,10 +86,6 @@ advance_reply hash history s t =
 -- of an index that is not below the number of a transaction's entries: `refused noentry <number>`
 unfoldable pub no_entry_reply : ℕ → List ℕ
 no_entry_reply width = codes "refused noentry " ++ decimal width
-
--- stands where an index is beyond the entries
-abbrev pub no_entry : Entry
-no_entry = record { md = []; key = []; value = [] }
 
 -- entry i of these, from 0, and its path among them, with a dual proof from their transaction
 unfoldable pub item_shown : Hash → DualProof → List Entry → ℕ → List ℕ

@@ -4,7 +4,8 @@ ghost use Rattle.im_model.specs.Entries.{entry_digest};
 ghost use Rattle.im_mtree.specs.Checks.{first_fail};
 ghost use Rattle.im_proof.specs.Built.{path_of};
 ghost use Rattle.im_proof.specs.Duals.{dual_checks};
-ghost use Rattle.im_report.specs.Replies.{advance_reply, anchor_between, between_reply, dual_between, item_reply, item_shown, no_entry, prove_reply, state_reply};
+ghost use Rattle.im_proof.specs.Between.{anchor_between, dual_between, no_entry};
+ghost use Rattle.im_report.specs.Replies.{advance_reply, between_reply, item_reply, item_shown, prove_reply, state_reply};
 ghost use Rattle.im_script.specs.declared.commands.Command.TheVariants as says;
 ghost use Rattle.im_accept.specs.Messages.{IsReadBack};
 ghost use Rattle.im_wire.specs.Lines.{is_open};
@@ -114,7 +115,7 @@ pub(crate) fn prove_text<H: Hash32>(
 
 // The dual proof from the end of the tree of transaction t to transaction s, where that end lies behind the
 // tree of s and before s.
-#[tactic(auto, unfolding(im_report::specs::Replies::anchor_between))]
+#[tactic(auto, unfolding(im_proof::specs::Between::anchor_between))]
 fn anchor<H: Hash32>(
     alloc: Global,
     hash: &H,

@@ -1,6 +1,6 @@
 use Rattle.std.proofs.Common.{List, ℕ, IfOk, subst, ap, ◌∙◌, slice_index_or}
 use Rattle.im_model.specs.declared.entries.Entry.{Entry}
-use Rattle.im_report.specs.Replies.{no_entry}
+use Rattle.im_proof.specs.Between.{no_entry}
 use Rattle.im_wire.specs.Messages.{HasMessage}
 use Rattle.im_wire.specs.declared.messages.Message.{Message}
 use Rattle.im_wire.specs.declared.messages.Message.TheVariants.{Item}
