@@ -68,7 +68,7 @@ kept-id hash history headers k kept some within =
     let long : length headers ≡ length history = kept-length hash history headers kept in
     ap (λ header. header.id) (kept-at hash history headers k kept some within) ∙ id-of hash history k some (omega arith)
 
-kept-bl : (hash : Hash) (history : List Transaction) (headers : List Header) (k : ℕ) → headers ≡ headers_of hash history → 1 ≤ k → k ≤ length headers
+pub kept-bl : (hash : Hash) (history : List Transaction) (headers : List Header) (k : ℕ) → headers ≡ headers_of hash history → 1 ≤ k → k ≤ length headers
     → (header_at headers k).bl_tx_id ≡ (transaction_of history k).bl
 kept-bl hash history headers k kept some within =
     ap (λ header. header.bl_tx_id) (kept-at hash history headers k kept some within) ∙ bl-of hash history k

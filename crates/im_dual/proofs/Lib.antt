@@ -1,4 +1,5 @@
 pub mod AdvanceLemmas
+pub mod AnchorLemmas
 pub mod KeptLemmas
 pub mod PassLemmas
 pub mod RecordLemmas

@@ -43,7 +43,7 @@ pub fn build<H: Hash32>(
 }
 
 // The size of the tree when transaction t was placed.
-fn size_at(headers: &[Header], t: usize) -> u64
+pub(crate) fn size_at(headers: &[Header], t: usize) -> u64
     requires some { 1 ≤ t }
     requires within { t ≤ length headers.now }
     ensures { result ≡ (header_at headers.now t).bl_tx_id }

@@ -3,6 +3,7 @@
 #![tactic(auto)]
 
 mod advance;
+pub mod anchors;
 pub mod build;
 pub mod check;
 pub mod headers;

@@ -15,6 +15,7 @@ ghost use Rattle.im_wire.specs.declared.messages.Message.TheVariants.{Item};
 ghost use Rattle.im_ledger.specs.Ledgers.{IsLedger};
 
 use im_digest::Hash32;
+use im_dual::anchors::anchor_between;
 use im_dual::build::build;
 use im_entry::digests::digests_of;
 use im_ledger::ledger::Ledger;
@@ -113,9 +114,7 @@ pub(crate) fn prove_text<H: Hash32>(
     message_text(alloc, Message::Dual { dual })
 }
 
-// The dual proof from the end of the tree of transaction t to transaction s, where that end lies behind the
-// tree of s and before s.
-#[tactic(auto, unfolding(im_proof::specs::Between::anchor_between))]
+// The anchor of an advance from transaction s to t, where one is due.
 fn anchor<H: Hash32>(
     alloc: Global,
     hash: &H,
@@ -129,13 +128,7 @@ fn anchor<H: Hash32>(
     requires within { t ≤ length ledger.now.transactions }
     ensures { IfOk result (λ anchor. anchor ≡ anchor_between (H.digest hash.now) ledger.now.transactions s t) }
 {
-    let old = ledger.transaction(s).bl;
-    let size = ledger.transaction(t).bl;
-    if old < size && size < s {
-        Ok(Some(dual_between(alloc, hash, ledger, size, s)?))
-    } else {
-        Ok(None)
-    }
+    anchor_between(alloc, hash, ledger.headers(), ledger.tree(), s, t)
 }
 
 /// The reply to `advance`: the dual proof between two transactions, and its anchor where one is due. Each costs what
