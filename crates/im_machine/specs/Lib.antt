@@ -1,0 +1,5 @@
+pub mod Allowed
+pub mod Answers
+pub mod Machines
+pub mod Runs
+pub mod Steps
