@@ -1,8 +1,18 @@
-//! The timed index: the versions of a history in the order of its transactions, and snapshots of it. The index is a
-//! view of the history's keys, and a snapshot lends one. A session reads the index itself; a snapshot is for a reader
-//! that goes on while transactions are taken.
+//! The timed index: the versions of a history's keys in sorted runs, which are merged as they grow, and snapshots that
+//! share them. A read finds its place in each run by halving, and the steps that it may take are said by clauses. The
+//! index and its snapshots are views of the history's keys, and so is `PlainIndex`, the same as one list. A session
+//! reads the index itself; a snapshot is for a reader that goes on while transactions are taken.
 #![tactic(auto)]
 
 pub mod index;
+mod keys;
+mod maps;
+mod merging;
+pub mod plain;
+mod plain_reads;
 mod reads;
+mod run;
+mod search;
+mod shared;
 pub mod snapshot;
+pub mod steps;

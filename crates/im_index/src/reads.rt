@@ -1,130 +1,227 @@
-ghost use Rattle.std.specs.Prelude.{◌≡◌, List, filter, map, not, take, IfOk, OnOk};
-ghost use Rattle.std.specs.BTreeMap.{IsOrdered};
-ghost use Rattle.std.specs.Cmp.Lexicographic.{slice_cmp};
-ghost use Rattle.std.specs.Option.{option_map};
-ghost use Rattle.std.specs.Ordering.{nat_cmp};
-ghost use Rattle.im_model.specs.declared.transactions.Transaction.{Transaction};
-ghost use Rattle.im_versions.specs.Versions.{all_versions, is_of, IsScan};
-ghost use Rattle.im_index.specs.Newest.{last_of, HasNewest, PutsNewest};
+//! What is read off runs. A call that counts its steps has a twin that counts nothing.
 
+ghost use Rattle.std.specs.Prelude.{◌≡◌, ◌≤◌, ◌<◌, ◌+◌, ◌*◌, ◌++◌, [], ◌∷◌, ℕ, List, All, IsTrue, filter, length, nat_le, take, IfOk, OnOk};
+ghost use Rattle.std.specs.List.{last_or, flat_map};
+ghost use Rattle.std.specs.List.Sorted.{IsSorted};
+ghost use Rattle.im_model.specs.declared.transactions.Transaction.{Transaction};
+ghost use Rattle.im_versions.specs.Versions.{begins_with, IsScan};
+ghost use Rattle.im_versions.specs.declared.versions.Version.{Version as TheVersion};
+ghost use Rattle.im_index.specs.Indexed.{AreRunsOf};
+ghost use Rattle.im_index.specs.Marks.{numbered, found};
+ghost use Rattle.im_index.specs.Newest.{HasNewest};
+ghost use Rattle.im_index.specs.Runs.{HasDigits};
+
+use crate::maps::{live_of, put};
+use crate::run::Run;
+use crate::search::{begun, last, of_key};
+use crate::shared::Shared;
+use crate::steps::Steps;
 use im_versions::versions::{Version, Versions};
 use std::alloc::{AllocError, Global};
 use std::collections::BTreeMap;
+use std::marker::Brand;
+use std::sync::ledger::{Blank, Ledger};
 
-// The versions of the first `n` transactions, which stand in front of those of the later ones. It halves what
-// is left at each version that it looks at.
-pub(crate) fn up_to(versions: &[Version], n: u64) -> &[Version]
-    ensures { (history : List Transaction) → versions.now ≡ all_versions history → result.now ≡ all_versions (take n history) }
-{
-    let end = versions.partition_point(|version| version.tx <= n);
-    &versions[..end]
-}
-
-// A copy of each version.
-pub(crate) fn copy_of(alloc: Global, versions: &[Version]) -> Result<Vec<Version>, AllocError>
-    ensures { IfOk result (λ copies. copies.items ≡ versions.now) }
-{
-    let mut copies = Vec::with_capacity(alloc, versions.len())?;
-    for version in versions {
-        copies.push(version.try_clone(alloc)?)?;
-    }
-    Ok(copies)
-}
-
-// A copy of the last version of a key. It looks at the versions from the last one back to that one.
-pub(crate) fn last(
+// The last version of a key in all runs, among the first `n` transactions, with its steps counted. Only it is
+// copied.
+pub(crate) fn get_steps<L: Ledger>(
     alloc: Global,
-    versions: &[Version],
+    runs: &[Run],
     key: &[u8],
+    n: u64,
+    steps: &mut Steps<L>,
 ) -> Result<Option<Version>, AllocError>
-    ensures { IfOk result (λ version. version ≡ last_of versions.now key.now) }
+    requires { All (IsSorted numbered) runs.now }
+    ensures last { IfOk result (λ version. version ≡ last_or None (found key.now n (flat_map (λ r. r) runs.now))) }
+    ensures cost { (b : ℕ) → All (λ r. HasDigits b (length r)) runs.now → steps.new ≤ steps.old + length runs.now * (b + 1) }
 {
-    match last_of(versions, key) {
+    match last(runs, key, n, steps) {
         Some(version) => Ok(Some(version.try_clone(alloc)?)),
         None => Ok(None),
     }
 }
 
-// The last version of a key.
-fn last_of<'v>(versions: &'v [Version], key: &[u8]) -> Option<&'v Version>
-    ensures { option_map (λ v. v.now) result ≡ last_of versions.now key.now }
+// The same, with a count that nobody reads.
+fn get_counted<L: Ledger>(
+    alloc: Global,
+    runs: &[Run],
+    key: &[u8],
+    n: u64,
+    blank: Blank,
+) -> Result<Option<Version>, AllocError>
+    requires name { blank.name ≡ L.name }
+    requires parts { blank.parts ≡ L.parts }
+    requires some { 0 < blank.parts }
+    requires sorted { All (IsSorted numbered) runs.now }
+    ensures { IfOk result (λ version. version ≡ last_or None (found key.now n (flat_map (λ r. r) runs.now))) }
 {
-    versions
-        .iter()
-        .rev()
-        .find(|version| version.key.as_slice() == key)
+    get_steps(alloc, runs, key, n, &mut Steps::<L>::new(blank))
 }
 
-// Copies of the versions of a key, in their order. It looks at each version.
-pub(crate) fn of_key(
+// The last version of a key in all runs, among the first `n` transactions.
+pub(crate) fn get(
     alloc: Global,
-    versions: &[Version],
+    runs: &[Run],
     key: &[u8],
+    n: u64,
+) -> Result<Option<Version>, AllocError>
+    requires { All (IsSorted numbered) runs.now }
+    ensures { IfOk result (λ version. version ≡ last_or None (found key.now n (flat_map (λ r. r) runs.now))) }
+{
+    get_counted::<Brand>(alloc, runs, key, n, Blank::new(1))
+}
+
+// Puts copies of versions behind others.
+fn copy_behind(
+    alloc: Global,
+    copies: &mut Vec<Version>,
+    versions: &[Shared],
+) -> Result<(), AllocError>
+    ensures { OnOk result (copies.new.items ≡ copies.old.items ++ versions.now) }
+{
+    for shared in versions {
+        copies.push(shared.version().try_clone(alloc)?)?;
+    }
+    Ok(())
+}
+
+// Copies of the versions of a key in all runs, among the first `n` transactions, oldest first, with the steps
+// counted. It looks for the first and for the last of them in each run.
+pub(crate) fn versions_steps<L: Ledger>(
+    alloc: Global,
+    runs: &[Run],
+    key: &[u8],
+    n: u64,
+    steps: &mut Steps<L>,
 ) -> Result<Versions, AllocError>
-    ensures { IfOk result (λ copies. copies ≡ filter (is_of key.now) versions.now) }
+    requires sorted { All (IsSorted numbered) runs.now }
+    requires counted { All (λ r. All (λ (v : TheVersion). 0 < v.tx) r) runs.now }
+    ensures versions { IfOk result (λ versions. versions ≡ found key.now n (flat_map (λ r. r) runs.now)) }
+    ensures cost { (b : ℕ) → All (λ r. HasDigits b (length r)) runs.now → steps.new ≤ steps.old + length runs.now * (2 * b) }
 {
     let mut copies = Vec::new(alloc);
-    for version in versions {
-        if version.key.as_slice() == key {
-            copies.push(version.try_clone(alloc)?)?;
-        }
+    for run in runs {
+        copy_behind(alloc, &mut copies, of_key(run.as_slice(), key, n, steps))?;
     }
     Ok(Versions::from_vec(copies))
 }
 
-// Copies of the last versions of the live keys that begin with a prefix, in rising order. It looks at each
-// version, and puts those of such keys into a map.
-pub(crate) fn scan(
+// The same, with a count that nobody reads.
+fn versions_counted<L: Ledger>(
     alloc: Global,
-    versions: &[Version],
-    prefix: &[u8],
+    runs: &[Run],
+    key: &[u8],
+    n: u64,
+    blank: Blank,
 ) -> Result<Versions, AllocError>
-    ensures { (history : List Transaction) → versions.now ≡ all_versions history → IfOk result (λ shown. IsScan history prefix.now shown) }
+    requires name { blank.name ≡ L.name }
+    requires parts { blank.parts ≡ L.parts }
+    requires some { 0 < blank.parts }
+    requires sorted { All (IsSorted numbered) runs.now }
+    requires counted { All (λ r. All (λ (v : TheVersion). 0 < v.tx) r) runs.now }
+    ensures { IfOk result (λ versions. versions ≡ found key.now n (flat_map (λ r. r) runs.now)) }
 {
-    let newest = newest(alloc, versions, prefix)?;
-    Ok(Versions::from_vec(live_of(alloc, &newest)?))
+    versions_steps(alloc, runs, key, n, &mut Steps::<L>::new(blank))
 }
 
-// The last version of each key that begins with a prefix.
-fn newest<'v>(
+// Copies of the versions of a key in all runs, among the first `n` transactions, oldest first.
+pub(crate) fn versions(
     alloc: Global,
-    versions: &'v [Version],
-    prefix: &[u8],
-) -> Result<BTreeMap<&'v [u8], &'v Version>, AllocError>
-    ensures { IfOk result (HasNewest versions.now prefix.now) }
+    runs: &[Run],
+    key: &[u8],
+    n: u64,
+) -> Result<Versions, AllocError>
+    requires sorted { All (IsSorted numbered) runs.now }
+    requires counted { All (λ r. All (λ (v : TheVersion). 0 < v.tx) r) runs.now }
+    ensures { IfOk result (λ versions. versions ≡ found key.now n (flat_map (λ r. r) runs.now)) }
 {
-    let mut newest = BTreeMap::new(alloc);
-    for version in versions {
-        let key = version.key.as_slice();
-        if key.starts_with(prefix) {
-            put(&mut newest, key, version)?;
-        }
-    }
-    Ok(newest)
+    versions_counted::<Brand>(alloc, runs, key, n, Blank::new(1))
 }
 
-// Puts a version at its key, in the place of an earlier one.
-fn put<'v>(
+// Puts a version into a map in the place of an earlier one of its key, where it is of the first `n` transactions.
+fn put_within<'v>(
     newest: &mut BTreeMap<&'v [u8], &'v Version>,
-    key: &'v [u8],
     version: &'v Version,
+    n: u64,
 ) -> Result<(), AllocError>
-    ensures { OnOk result (PutsNewest newest.old newest.new key.now version.now) }
+    ensures { (before : List TheVersion) (prefix : List ℕ) → HasNewest before prefix newest.old → IsTrue (begins_with prefix version.now.key)
+        → OnOk result (HasNewest (before ++ filter (λ v. nat_le v.tx n) (version.now ∷ [])) prefix newest.new) }
 {
-    newest.insert(key, version)?;
+    let is_behind = n < version.tx;
+    if is_behind {
+        return Ok(());
+    }
+    put(newest, version.key.as_slice(), version)
+}
+
+// Puts the versions of the first `n` transactions among these into a map, each in the place of an earlier one of
+// its key.
+fn put_last<'v>(
+    newest: &mut BTreeMap<&'v [u8], &'v Version>,
+    versions: &'v [Shared],
+    n: u64,
+) -> Result<(), AllocError>
+    ensures { (before : List TheVersion) (prefix : List ℕ) → HasNewest before prefix newest.old → All (λ v. IsTrue (begins_with prefix v.key)) versions.now
+        → OnOk result (HasNewest (before ++ filter (λ v. nat_le v.tx n) versions.now) prefix newest.new) }
+{
+    for shared in versions {
+        put_within(newest, shared.version(), n)?;
+    }
     Ok(())
 }
 
-// Copies of the versions of a map that aren't deletions, in the order of their keys.
-fn live_of(alloc: Global, newest: &BTreeMap<&[u8], &Version>) -> Result<Vec<Version>, AllocError>
-    ensures live { IfOk result (λ live. live.items ≡ filter (λ v. not v.deleted) (map (λ e. e.1.now) newest.now.entries)) }
-    ensures ordered { OnOk result (IsOrdered (λ x y. slice_cmp nat_cmp x.now y.now) newest.now) }
+// Copies of the last versions of the live keys that begin with a prefix, after the first `n` transactions, in
+// rising order, with the steps counted. It looks at the versions in the runs whose keys begin with it, and at the
+// one behind them in each run.
+pub(crate) fn scan_steps<L: Ledger>(
+    alloc: Global,
+    runs: &[Run],
+    prefix: &[u8],
+    n: u64,
+    steps: &mut Steps<L>,
+) -> Result<Versions, AllocError>
+    requires sorted { All (IsSorted numbered) runs.now }
+    requires counted { All (λ r. All (λ (v : TheVersion). 0 < v.tx) r) runs.now }
+    ensures scan { (history : List Transaction) → AreRunsOf runs.now history → IfOk result (λ shown. IsScan (take n history) prefix.now shown) }
+    ensures cost { (b : ℕ) → All (λ r. HasDigits b (length r)) runs.now
+        → steps.new ≤ steps.old + length runs.now * (b + 1) + length (filter (λ v. begins_with prefix.now v.key) (flat_map (λ r. r) runs.now)) }
 {
-    let mut live = Vec::new(alloc);
-    for version in newest.values() {
-        if !version.deleted {
-            live.push(version.try_clone(alloc)?)?;
-        }
+    let mut newest = BTreeMap::new(alloc);
+    for run in runs {
+        put_last(&mut newest, begun(run.as_slice(), prefix, steps), n)?;
     }
-    Ok(live)
+    Ok(Versions::from_vec(live_of(alloc, &newest)?))
+}
+
+// The same, with a count that nobody reads.
+fn scan_counted<L: Ledger>(
+    alloc: Global,
+    runs: &[Run],
+    prefix: &[u8],
+    n: u64,
+    blank: Blank,
+) -> Result<Versions, AllocError>
+    requires name { blank.name ≡ L.name }
+    requires parts { blank.parts ≡ L.parts }
+    requires some { 0 < blank.parts }
+    requires sorted { All (IsSorted numbered) runs.now }
+    requires counted { All (λ r. All (λ (v : TheVersion). 0 < v.tx) r) runs.now }
+    ensures { (history : List Transaction) → AreRunsOf runs.now history → IfOk result (λ shown. IsScan (take n history) prefix.now shown) }
+{
+    scan_steps(alloc, runs, prefix, n, &mut Steps::<L>::new(blank))
+}
+
+// Copies of the last versions of the live keys that begin with a prefix, after the first `n` transactions, in
+// rising order.
+pub(crate) fn scan(
+    alloc: Global,
+    runs: &[Run],
+    prefix: &[u8],
+    n: u64,
+) -> Result<Versions, AllocError>
+    requires sorted { All (IsSorted numbered) runs.now }
+    requires counted { All (λ r. All (λ (v : TheVersion). 0 < v.tx) r) runs.now }
+    ensures { (history : List Transaction) → AreRunsOf runs.now history → IfOk result (λ shown. IsScan (take n history) prefix.now shown) }
+{
+    scan_counted::<Brand>(alloc, runs, prefix, n, Blank::new(1))
 }

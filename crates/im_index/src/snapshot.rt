@@ -1,21 +1,33 @@
-use crate::index::Index;
+use crate::reads;
+use crate::run::Run;
+use crate::steps::Steps;
+use im_versions::versions::{Version, Versions};
+use im_view::errors::ViewError;
+use im_view::view::KvView;
+use std::alloc::Global;
 use std::marker::Model;
+use std::sync::ledger::Ledger;
 
 /// What stands after some transactions of a history: a value of the caller's own, which later transactions
-/// don't change. A clause sees the versions, and the number of transactions.
+/// don't change. A clause sees the runs that it shares, and the number of transactions.
 ///
-/// A read costs what it costs of the index whose last transaction is the snapshot's.
+/// What a read costs, where the runs hold a number of versions with b binary digits: `get` compares at most
+/// b * (b + 1) keys, `versions` at most 2 * b * b, and it copies the versions that it tells. `scan` compares at
+/// most b * (b + 1) keys and one more for each version in the runs whose key begins with the prefix, and puts
+/// those of the first n transactions into a map. Versions of transactions behind the snapshot's are among those
+/// that the runs hold.
 ///
 /// # Thread safety
 ///
-/// It shares nothing with the index that it was taken of, and no call changes it, so that reads need no lock.
+/// It shares runs with the index that it was taken of, and no call changes a run, so that reads need no lock.
 ///
 /// # Invariants
 ///
-/// `IsIndexOf`, of the first transactions of the index's history, as `Index::snapshot` gives it.
+/// `IsSnapshotOf`, of the first transactions of the index's history, as `Index::snapshot` gives it.
 #[derive(Drop)]
 pub struct Snapshot {
-    index: Index,
+    runs: Vec<Run>,
+    taken: u64,
 }
 
 impl Model for Snapshot {
@@ -23,30 +35,99 @@ impl Model for Snapshot {
 
     ghost Value = { Indexed };
 
-    ghost view = { λ s. s.index };
+    ghost view = { λ s. record { runs = s.runs.items; taken = s.taken } };
 }
 
 impl Snapshot {
-    ghost use Rattle.std.specs.Prelude.{◌≡◌};
+    ghost use Rattle.std.specs.Prelude.{◌≡◌, ◌≤◌, ◌+◌, ◌*◌, ℕ, List, filter, length, take, IfOk};
+    ghost use Rattle.std.specs.List.{flat_map};
+    ghost use Rattle.im_model.specs.declared.transactions.Transaction.{Transaction};
+    ghost use Rattle.im_versions.specs.Versions.{begins_with, last_version, versions_of, IsScan};
+    ghost use Rattle.im_index.specs.Indexed.{IsSnapshotOf};
+    ghost use Rattle.im_index.specs.Runs.{HasDigits, held};
 
-    // The snapshot that is this index, which takes no more transactions.
-    pub(crate) fn of(index: Index) -> Self
-        ensures { result ≡ index }
+    // A snapshot of so many transactions over these runs.
+    pub(crate) fn over(runs: Vec<Run>, taken: u64) -> Self
+        ensures { result ≡ record { runs = runs.items; taken = taken } }
     {
-        Snapshot { index }
+        Snapshot { runs, taken }
     }
 
     /// The number of transactions that it stands for.
     pub fn taken(&self) -> u64
         ensures { result ≡ self.now.taken }
     {
-        self.index.taken()
+        self.taken
     }
 
-    /// Lends it as a view.
-    pub fn view(&self) -> &Index
-        ensures { result.now ≡ self.now }
+    /// Answers as `get`, and counts the comparisons of keys: with b the number of binary digits of the number of
+    /// versions that the runs hold, at most b * (b + 1). Its only error is want of memory.
+    pub fn get_steps<L: Ledger>(
+        &self,
+        alloc: Global,
+        key: &[u8],
+        n: u64,
+        steps: &mut Steps<L>,
+    ) -> Result<Option<Version>, ViewError>
+        requires { (history : List Transaction) × IsSnapshotOf self.now history × (n ≤ length history) }
+        ensures value { (history : List Transaction) → IsSnapshotOf self.now history → n ≤ length history
+            → IfOk result (λ version. version ≡ last_version (take n history) key.now) }
+        ensures cost { (b : ℕ) → HasDigits b (held self.now.runs) → steps.new ≤ steps.old + b * (b + 1) }
     {
-        &self.index
+        Ok(reads::get_steps(alloc, &self.runs, key, n, steps)?)
+    }
+
+    /// Answers as `versions`, and counts the comparisons of keys: with b the number of binary digits of the number
+    /// of versions that the runs hold, at most 2 * b * b. Its only error is want of memory.
+    pub fn versions_steps<L: Ledger>(
+        &self,
+        alloc: Global,
+        key: &[u8],
+        n: u64,
+        steps: &mut Steps<L>,
+    ) -> Result<Versions, ViewError>
+        requires { (history : List Transaction) × IsSnapshotOf self.now history × (n ≤ length history) }
+        ensures value { (history : List Transaction) → IsSnapshotOf self.now history → n ≤ length history
+            → IfOk result (λ versions. versions ≡ versions_of (take n history) key.now) }
+        ensures cost { (b : ℕ) → HasDigits b (held self.now.runs) → steps.new ≤ steps.old + b * (2 * b) }
+    {
+        Ok(reads::versions_steps(alloc, &self.runs, key, n, steps)?)
+    }
+
+    /// Answers as `scan`, and counts the comparisons of keys in the runs, not those of the map: with b the number
+    /// of binary digits of the number of versions that the runs hold, at most b * (b + 1), and one for each version
+    /// in the runs whose key begins with the prefix. Its only error is want of memory.
+    pub fn scan_steps<L: Ledger>(
+        &self,
+        alloc: Global,
+        prefix: &[u8],
+        n: u64,
+        steps: &mut Steps<L>,
+    ) -> Result<Versions, ViewError>
+        requires { (history : List Transaction) × IsSnapshotOf self.now history × (n ≤ length history) }
+        ensures value { (history : List Transaction) → IsSnapshotOf self.now history → n ≤ length history
+            → IfOk result (λ shown. IsScan (take n history) prefix.now shown) }
+        ensures cost { (b : ℕ) → HasDigits b (held self.now.runs)
+            → steps.new ≤ steps.old + b * (b + 1) + length (filter (λ v. begins_with prefix.now v.key) (flat_map (λ r. r) self.now.runs)) }
+    {
+        Ok(reads::scan_steps(alloc, &self.runs, prefix, n, steps)?)
+    }
+}
+
+impl KvView for Snapshot {
+    ghost use Rattle.im_index.specs.Indexed.{IsSnapshotOf};
+
+    ghost stands = { IsSnapshotOf };
+
+    fn get(&self, alloc: Global, key: &[u8], n: u64) -> Result<Option<Version>, ViewError> {
+        Ok(reads::get(alloc, &self.runs, key, n)?)
+    }
+
+    fn scan(&self, alloc: Global, prefix: &[u8], n: u64) -> Result<Versions, ViewError> {
+        Ok(reads::scan(alloc, &self.runs, prefix, n)?)
+    }
+
+    fn versions(&self, alloc: Global, key: &[u8], n: u64) -> Result<Versions, ViewError> {
+        Ok(reads::versions(alloc, &self.runs, key, n)?)
     }
 }

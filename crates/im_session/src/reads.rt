@@ -15,17 +15,15 @@ use im_view::errors::ViewError;
 use im_view::view::KvView;
 use std::alloc::{AllocError, Global};
 
-/// Brings the index to the last transaction. It copies the versions that are added, and looks at no other ones.
+/// Brings the index to the last transaction. The versions that are added are copied and sorted once, and merged with
+/// the others as the index says.
 pub(crate) fn catch_up(alloc: Global, index: &mut Index, ledger: &Ledger) -> Result<(), AllocError>
     requires within { IsIndexWithin index.old ledger.now.transactions }
     requires few { length ledger.now.transactions ≤ 1048576 }
     ensures { OnOk result (IsIndexOf index.new ledger.now.transactions) }
 {
     let start = index.taken() as usize;
-    for tx in &ledger.transactions()[start..] {
-        index.take(alloc, tx)?;
-    }
-    Ok(())
+    index.take_all(alloc, &ledger.transactions()[start..])
 }
 
 // Want of memory is the only error of a view.

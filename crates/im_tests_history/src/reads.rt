@@ -1,17 +1,23 @@
-//! What is told of keys: by the plain program, as it was worked by hand, and by an index and its snapshots, as by
-//! the plain program.
+//! What is told of keys: by the plain program, as it was worked by hand, and by an index and its snapshots, as runs and
+//! as one list, as by the plain program.
 
-ghost use Rattle.std.specs.Prelude.{◌≡◌, ◌≤◌, List, length, IfOk};
+ghost use Rattle.std.specs.Prelude.{◌≡◌, ◌≤◌, ◌<◌, List, length, IfOk};
 ghost use Rattle.im_model.specs.declared.transactions.Transaction.{Transaction};
-ghost use Rattle.im_index.specs.Indexed.{IsIndexOf};
+ghost use Rattle.im_index.specs.Indexed.{IsIndexOf, IsSnapshotOf};
+ghost use Rattle.im_index.specs.Listed.{IsListOf};
 
 use crate::values::{FOUR, Write, history_of};
 use im_index::index::Index;
+use im_index::plain::PlainIndex;
+use im_index::snapshot::Snapshot;
+use im_index::steps::Steps;
 use im_model::transactions::Transaction;
 use im_versions::plain;
 use im_versions::versions::{Version, Versions};
 use im_view::view::KvView;
 use std::alloc::{AllocError, Global};
+use std::marker::Brand;
+use std::sync::ledger::{Blank, Ledger};
 use std::test::Fail;
 
 // Keys that begin with others.
@@ -200,13 +206,88 @@ fn index_of(alloc: Global, history: &[Transaction]) -> Result<Index, AllocError>
     Ok(index)
 }
 
+// The index of a history that takes all of it at once.
+fn index_at_once(alloc: Global, history: &[Transaction]) -> Result<Index, AllocError>
+    requires { length history.now ≤ 1048576 }
+    ensures { IfOk result (λ index. IsIndexOf index history.now) }
+{
+    let mut index = Index::new(alloc);
+    index.take_all(alloc, history)?;
+    Ok(index)
+}
+
+// The index of a history as one list.
+fn list_of(alloc: Global, history: &[Transaction]) -> Result<PlainIndex, AllocError>
+    requires { length history.now ≤ 1048576 }
+    ensures { IfOk result (λ index. IsListOf index history.now) }
+{
+    let mut index = PlainIndex::new(alloc);
+    for tx in history {
+        index.take(alloc, tx)?;
+    }
+    Ok(index)
+}
+
+// What a snapshot tells of a key by the calls that count their steps.
+fn told_counted<L: Ledger>(
+    alloc: Global,
+    snapshot: &Snapshot,
+    key: &[u8],
+    n: u64,
+    blank: Blank,
+) -> Result<Vec<u8>, Fail>
+    requires name { blank.name ≡ L.name }
+    requires parts { blank.parts ≡ L.parts }
+    requires some { 0 < blank.parts }
+    requires stands { (history : List Transaction) × IsSnapshotOf snapshot.now history × (n ≤ length history) }
+{
+    let mut steps = Steps::<L>::new(blank);
+    let mut text = Vec::new(alloc);
+    let last = snapshot.get_steps(alloc, key, n, &mut steps)?;
+    write_last(alloc, &mut text, last)?;
+    let versions = snapshot.versions_steps(alloc, key, n, &mut steps)?;
+    write_all(alloc, &mut text, versions)?;
+    let shown = snapshot.scan_steps(alloc, key, n, &mut steps)?;
+    write_all(alloc, &mut text, shown)?;
+    Ok(text)
+}
+
+// Whether they tell what the plain program does.
+fn counted_agrees_on(
+    alloc: Global,
+    snapshot: &Snapshot,
+    history: &[Transaction],
+    n: usize,
+    key: &[u8],
+) -> Result<bool, Fail>
+    requires stands { IsSnapshotOf snapshot.now history.now }
+    requires within { n ≤ length history.now }
+{
+    let told = told_counted::<Brand>(alloc, snapshot, key, n as u64, Blank::new(1))?;
+    Ok(told.as_slice() == told_plainly(alloc, &history[..n], key)?.as_slice())
+}
+
+// Whether they do so of each key.
+fn counted_agrees(alloc: Global, snapshot: &Snapshot, history: &[Transaction]) -> Result<bool, Fail>
+    requires { IsSnapshotOf snapshot.now history.now }
+{
+    for key in KEYS {
+        if !counted_agrees_on(alloc, snapshot, history, history.len(), key)? {
+            return Ok(false);
+        }
+    }
+    Ok(true)
+}
+
 // Whether the snapshot after each number of transactions tells what the plain program does.
 fn snapshots_agree(alloc: Global, index: &Index, history: &[Transaction]) -> Result<bool, Fail>
     requires { IsIndexOf index.now history.now }
 {
     for n in 0..history.len() + 1 {
         let snapshot = index.snapshot(alloc, n as u64)?;
-        if !agrees(alloc, snapshot.view(), &history[..n])? {
+        if !agrees(alloc, &snapshot, &history[..n])?
+            || !counted_agrees(alloc, &snapshot, &history[..n])?
+        {
             return Ok(false);
         }
     }
@@ -220,6 +301,18 @@ fn both_agree(alloc: Global, index: &Index, history: &[Transaction]) -> Result<b
     Ok(agrees(alloc, index, history)? && snapshots_agree(alloc, index, history)?)
 }
 
+// Whether the index as one list and what it was after all but one of the transactions do.
+fn list_agrees(alloc: Global, list: &PlainIndex, history: &[Transaction]) -> Result<bool, Fail>
+    requires { IsListOf list.now history.now }
+{
+    if history.is_empty() {
+        return agrees(alloc, list, history);
+    }
+    let n = history.len() - 1;
+    let before = list.snapshot(alloc, n as u64)?;
+    Ok(agrees(alloc, list, history)? && agrees(alloc, &before, &history[..n])?)
+}
+
 // Whether those of these writes do.
 fn all_agree(alloc: Global, writes: &[&[Write]]) -> Result<bool, Fail> {
     let history = history_of(alloc, writes)?;
@@ -227,7 +320,13 @@ fn all_agree(alloc: Global, writes: &[&[Write]]) -> Result<bool, Fail> {
         return Ok(false);
     }
     let index = index_of(alloc, &history)?;
-    both_agree(alloc, &index, &history)
+    let at_once = index_at_once(alloc, &history)?;
+    let list = list_of(alloc, &history)?;
+    Ok(
+        both_agree(alloc, &index, &history)?
+            && both_agree(alloc, &at_once, &history)?
+            && list_agrees(alloc, &list, &history)?,
+    )
 }
 
 fn each_agrees(alloc: Global) -> Result<bool, Fail> {
@@ -258,10 +357,10 @@ fn stays(
     requires three { length three.now ≡ 3 }
 {
     let snapshot = index.snapshot(alloc, 3)?;
-    let before = index.taken() == 3 && agrees(alloc, snapshot.view(), three)?;
+    let before = index.taken() == 3 && agrees(alloc, &snapshot, three)?;
     index.take(alloc, next)?;
     let after = index.taken() == 4 && snapshot.taken() == 3;
-    Ok(before && after && agrees(alloc, snapshot.view(), three)?)
+    Ok(before && after && agrees(alloc, &snapshot, three)?)
 }
 
 fn a_snapshot_stays(alloc: Global) -> Result<bool, Fail> {

@@ -1,5 +1,0 @@
-use Rattle.std.proofs.Common.{◌≡◌, filter, map, not}
-use Rattle.im_index.proofs.reads.live_of.Given as goal
-
-abbrev pub invariant-loop-version : goal.invariant-loop-version
-invariant-loop-version l = l.live.items ≡ filter (λ v. not v.deleted) (map (λ v. v.now.now) l.yielded)

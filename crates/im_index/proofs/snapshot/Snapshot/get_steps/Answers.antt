@@ -1,0 +1,31 @@
+use Rattle.std.proofs.Common.{◌≡◌, List, None, ap, sym, subst, ◌∙◌}
+use Rattle.std.specs.List.{All, last_or}
+use Rattle.std.specs.List.Sorted.{IsSorted}
+use Rattle.im_versions.specs.declared.versions.Version.{Version}
+use Rattle.im_index.specs.Marks.{found, numbered}
+use Rattle.im_index.specs.Indexed.{Indexed}
+use Rattle.im_index.proofs.HoldLemmas.{joined}
+use Rattle.im_index.proofs.IndexLemmas.{snapshot-cost, snapshot-last, snapshot-sorted}
+use Rattle.im_index.proofs.snapshot.Snapshot.get_steps.Goals as goal
+
+pub get_steps-requires : goal.get_steps-requires
+get_steps-requires g c =
+    let runs : c.deref.result.now ≡ c.args.self.now.runs = c.deref.ensures.value ∙ ap (λ (k : Indexed). k.runs) c.self.view_is in
+    subst (λ (rs : List (List Version)). All (IsSorted numbered) rs) (sym runs) (snapshot-sorted c.args.self.now c.requires.0 c.requires.1)
+
+pub returns-clause-value : goal.returns-clause-value
+returns-clause-value g c = λ history is within.
+    let runs : c.deref.result.now ≡ c.args.self.now.runs = c.deref.ensures.value ∙ ap (λ (k : Indexed). k.runs) c.self.view_is in
+    c.in_ok-get_steps.ensures.last
+    ∙ ap (λ (rs : List (List Version)). last_or None (found c.args.key.now c.args.n (joined rs))) runs
+    ∙ snapshot-last c.args.self.now history c.args.key.now c.args.n is within
+
+pub returns-clause-cost : goal.returns-clause-cost
+returns-clause-cost g c = λ b fits.
+    let runs : c.deref.result.now ≡ c.args.self.now.runs = c.deref.ensures.value ∙ ap (λ (k : Indexed). k.runs) c.self.view_is in
+    snapshot-cost c.args.self.now c.requires.0 b _ _ c.deref.result.now runs c.requires.1 fits c.in_ok-get_steps.ensures.cost
+
+pub returns-in_err-get_steps-clause-cost : goal.returns-in_err-get_steps-clause-cost
+returns-in_err-get_steps-clause-cost g c = λ b fits.
+    let runs : c.deref.result.now ≡ c.args.self.now.runs = c.deref.ensures.value ∙ ap (λ (k : Indexed). k.runs) c.self.view_is in
+    snapshot-cost c.args.self.now c.requires.0 b _ _ c.deref.result.now runs c.requires.1 fits c.in_err-get_steps.ensures.cost

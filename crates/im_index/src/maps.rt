@@ -1,0 +1,40 @@
+//! Maps from lent keys to lent versions.
+
+ghost use Rattle.std.specs.Prelude.{◌≡◌, filter, map, not, IfOk, OnOk};
+ghost use Rattle.std.specs.BTreeMap.{IsOrdered};
+ghost use Rattle.std.specs.Cmp.Lexicographic.{slice_cmp};
+ghost use Rattle.std.specs.Ordering.{nat_cmp};
+ghost use Rattle.im_index.specs.Newest.{PutsNewest};
+
+use im_versions::versions::Version;
+use std::alloc::{AllocError, Global};
+use std::collections::BTreeMap;
+
+// Puts a version at its key, in the place of an earlier one.
+pub(crate) fn put<'v>(
+    newest: &mut BTreeMap<&'v [u8], &'v Version>,
+    key: &'v [u8],
+    version: &'v Version,
+) -> Result<(), AllocError>
+    ensures { OnOk result (PutsNewest newest.old newest.new key.now version.now) }
+{
+    newest.insert(key, version)?;
+    Ok(())
+}
+
+// Copies of the versions of a map that aren't deletions, in the order of their keys.
+pub(crate) fn live_of(
+    alloc: Global,
+    newest: &BTreeMap<&[u8], &Version>,
+) -> Result<Vec<Version>, AllocError>
+    ensures live { IfOk result (λ live. live.items ≡ filter (λ v. not v.deleted) (map (λ e. e.1.now) newest.now.entries)) }
+    ensures ordered { OnOk result (IsOrdered (λ x y. slice_cmp nat_cmp x.now y.now) newest.now) }
+{
+    let mut live = Vec::new(alloc);
+    for version in newest.values() {
+        if !version.deleted {
+            live.push(version.try_clone(alloc)?)?;
+        }
+    }
+    Ok(live)
+}
