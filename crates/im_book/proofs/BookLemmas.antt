@@ -55,6 +55,7 @@ grown_by hash book tx = record {
   transactions = book.transactions ++ tx ∷ [];
   headers = book.headers ++ next_header hash book.alhs tx ∷ [];
   alhs = book.alhs ++ alh hash (next_header hash book.alhs tx) ∷ [];
+  keyed = book.keyed;
   room = book.room;
 }
 

@@ -1,4 +1,5 @@
 pub mod BookLemmas
 pub mod JudgeLemmas
+pub mod KeyedLemmas
 pub mod LastLemmas
 pub mod RootLemmas

@@ -6,11 +6,13 @@ use Rattle.im_model.specs.declared.headers.Header.{Header}
 use Rattle.im_model.specs.declared.transactions.Transaction.{Transaction}
 use Rattle.im_proof.specs.Built.{headers_of}
 
--- the lists of a book, and how many transactions more they have room for
+-- the lists of a book, how many of its transactions the index of keys has, and how many transactions more they have
+-- room for
 pub record Booked : Type 0 where
   pub transactions : List Transaction
   pub headers : List Header
   pub alhs : List (List ℕ)
+  pub keyed : ℕ
   pub room : ℕ
 
 -- the lists are those of one history

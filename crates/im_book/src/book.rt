@@ -1,10 +1,12 @@
 use crate::judging::judge_each;
+use crate::keyed::KeyedList;
 use crate::roots::{extend_to, root_of};
 use im_digest::{D32, Hash32};
 use im_draft::preconditions::Pres;
 use im_entry::digests::entry_root;
 use im_header::alh;
 use im_header::next::next_header;
+use im_index::steps::Steps;
 use im_model::headers::Header;
 use im_model::limits::MOST_TRANSACTIONS;
 use im_model::transactions::Transaction;
@@ -12,10 +14,14 @@ use im_mtree::frontiers::Frontier;
 use im_tx::prepared::Prepared;
 use im_versions::refusals::PlaceError;
 use std::alloc::{AllocError, Global};
-use std::marker::Model;
+use std::marker::{Brand, Model};
+use std::sync::ledger::{Blank, Ledger};
 
-/// Placed transactions, with the header and the Alh of each. A clause sees the three lists, and how many
-/// transactions more they have room for.
+/// Placed transactions, with the header and the Alh of each, and an index of their keys. A clause sees the three lists,
+/// how many transactions the index has, and how many transactions more they have room for.
+///
+/// The index lags: it has the first transactions, as many as there were at the last `catch_up`, and takes memory for a
+/// copy of each of their keys. Where preconditions are judged, call `catch_up` before; else it needn't be built.
 ///
 /// # Thread safety
 ///
@@ -28,7 +34,7 @@ use std::marker::Model;
 /// lists as they are.
 #[derive(Drop)]
 pub struct Book {
-    transactions: Vec<Transaction>,
+    placed: KeyedList,
     headers: Vec<Header>,
     alhs: Vec<D32>,
 }
@@ -40,21 +46,24 @@ impl Model for Book {
     ghost Value = { Booked };
 
     ghost view = { λ s. record {
-      transactions = s.transactions.items;
+      transactions = s.placed.transactions;
       headers = s.headers.items;
       alhs = s.alhs.items;
-      room = min (vec_capacity s.transactions - vec_len s.transactions)
+      keyed = s.placed.keyed;
+      room = min s.placed.room
           (min (vec_capacity s.headers - vec_len s.headers) (vec_capacity s.alhs - vec_len s.alhs));
     } };
 }
 
 impl Book {
-    ghost use Rattle.std.specs.Prelude.{◌≡◌, ◌+◌, ◌<◌, ◌≤◌, ◌⊎◌, [], ◌∷◌, ◌++◌, length, take, IfErr, IfOk, None, OnErr, OnOk, Some};
+    ghost use Rattle.std.specs.Prelude.{◌≡◌, ◌+◌, ◌*◌, ◌<◌, ◌≤◌, ◌⊎◌, ℕ, [], ◌∷◌, ◌++◌, length, take, IfErr, IfOk, None, OnErr, OnOk, Some};
     ghost use Rattle.im_digest.specs.Digests.{Hash};
     ghost use Rattle.im_mtree.specs.Kept.{IsFrontier};
     ghost use Rattle.im_model.specs.Headers.{alh};
     ghost use Rattle.im_model.specs.History.{bl_root_of, entries_root, header_of, next_header, transaction_of, IsHistory, IsTransaction};
     ghost use Rattle.im_versions.specs.Admits.{place_refusal};
+    ghost use Rattle.im_versions.specs.Versions.{all_versions};
+    ghost use Rattle.im_index.specs.Runs.{HasDigits};
     ghost use Rattle.im_book.specs.Booked.{last_bl, IsBook};
 
     /// The book of the empty history. It takes no memory.
@@ -63,7 +72,7 @@ impl Book {
         ensures transactions { result.transactions ≡ [] }
     {
         Book {
-            transactions: Vec::new(alloc),
+            placed: KeyedList::new(alloc, Vec::new(alloc)),
             headers: Vec::new(alloc),
             alhs: Vec::new(alloc),
         }
@@ -89,12 +98,17 @@ impl Book {
     }
 
     /// The book of these transactions, the header of each, and the Alh of each, 32 octets. They aren't copied,
-    /// and nothing is hashed.
-    pub fn of(transactions: Vec<Transaction>, headers: Vec<Header>, alhs: Vec<D32>) -> Self
+    /// nothing is hashed, and the index of keys has none of them. It takes no memory.
+    pub fn of(
+        alloc: Global,
+        transactions: Vec<Transaction>,
+        headers: Vec<Header>,
+        alhs: Vec<D32>,
+    ) -> Self
         ensures { (result.transactions ≡ transactions.items) × (result.headers ≡ headers.items) × (result.alhs ≡ alhs.items) }
     {
         Book {
-            transactions,
+            placed: KeyedList::new(alloc, transactions),
             headers,
             alhs,
         }
@@ -104,14 +118,14 @@ impl Book {
     pub fn len(&self) -> u64
         ensures { result ≡ length self.now.transactions }
     {
-        self.transactions.len() as u64
+        self.placed.len() as u64
     }
 
     /// Lends the transactions, transaction k at place k - 1.
     pub fn transactions(&self) -> &[Transaction]
         ensures { result.now ≡ self.now.transactions }
     {
-        self.transactions.as_slice()
+        self.placed.as_slice()
     }
 
     /// Lends transaction k, from 1.
@@ -120,7 +134,7 @@ impl Book {
         requires last { k ≤ length self.now.transactions }
         ensures { result.now ≡ transaction_of self.now.transactions k }
     {
-        &self.transactions[k as usize - 1]
+        &self.placed.as_slice()[k as usize - 1]
     }
 
     /// Lends the header of transaction k, from 1.
@@ -157,8 +171,58 @@ impl Book {
         &self.alhs[k as usize - 1]
     }
 
-    /// Judges preconditions against all placed transactions. It takes no memory. It costs, for each
-    /// precondition, a look at the entries from the last one back to its key's last version.
+    /// Brings the index of keys to the last transaction: the keys that it lacks are copied and sorted once, and merged
+    /// with the others. Its only error is want of memory, and the book is then as it was.
+    pub fn catch_up(&mut self, alloc: Global) -> Result<(), AllocError>
+        requires few { length self.old.transactions ≤ 1048576 }
+        ensures same { (self.new.transactions ≡ self.old.transactions) × (self.new.headers ≡ self.old.headers) × (self.new.alhs ≡ self.old.alhs) × (self.new.room ≡ self.old.room) }
+        ensures keyed { OnOk result (self.new.keyed ≡ length self.new.transactions) }
+        ensures left { OnErr result (self.new ≡ self.old) }
+    {
+        self.placed.catch_up(alloc)
+    }
+
+    // Judges preconditions, and counts the comparisons of keys in the index, where it has all transactions.
+    fn judge_counted<L: Ledger>(&self, pres: Pres, steps: &mut Steps<L>) -> Result<(), PlaceError>
+        ensures admitted { OnOk result (place_refusal self.now.transactions pres ≡ None) }
+        ensures refused { IfErr result (λ why. place_refusal self.now.transactions pres ≡ Some why) }
+        ensures room { OnOk result (length self.now.transactions < 1048576) }
+        ensures cost { self.now.keyed ≡ length self.now.transactions → (b : ℕ) → HasDigits b (length (all_versions self.now.transactions))
+            → steps.new ≤ steps.old + length pres * (b * (b + 1)) }
+    {
+        if self.placed.len() >= MOST_TRANSACTIONS as usize {
+            return Err(PlaceError::Full);
+        }
+        judge_each(&self.placed, pres, steps)
+    }
+
+    /// Answers as `judge`, where the index of keys has all transactions, and counts the comparisons of keys: with b the
+    /// number of binary digits of the number of versions, at most b * (b + 1) for each precondition.
+    pub fn judge_steps<L: Ledger>(&self, pres: Pres, steps: &mut Steps<L>) -> Result<(), PlaceError>
+        requires keyed { self.now.keyed ≡ length self.now.transactions }
+        ensures admitted { OnOk result (place_refusal self.now.transactions pres ≡ None) }
+        ensures refused { IfErr result (λ why. place_refusal self.now.transactions pres ≡ Some why) }
+        ensures room { OnOk result (length self.now.transactions < 1048576) }
+        ensures cost { (b : ℕ) → HasDigits b (length (all_versions self.now.transactions)) → steps.new ≤ steps.old + length pres * (b * (b + 1)) }
+    {
+        self.judge_counted(pres, steps)
+    }
+
+    // Judges preconditions, with a count that nobody reads.
+    fn judge_for<L: Ledger>(&self, pres: Pres, blank: Blank) -> Result<(), PlaceError>
+        requires name { blank.name ≡ L.name }
+        requires parts { blank.parts ≡ L.parts }
+        requires some { 0 < blank.parts }
+        ensures admitted { OnOk result (place_refusal self.now.transactions pres ≡ None) }
+        ensures refused { IfErr result (λ why. place_refusal self.now.transactions pres ≡ Some why) }
+        ensures room { OnOk result (length self.now.transactions < 1048576) }
+    {
+        self.judge_counted(pres, &mut Steps::<L>::new(blank))
+    }
+
+    /// Judges preconditions against all placed transactions. It takes no memory. Where the index of keys has all
+    /// transactions it costs, for each precondition, what `judge_steps` says; else a look at the entries from the last
+    /// one back to its key's last version.
     ///
     /// # Errors
     ///
@@ -168,10 +232,7 @@ impl Book {
         ensures refused { IfErr result (λ why. place_refusal self.now.transactions pres ≡ Some why) }
         ensures room { OnOk result (length self.now.transactions < 1048576) }
     {
-        if self.transactions.len() >= MOST_TRANSACTIONS as usize {
-            return Err(PlaceError::Full);
-        }
-        judge_each(self.transactions.as_slice(), pres)
+        self.judge_for::<Brand>(pres, Blank::new(1))
     }
 
     /// The header that a transaction has behind the others, over a tree of this root, where its entries have the
@@ -202,7 +263,7 @@ impl Book {
         ensures same { (self.new.transactions ≡ self.old.transactions) × (self.new.headers ≡ self.old.headers) × (self.new.alhs ≡ self.old.alhs) }
         ensures left { OnErr result (self.new ≡ self.old) }
     {
-        self.transactions.reserve(1)?;
+        self.placed.reserve()?;
         self.headers.reserve(1)?;
         self.alhs.reserve(1)
     }
@@ -217,7 +278,7 @@ impl Book {
         ensures book { (hash : Hash) → IsBook hash self.old → length self.old.transactions < 1048576 → IsTransaction (length self.old.transactions) tx
             → last_bl self.old.transactions ≤ tx.bl → header ≡ next_header hash self.old.alhs tx → digest ≡ alh hash header → IsBook hash self.new }
     {
-        self.transactions.push_reserved(tx);
+        self.placed.push(tx);
         self.headers.push_reserved(header);
         self.alhs.push_reserved(digest);
     }

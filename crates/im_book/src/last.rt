@@ -1,15 +1,19 @@
-//! The last version of a key, read off the list of transactions from its end back.
+//! The last version of a key: looked up in an index of the keys, or read off the list of transactions from its end
+//! back.
 
-ghost use Rattle.std.specs.Prelude.{◌≡◌, ◌&&◌, false, find, not, option_map, reverse, MatchOption};
-ghost use Rattle.im_versions.specs.Versions.{has_attribute, is_live, last_number};
+ghost use Rattle.std.specs.Prelude.{◌≡◌, ◌≤◌, ◌+◌, ◌*◌, ◌&&◌, ℕ, List, false, find, length, not, option_map, reverse, MatchOption};
+ghost use Rattle.im_model.specs.declared.transactions.Transaction.{Transaction as TheTransaction};
+ghost use Rattle.im_versions.specs.Versions.{all_versions, is_live, last_number};
+ghost use Rattle.im_index.specs.Indexed.{IsIndexOf};
+ghost use Rattle.im_index.specs.Runs.{HasDigits};
 ghost use Rattle.im_book.specs.Lasts.{is_version_of};
 
+use im_index::index::Index;
+use im_index::steps::Steps;
 use im_model::entries::Entry;
 use im_model::transactions::Transaction;
-use im_versions::entries::is_shown;
-
-// The attribute of an entry that deletes its key.
-const DELETED: u8 = 0;
+use im_versions::entries::{is_deletion, is_shown};
+use std::sync::ledger::Ledger;
 
 /// The last version of a key: which transaction wrote it, and whether that deleted the key.
 #[derive(Clone, Copy)]
@@ -52,9 +56,22 @@ fn is_version_of(entry: &Entry, key: &[u8]) -> bool
     is_shown(entry) && entry.key.as_slice() == key
 }
 
-// Whether an entry deletes its key.
-fn is_deletion(entry: &Entry) -> bool
-    ensures { result ≡ has_attribute 0 entry.now }
+/// The last version of a key in the history of an index, or `None` where it has none. It counts the comparisons of keys:
+/// with b the number of binary digits of the number of versions, at most b * (b + 1).
+pub(crate) fn last_in<L: Ledger>(index: &Index, key: &[u8], steps: &mut Steps<L>) -> Option<Last>
+    requires { (history : List TheTransaction) × IsIndexOf index.now history }
+    ensures number { (history : List TheTransaction) → IsIndexOf index.now history
+        → MatchOption result (last_number history key.now ≡ 0) (λ last. last_number history key.now ≡ last.tx) }
+    ensures live { (history : List TheTransaction) → IsIndexOf index.now history
+        → MatchOption result (is_live history key.now ≡ false) (λ last. is_live history key.now ≡ not last.deleted) }
+    ensures cost { (history : List TheTransaction) (b : ℕ) → IsIndexOf index.now history → HasDigits b (length (all_versions history))
+        → steps.new ≤ steps.old + b * (b + 1) }
 {
-    entry.md.as_slice().contains(&DELETED)
+    match index.last_steps(key, steps) {
+        Some(version) => Some(Last {
+            tx: version.tx,
+            deleted: version.deleted,
+        }),
+        None => None,
+    }
 }

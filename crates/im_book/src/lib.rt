@@ -4,6 +4,7 @@
 
 pub mod book;
 mod judging;
+mod keyed;
 mod last;
 pub mod laws;
 mod roots;

@@ -85,6 +85,15 @@ impl<D: Disk> KeptLedger<D> {
         self.ledger.tree().size()
     }
 
+    /// Brings the book's index of keys to the last transaction, which neither the disk nor the lists show. Its only error
+    /// is want of memory.
+    pub fn catch_up(&mut self, alloc: Global) -> Result<(), AllocError>
+        requires { length self.old.held.transactions ≤ 1048576 }
+        ensures { self.new ≡ self.old }
+    {
+        self.ledger.catch_up(alloc)
+    }
+
     /// Places a transaction behind the others: makes room for it, writes its record as a batch of its own, makes
     /// that durable, and only then takes it into the ledger, which can't be refused. It hashes each value, each entry
     /// and the header once. The disk gets a write for each value log that gets octets, two more, a sync, the write

@@ -86,7 +86,7 @@ impl Ledger {
         let transactions = transactions_of(alloc, records)?;
         raise(hash, &mut grown, alhs.as_slice(), alhs.len())?;
         Ok(Ledger {
-            book: Book::of(transactions, headers, alhs),
+            book: Book::of(alloc, transactions, headers, alhs),
             tree: grown,
         })
     }
@@ -148,8 +148,18 @@ impl Ledger {
         &self.tree
     }
 
-    /// Judges preconditions against all transactions. It takes no memory. It costs, for each precondition, a
-    /// look at the entries from the last one back to its key's last version.
+    /// Brings the book's index of keys to the last transaction, which the lists don't show. Its only error is want of
+    /// memory.
+    pub fn catch_up(&mut self, alloc: Global) -> Result<(), AllocError>
+        requires { length self.old.transactions ≤ 1048576 }
+        ensures { self.new ≡ self.old }
+    {
+        self.book.catch_up(alloc)
+    }
+
+    /// Judges preconditions against all transactions. It takes no memory. It costs what `judge` of the book says: behind
+    /// `catch_up` a search by halving for each precondition, else a look at the entries from the last one back to its
+    /// key's last version.
     ///
     /// # Errors
     ///

@@ -1,4 +1,4 @@
-ghost use Rattle.std.specs.Prelude.{◌≡◌, ◌<◌, ℤ, ℕ, List, [], ◌∷◌, drop, length, map, FitsSigned, IfOk, IsErrOf, OnOk, Option, None};
+ghost use Rattle.std.specs.Prelude.{◌≡◌, ◌<◌, ◌≤◌, ℤ, ℕ, List, [], ◌∷◌, drop, length, map, FitsSigned, IfOk, IsErrOf, OnOk, Option, None};
 ghost use Rattle.std.specs.Int.{w64};
 ghost use Rattle.im_digest.specs.Digests.{Hash};
 ghost use Rattle.im_disk.specs.Disk.{Told};
@@ -24,7 +24,7 @@ ghost use Rattle.im_session.specs.Turns.{Answers, AskedFor, HasTime, Placed};
 use im_digest::Hash32;
 use im_disk::disk::Disk;
 use im_draft::drafts::Draft;
-use im_draft::preconditions::Pres;
+use im_draft::preconditions::{Pre, Pres};
 use im_edge::clock::Clock;
 use im_ledger::errors::CommitError;
 use im_ledger::kept::KeptLedger;
@@ -78,7 +78,7 @@ fn place<D: Disk, H: Hash32, C: Clock>(
 }
 
 // Places prepared entries, unless the history holds as many transactions as it may, or a precondition doesn't hold.
-fn place_prepared<D: Disk, H: Hash32, C: Clock>(
+fn place_judged<D: Disk, H: Hash32, C: Clock>(
     alloc: Global,
     hash: &H,
     clock: &mut C,
@@ -106,8 +106,46 @@ fn place_prepared<D: Disk, H: Hash32, C: Clock>(
     }
 }
 
+// Brings the index by which preconditions are judged to the last transaction, where there are any.
+fn ready<D: Disk>(alloc: Global, kept: &mut KeptLedger<D>, pres: &[Pre]) -> Result<(), AllocError>
+    requires { length kept.old.held.transactions ≤ 1048576 }
+    ensures { kept.new ≡ kept.old }
+{
+    if pres.is_empty() {
+        return Ok(());
+    }
+    kept.catch_up(alloc)
+}
+
+// Makes ready to judge, and places prepared entries, unless the history holds as many transactions as it may, or a precondition doesn't hold.
+fn place_prepared<D: Disk, H: Hash32, C: Clock>(
+    alloc: Global,
+    hash: &H,
+    clock: &mut C,
+    kept: &mut KeptLedger<D>,
+    prepared: Prepared,
+) -> Result<Vec<u8>, CommitError>
+    requires { IsKept D.told (H.digest hash.now) kept.old }
+    ensures answers { IfOk result (λ reply. (drafts : List TheDraft) → AreFree drafts → AreEntries drafts → prepared.entries ≡ map entry_of drafts
+        → Answers (H.digest hash.now) (C.constant clock.old) (Set prepared.pres drafts) kept.old.held kept.new.held reply.items) }
+    ensures kept { OnOk result (IsKept D.told (H.digest hash.now) kept.new) }
+    ensures times { OnOk result (AskedFor (drop (length kept.old.held.transactions) kept.new.held.transactions) (C.given clock.old) (C.given clock.new)) }
+    ensures put { (w n : ℕ) (first : Option Told) → IsKeptPut D.told (H.digest hash.now) w n first kept.old → OnOk result (IsKeptPut D.told (H.digest hash.now) w n first kept.new) }
+    ensures moments { OnOk result (Leaves (StandsBetween (H.digest hash.now) kept.old.held.transactions kept.new.held.transactions) (D.told kept.old.journal.disk) (D.told kept.new.journal.disk)) }
+    ensures left { (drafts : List TheDraft) → AreFree drafts → AreEntries drafts → prepared.entries ≡ map entry_of drafts
+        → MayPlace D.told (H.digest hash.now) (C.constant clock.old) (Set prepared.pres drafts) kept.old kept.new.journal (C.given clock.old) (C.given clock.new) result }
+    ensures grows { Grows (D.told kept.old.journal.disk) (D.told kept.new.journal.disk) }
+    ensures cause { HasCommitCause (D.faults kept.old.journal.disk) (D.faults kept.new.journal.disk) result }
+    ensures why { IsErrOf result DiskFault → place_refusal kept.old.held.transactions prepared.pres ≡ None }
+    ensures same { C.constant clock.new ≡ C.constant clock.old }
+{
+    ready(alloc, kept, prepared.pres())?;
+    place_judged(alloc, hash, clock, kept, prepared)
+}
+
 /// Answers `set` and `del`: places a transaction of the drafts, unless they are refused or a precondition doesn't
-/// hold. Each precondition costs a look at the entries from the last one back to the first of its key.
+/// hold. Each precondition costs a search by halving in an index of the keys, which is brought to the last transaction
+/// before.
 pub(crate) fn answer_set<D: Disk, H: Hash32, C: Clock>(
     alloc: Global,
     hash: &H,

@@ -158,10 +158,10 @@ pub struct Served<D: Disk> {
 /// call changes the disk. It fails only at a `set` or `del` that reaches it; memory may run out at any line.
 ///
 /// The index of keys is brought to the last transaction by each line that looks for one, and holds a copy of each
-/// key and value of the entries that aren't hidden. A `set` or `del` costs what `judge` and `commit` of the ledger
-/// say, a `link` the hashes of the leaves that it adds, a read what the index says, and a proof at most four digests
-/// read or hashed, for each path and each list, for each binary digit of the size of its target's tree. The replies
-/// stand in memory until the end.
+/// key and value of the entries that aren't hidden; the book's own by each `set` or `del` with preconditions, and holds
+/// a copy of each key. A `set` or `del` costs what `judge` and `commit` of the ledger say, a `link` the hashes of the
+/// leaves that it adds, a read what the index says, and a proof at most four digests read or hashed, for each path and
+/// each list, for each binary digit of the size of its target's tree. The replies stand in memory until the end.
 pub fn serve<D: Disk, H: Hash32, C: Clock>(
     alloc: Global,
     hash: &H,

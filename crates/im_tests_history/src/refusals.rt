@@ -1,14 +1,20 @@
-//! Preconditions, judged by the plain program and by a book.
+//! Preconditions, judged by the plain program and by a book, before and behind its index of keys is brought to the last
+//! transaction.
+
+ghost use Rattle.std.specs.Prelude.{◌≡◌, ◌<◌, ◌≤◌, length};
 
 use crate::values::{FOUR, Write, history_of};
 use im_book::book::Book;
 use im_draft::preconditions::{Pre, Pres};
+use im_index::steps::Steps;
 use im_model::entries::Entries;
 use im_model::transactions::Transaction;
 use im_octet::octets::Octets;
 use im_versions::plain::place_refusal;
 use im_versions::refusals::PlaceError;
 use std::alloc::{AllocError, Global};
+use std::marker::Brand;
+use std::sync::ledger::{Blank, Ledger};
 use std::test::Fail;
 
 // What has to hold of a key.
@@ -149,7 +155,40 @@ fn both_answer(
 // The book of these writes; preconditions are judged without headers.
 fn book_of(alloc: Global, writes: &[&[Write]]) -> Result<Book, Fail> {
     let history = history_of(alloc, writes)?;
-    Ok(Book::of(history, Vec::new(alloc), Vec::new(alloc)))
+    Ok(Book::of(alloc, history, Vec::new(alloc), Vec::new(alloc)))
+}
+
+// What a book answers that counts its steps.
+fn judged_counted<L: Ledger>(
+    alloc: Global,
+    book: &mut Book,
+    asked: &[Asked],
+    blank: Blank,
+) -> Result<Vec<u8>, AllocError>
+    requires name { blank.name ≡ L.name }
+    requires parts { blank.parts ≡ L.parts }
+    requires some { 0 < blank.parts }
+    requires few { length book.old.transactions ≤ 1048576 }
+{
+    let pres = pres_of(alloc, asked)?;
+    book.catch_up(alloc)?;
+    let mut steps = Steps::<L>::new(blank);
+    let refusal = book.judge_steps(Pres::from_vec(pres), &mut steps).err();
+    text_of(alloc, &refusal)
+}
+
+// Whether a book gives this answer behind its index of keys is brought to the last transaction, by each of the two calls.
+fn keys_answer(
+    alloc: Global,
+    book: &mut Book,
+    asked: &[Asked],
+    text: &[u8],
+) -> Result<bool, AllocError> {
+    if book.len() > 1_048_576 {
+        return Ok(false);
+    }
+    let counted = judged_counted::<Brand>(alloc, book, asked, Blank::new(1))?;
+    Ok(counted.as_slice() == text && judged(alloc, book, asked)?.as_slice() == text)
 }
 
 // Whether both answer this row.
@@ -158,8 +197,8 @@ fn is_answered(alloc: Global, writes: &[&[Write]], row: &Row) -> Result<bool, Fa
     if n > writes.len() {
         return Ok(false);
     }
-    let book = book_of(alloc, &writes[..n])?;
-    Ok(both_answer(alloc, &book, asked, text)?)
+    let mut book = book_of(alloc, &writes[..n])?;
+    Ok(both_answer(alloc, &book, asked, text)? && keys_answer(alloc, &mut book, asked, text)?)
 }
 
 fn are_answered(alloc: Global, writes: &[&[Write]], rows: &[Row]) -> Result<bool, Fail> {
@@ -224,7 +263,12 @@ fn empty(alloc: Global, count: usize) -> Result<Vec<Transaction>, AllocError> {
 
 // Whether both give this answer behind so many transactions, where a key has to be live.
 fn answered_behind(alloc: Global, count: usize, text: &[u8]) -> Result<bool, AllocError> {
-    let book = Book::of(empty(alloc, count)?, Vec::new(alloc), Vec::new(alloc));
+    let book = Book::of(
+        alloc,
+        empty(alloc, count)?,
+        Vec::new(alloc),
+        Vec::new(alloc),
+    );
     both_answer(alloc, &book, &[(b"x", Exists)], text)
 }
 

@@ -26,6 +26,13 @@ pub fn is_shown(entry: &Entry) -> bool
     !has_attribute(NON_INDEXABLE, entry)
 }
 
+/// Whether the entry deletes its key.
+pub fn is_deletion(entry: &Entry) -> bool
+    ensures { result ≡ has_attribute 0 entry.now }
+{
+    has_attribute(DELETED, entry)
+}
+
 /// The version that an entry of transaction `k` is: its key and its value are copied. Its only error is want of
 /// memory.
 pub fn version_of(alloc: Global, k: u64, entry: &Entry) -> Result<Version, AllocError>
@@ -33,7 +40,7 @@ pub fn version_of(alloc: Global, k: u64, entry: &Entry) -> Result<Version, Alloc
 {
     Ok(Version {
         tx: k,
-        deleted: has_attribute(DELETED, entry),
+        deleted: is_deletion(entry),
         key: Octets::from_slice(alloc, entry.key.as_slice())?,
         value: Octets::from_slice(alloc, entry.value.as_slice())?,
     })
