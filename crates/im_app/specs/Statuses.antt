@@ -102,6 +102,22 @@ EndsShow Memory = Unit {0}
 EndsShow Long = ⊥
 EndsShow (Kept line) = Unit {0}
 
+-- words that ask for a generated script end so, where clap refuses them too
+abbrev pub EndsGenerated : Status → Type 0
+EndsGenerated Ok = Unit {0}
+EndsGenerated Usage = Unit {0}
+EndsGenerated (Script line) = ⊥
+EndsGenerated ReadFault = ⊥
+EndsGenerated WriteFault = Unit {0}
+EndsGenerated DiskFault = ⊥
+EndsGenerated (Damaged damage) = ⊥
+EndsGenerated KeeperFault = ⊥
+EndsGenerated Refused = ⊥
+EndsGenerated Forked = ⊥
+EndsGenerated Memory = Unit {0}
+EndsGenerated Long = ⊥
+EndsGenerated (Kept line) = ⊥
+
 -- reading a script ends so where it gives no lines
 abbrev pub EndsReading : Status → Type 0
 EndsReading Ok = ⊥

@@ -2,6 +2,7 @@
 #![tactic(auto)]
 
 mod damage;
+mod generate;
 mod run;
 mod shown;
 pub mod status;

@@ -16,16 +16,18 @@ ghost use Rattle.im_verify.specs.Runs.{BreaksAt, BreaksInto, BreaksOff, Verifies
 ghost use Rattle.im_verify.specs.Shows.{Shows, ShowsPart};
 ghost use Rattle.im_verify.specs.declared.ended.Ended.TheVariants as ended;
 ghost use Rattle.im_words.specs.Command.{AreWordsRefused};
-ghost use Rattle.im_words.specs.Form.{IsForm, IsShowForm, IsVerifyForm};
-ghost use Rattle.im_words.specs.Meaning.{AsksRun, AsksShow, AsksVerify};
+ghost use Rattle.im_words.specs.Form.{IsForm, IsGenForm, IsShowForm, IsVerifyForm};
+ghost use Rattle.im_words.specs.Meaning.{AsksGen, AsksRun, AsksShow, AsksVerify};
 ghost use Rattle.im_words.specs.declared.Link.{Link};
 ghost use Rattle.im_app.specs.Fates.{HasRunFate, HasShow, HasVerdict};
 ghost use Rattle.im_opening.specs.Cut.{SyncsAtMost};
 ghost use Rattle.im_ledger.specs.declared.errors.CommitError.{CommitError as Why};
 ghost use Rattle.im_script.specs.declared.commands.Line.{Line};
+ghost use Rattle.im_app.specs.Generated.{WritesGenerated, WritesGeneratedPart};
 ghost use Rattle.im_app.specs.Runs.{GivesScript, IsGiven, KeepsFound, LeavesFound, WritesFront, WritesPart, WritesReport};
-ghost use Rattle.im_app.specs.Statuses.{EndsGiven, EndsReading, EndsRun, EndsShow, EndsVerify, status_for};
+ghost use Rattle.im_app.specs.Statuses.{EndsGenerated, EndsGiven, EndsReading, EndsRun, EndsShow, EndsVerify, status_for};
 
+use crate::generate::generate;
 use crate::run::{Ran, run};
 use crate::shown::shown;
 use crate::status::{Done, Status};
@@ -159,6 +161,17 @@ pub fn top<
     ensures show_keeps { AsksShow (map string_bytes words.now) → P.kept keeper.new ≡ P.kept keeper.old }
     ensures show_idle { AsksShow (map string_bytes words.now) → (source.new ≡ source.old) × ((result.disk ≡ disk) × (result.clock ≡ clock)) }
 
+    // `gen N`, done: exactly its line was written. It tells of the script of N lines, with the Alh of the last transaction
+    // of the history to which this leads at time 0; as many transactions as it says are in that history, and as many lines
+    // as it says of the script's report were accepted by a client. Where the sink failed a front part of it was written, and
+    // where memory ran out nothing. The source, the keeper, the disk and the clock aren't touched.
+    ensures generated { (asks : AsksGen (map string_bytes words.now)) → result.status ≡ Status.Ok →
+        WritesGenerated (H.digest hash.now) asks.0 (K.written sink.old) (K.written sink.new) }
+    ensures generated_part { (asks : AsksGen (map string_bytes words.now)) → result.status ≡ Status.WriteFault →
+        WritesGeneratedPart (H.digest hash.now) asks.0 (K.written sink.old) (K.written sink.new) }
+    ensures generated_nothing { AsksGen (map string_bytes words.now) → result.status ≡ Status.Memory → sink.new ≡ sink.old }
+    ensures generated_idle { AsksGen (map string_bytes words.now) → (source.new ≡ source.old) × ((keeper.new ≡ keeper.old) × ((result.disk ≡ disk) × (result.clock ≡ clock))) }
+
     // The first kept line that fails a check or is forked, of `verify` and of `show`.
     ensures kept { (k : ℕ) → result.status ≡ Status.Kept k → StopsHeld (H.digest hash.now) (P.kept keeper.old) k }
 
@@ -171,21 +184,25 @@ pub fn top<
     ensures taken { TakesAtMost 67112960 (S.left source.old) (S.left source.new) }
 
     // The words are at fault just where `clap` refuses them, and then nothing is touched. Those of the forms
-    // `NAME run [--logs 1..4] [--link auto|manual]`, the options in any order, `NAME verify` and `NAME show` never are: the
-    // first ask for a run with the number of logs and the link that they write, the others for `verify` and for `show`.
+    // `NAME run [--logs 1..4] [--link auto|manual]`, the options in any order, `NAME verify`, `NAME show` and `NAME gen N`
+    // never are: the first ask for a run with the number of logs and the link that they write, the others for `verify`, for
+    // `show` and for the script of N lines.
     ensures usage { result.status ≡ Status.Usage → AreWordsRefused (map string_bytes words.now) }
     ensures form { (logs : ℕ) (link : Link) → IsForm (map string_bytes words.now) logs link
         → (result.status ≡ Status.Usage → ⊥) × ((asks : AsksRun (map string_bytes words.now)) × (asks.0 ≡ logs) × (asks.1 ≡ link)) }
     ensures verify_form { IsVerifyForm (map string_bytes words.now) → (result.status ≡ Status.Usage → ⊥) × AsksVerify (map string_bytes words.now) }
     ensures show_form { IsShowForm (map string_bytes words.now) → (result.status ≡ Status.Usage → ⊥) × AsksShow (map string_bytes words.now) }
+    ensures gen_form { (n : ℕ) → IsGenForm (map string_bytes words.now) n
+        → (result.status ≡ Status.Usage → ⊥) × ((asks : AsksGen (map string_bytes words.now)) × (asks.0 ≡ n)) }
     ensures refused { AreWordsRefused (map string_bytes words.now) → (result.status ≡ Status.Usage) ⊎ (result.status ≡ Status.Memory) }
     ensures untouched { AreWordsRefused (map string_bytes words.now) → (source.new ≡ source.old) × ((sink.new ≡ sink.old) × ((keeper.new ≡ keeper.old) × ((result.disk ≡ disk) × (result.clock ≡ clock)))) }
 
-    // Else the words ask for one of the three, which ends in its own ways.
-    ensures asked { (result.status ≡ Status.Usage → ⊥) → (result.status ≡ Status.Memory → ⊥) → AsksRun (map string_bytes words.now) ⊎ AsksVerify (map string_bytes words.now) ⊎ AsksShow (map string_bytes words.now) }
+    // Else the words ask for one of the four, which ends in its own ways.
+    ensures asked { (result.status ≡ Status.Usage → ⊥) → (result.status ≡ Status.Memory → ⊥) → AsksRun (map string_bytes words.now) ⊎ AsksVerify (map string_bytes words.now) ⊎ AsksShow (map string_bytes words.now) ⊎ AsksGen (map string_bytes words.now) }
     ensures ends_run { AsksRun (map string_bytes words.now) → EndsRun result.status }
     ensures ends_verify { AsksVerify (map string_bytes words.now) → EndsVerify result.status }
     ensures ends_show { AsksShow (map string_bytes words.now) → EndsShow result.status }
+    ensures ends_gen { AsksGen (map string_bytes words.now) → EndsGenerated result.status }
 
     // A fault of the source, the sink, the disk or the keeper comes only where its count rose. Else no count rises, but
     // for the sink's where a line of a script got no reply: the lines before it are told as far as the sink takes them.
@@ -250,6 +267,14 @@ pub fn top<
         }
         Ok(Request::Show) => {
             let status = shown(alloc, hash, sink, keeper);
+            Done {
+                status,
+                disk,
+                clock,
+            }
+        }
+        Ok(Request::Gen { lines }) => {
+            let status = generate(alloc, hash, sink, u64::from(lines));
             Done {
                 status,
                 disk,

@@ -1,6 +1,6 @@
 -- What the answers say, of the matches and of the words.
 use Rattle.std.proofs.Common.{◌≡◌, ◌≢◌, ◌∙◌, ℕ, Bool, true, false, cond, List, [], Option, Some, None, IsSome, Result, Ok, Err, IsErrAnd, refl, sym, ap, subst, arith, inl, inr}
-use Rattle.std.specs.Option.{option_map_or, unwrap_or}
+use Rattle.std.specs.Option.{option_and_then, option_map_or, unwrap_or}
 use Rattle.std.specs.Str.Parse.{ParsesUnsigned, digits_value, without_leading_plus}
 use Rattle.clap.specs.Words.{App, HasKind, HasMatchesOf, IsAmong, ReadsOne, Text, fault_of, is_simple, is_simple_and_free, kind_of, subcommand_of, subcommand_rows_of}
 use Rattle.clap.specs.declared.error.Error.{Error}
@@ -10,7 +10,7 @@ use Rattle.clap.specs.ValueTests.{is_unsigned_in}
 use Rattle.clap.specs.declared.builder.value_parser.ValueParser.TheVariants.{Unsigned}
 use Rattle.clap.proofs.ValueTestLemmas.{accepts-Accepts}
 use Rattle.im_words.specs.Command.{AreWordsRefused, IsFaultless, Texts, im_at, im_command, link_names, link_texts, texts_behind}
-use Rattle.im_words.specs.Meaning.{logs_of_text}
+use Rattle.im_words.specs.Meaning.{lines_of_text, logs_of_text}
 use Rattle.im_words.specs.declared.WordsError.{WordsError}
 use Rattle.im_words.specs.declared.WordsError.TheVariants.{Memory, Usage}
 use Rattle.im_words.proofs.PlacedFaults.{fault_of-place, subcommand_of-place}
@@ -34,6 +34,26 @@ pub logs_answer : (E : Type 0) (G : List ℕ → Result ℕ E → Type 0) (one :
     → IsSome (option_map_or logs_of_text one (Some 1)) → option_map_or logs_of_text one (Some 1) ≡ Some (unwrap_or r 1)
 logs_answer E G None r none value only some = ap (λ (o : Option ℕ). Some (unwrap_or o 1)) (sym (none refl))
 logs_answer E G (Some t) r none value only some = read_number E G t r (value t refl) only some
+
+-- the number of lines that is read of a text that writes one
+read_lines : (E : Type 0) (G : List ℕ → Result ℕ E → Type 0) (t : Text) (r : Option ℕ) → ReadsOne G t r
+    → ((u : List ℕ) (x : Result ℕ E) → G u x → ParsesUnsigned 32 10 u x) → IsSome (lines_of_text t) → lines_of_text t ≡ Some (unwrap_or r 0)
+read_lines E G t r read only some = go (is_unsigned_in 0 100000 t) refl r read some
+  where
+    go : (b : Bool) → is_unsigned_in 0 100000 t ≡ b → (o : Option ℕ) → ReadsOne G t o → IsSome (cond b (Some (digits_value 10 (without_leading_plus t))) None)
+        → cond b (Some (digits_value 10 (without_leading_plus t))) None ≡ Some (unwrap_or o 0)
+    go false e o h some = cc
+    go true e (Some v) h some = ap (λ (n : ℕ). Some n) (sym (only t (Ok v) h).1)
+    go true e None h some =
+        let number = accepts-Accepts false (Unsigned 0 100000) t e in
+        absurd (only t (Err h.0) h.1 (number.0, omega arith))
+
+-- the number of lines that is read
+pub lines_answer : (E : Type 0) (G : List ℕ → Result ℕ E → Type 0) (one : Option Text) (r : Option ℕ)
+    → ((t : Text) → one ≡ Some t → ReadsOne G t r) → ((u : List ℕ) (x : Result ℕ E) → G u x → ParsesUnsigned 32 10 u x)
+    → IsSome (option_and_then lines_of_text one) → option_and_then lines_of_text one ≡ Some (unwrap_or r 0)
+lines_answer E G None r value only some = cc
+lines_answer E G (Some t) r value only some = read_lines E G t r (value t refl) only some
 
 -- an error at words that aren't refused is want of memory
 pub taken_error : (words : List Text) (e : WordsError) → (AreWordsRefused words → ⊥) → (e ≡ Usage → AreWordsRefused words) → e ≡ Memory

@@ -22,12 +22,13 @@ use Rattle.std.specs.Str.Parse.{digits_value, without_leading_plus}
 use Rattle.std.proofs.lemmas.Int.{ints}
 use Rattle.std.proofs.lemmas.Slice.Eq.{bytes_eq-Decides}
 use Rattle.im_words.specs.declared.Request.{Request}
-use Rattle.im_words.specs.declared.Request.TheVariants.{Run, Verify, Show}
+use Rattle.im_words.specs.declared.Request.TheVariants.{Run, Verify, Show, Gen}
 use Rattle.im_words.specs.declared.Link.{Link}
 use Rattle.im_words.specs.declared.Link.TheVariants.{Auto, Manual}
-use Rattle.im_words.specs.Meaning.{AsksRun, AsksShow, AsksVerify, asked_of, link_of, link_of_text, logs_of}
+use Rattle.im_words.specs.Meaning.{AsksGen, AsksRun, AsksShow, AsksVerify, asked_of, link_of, link_of_text, logs_of}
 use Rattle.im_words.proofs.UseLemmas.{AreUses, no_faults, rules, run_uses, shape}
-use Rattle.im_words.proofs.BuiltRun.{first_built}
+use Rattle.im_words.proofs.BuiltRun.{first_built, gen_built}
+use Rattle.im_words.proofs.GenLemmas.{gen_asked}
 
 -- a number that passes from 1 to 4 has no minus
 without_sign : (v : Text) → IsSignedIn (pos 1) (pos 4) v → IsUnsignedIn 1 4 (without_minus v)
@@ -116,29 +117,31 @@ taken_asked words e = go (walk [] (names_of (built im_command)) nothing_held (dr
         let check_part : MissingSubcommand ∷ [] ≡ [] = (no_faults (defaults_fault (settled [] end).rows []) (checked false) default_part).1 in
         cc
 
-    named : (p : Text × List Text) (run verify show : Bool)
-        → level (is_some (option_map (λ (s : Shape). rows_at s p.1) (first_built link_names run verify show)))
-        (option_map_or (λ (s : Shape). level_fault s [] nothing_held p.1 false []) (first_built link_names run verify show) []) ≡ []
-        → IsSome (asked_of (option_map (λ (s : Shape). rows_at s p.1) (first_built link_names run verify show)))
-    named p true verify show e =
+    named : (p : Text × List Text) (run verify show gen : Bool)
+        → level (is_some (option_map (λ (s : Shape). rows_at s p.1) (first_built link_names run verify show gen)))
+        (option_map_or (λ (s : Shape). level_fault s [] nothing_held p.1 false []) (first_built link_names run verify show gen) []) ≡ []
+        → IsSome (asked_of (option_map (λ (s : Shape). rows_at s p.1) (first_built link_names run verify show gen)))
+    named p true verify show gen e =
         let rows = rows_after rules [] p.1 in
         let uses = run_uses p.1 (after true (level_fault shape [] nothing_held p.1 false []) e).0 in
         both_asked (logs_of rows) (link_of rows) (logs_asked rows uses) (link_asked rows uses)
-    named p false true show e = refl
-    named p false false true e = refl
-    named p false false false e = absurd (no_subcommand e)
+    named p false true show gen e = refl
+    named p false false true gen e = refl
+    named p false false false true e = gen_asked p.1 (after true (level_fault gen_built [] nothing_held p.1 false []) e).0
+    named p false false false false e = absurd (no_subcommand e)
 
     go : (stop : Option (Text × List Text)) → level (is_some (entered (built im_command) stop)) (entered_fault (built im_command) stop) ≡ []
         → IsSome (asked_of (entered (built im_command) stop))
     go None e = absurd (no_subcommand e)
-    go (Some p) e = named p (answers_to p.0 (codes "run", [])) (answers_to p.0 (codes "verify", [])) (answers_to p.0 (codes "show", [])) e
+    go (Some p) e = named p (answers_to p.0 (codes "run", [])) (answers_to p.0 (codes "verify", [])) (answers_to p.0 (codes "show", [])) (answers_to p.0 (codes "gen", [])) e
 
--- namely for a run, for `verify`, or for `show`
-pub taken_asks : (words : List Text) → fault_of im_command words ≡ [] → AsksRun words ⊎ AsksVerify words ⊎ AsksShow words
+-- namely for a run, for `verify`, for `show`, or for a script
+pub taken_asks : (words : List Text) → fault_of im_command words ≡ [] → AsksRun words ⊎ AsksVerify words ⊎ AsksShow words ⊎ AsksGen words
 taken_asks words e = go (asked_of (subcommand_of im_command words)) refl (taken_asked words e)
   where
-    go : (asked : Option Request) → asked_of (subcommand_of im_command words) ≡ asked → IsSome asked → AsksRun words ⊎ AsksVerify words ⊎ AsksShow words
+    go : (asked : Option Request) → asked_of (subcommand_of im_command words) ≡ asked → IsSome asked → AsksRun words ⊎ AsksVerify words ⊎ AsksShow words ⊎ AsksGen words
     go None same some = cc
     go (Some (Run logs link)) same some = inl (logs, link, same)
     go (Some Verify) same some = inr (inl same)
-    go (Some Show) same some = inr (inr same)
+    go (Some Show) same some = inr (inr (inl same))
+    go (Some (Gen n)) same some = inr (inr (inr (n, same)))

@@ -4,11 +4,12 @@ use Rattle.std.specs.Fmt.{digits}
 use Rattle.clap.specs.Words.{IsAmong, Text, fault_of, subcommand_of}
 use Rattle.clap.proofs.OnLiterals.{clap_on_literals}
 use Rattle.im_words.specs.Command.{AreWordsRefused, im_command}
-use Rattle.im_words.specs.Meaning.{AsksRun, AsksShow, AsksVerify, asked_of}
-use Rattle.im_words.specs.Form.{GivesOptions, IsForm, IsShowForm, IsVerifyForm, link_words, logs_words}
-use Rattle.im_words.specs.declared.Request.TheVariants.{Run, Verify, Show}
+use Rattle.im_words.specs.Meaning.{AsksGen, AsksRun, AsksShow, AsksVerify, asked_of}
+use Rattle.im_words.specs.Form.{GivesOptions, IsForm, IsGenForm, IsShowForm, IsVerifyForm, link_words, logs_words}
+use Rattle.im_words.specs.declared.Request.TheVariants.{Run, Verify, Show, Gen}
 use Rattle.im_words.specs.declared.Link.{Link}
 use Rattle.im_words.specs.declared.Link.TheVariants.{Auto, Manual}
+use Rattle.im_words.proofs.GenLemmas.{gen_means}
 
 -- clap takes the words, and they ask for this run
 pub record Means (words : List Text) (logs : ℕ) (link : Link) : Type 0 where
@@ -134,6 +135,35 @@ pub verify_not_show : (words : List Text) → AsksVerify words → AsksShow word
 verify_not_show words verify show = go (sym verify ∙ show)
   where
     go : Some Verify ≡ Some Show → ⊥
+    go same = cc
+
+pub gen_taken : (words : List Text) (n : ℕ) → IsGenForm words n → AreWordsRefused words → ⊥
+gen_taken words n form = none_refused words (gen_means words n form).faultless
+
+-- no words ask for a script and for another
+pub run_not_gen : (words : List Text) → AsksRun words → AsksGen words → ⊥
+run_not_gen words run gen = go (sym run.2 ∙ gen.1)
+  where
+    go : Some (Run run.0 run.1) ≡ Some (Gen gen.0) → ⊥
+    go same = cc
+
+pub verify_not_gen : (words : List Text) → AsksVerify words → AsksGen words → ⊥
+verify_not_gen words verify gen = go (sym verify ∙ gen.1)
+  where
+    go : Some Verify ≡ Some (Gen gen.0) → ⊥
+    go same = cc
+
+pub show_not_gen : (words : List Text) → AsksShow words → AsksGen words → ⊥
+show_not_gen words show gen = go (sym show ∙ gen.1)
+  where
+    go : Some Show ≡ Some (Gen gen.0) → ⊥
+    go same = cc
+
+-- or for two scripts
+pub gen_same : (words : List Text) (a b : AsksGen words) → a.0 ≡ b.0
+gen_same words a b = go (sym a.1 ∙ b.1)
+  where
+    go : Some (Gen a.0) ≡ Some (Gen b.0) → a.0 ≡ b.0
     go same = cc
 
 -- no words ask for a run and for `verify`

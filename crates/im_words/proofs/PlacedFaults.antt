@@ -155,33 +155,35 @@ fault_of-place m n same words = go (walk [] (names_of (built (im_at m))) nothing
     level : Bool → Kinds → Kinds
     level has below = level_fault (built (im_at m)).top (names_of (built (im_at m))) nothing_held (drop 1 words) has below
 
-    named : (p : Text × List Text) (run verify show : Bool)
-        → level (is_some (option_map (λ (s : Shape). rows_at s p.1) (first_built m run verify show)))
-        (option_map_or (λ (s : Shape). level_fault s [] nothing_held p.1 false []) (first_built m run verify show) [])
-        ≡ level (is_some (option_map (λ (s : Shape). rows_at s p.1) (first_built n run verify show)))
-        (option_map_or (λ (s : Shape). level_fault s [] nothing_held p.1 false []) (first_built n run verify show) [])
-    named p true verify show = ap (level true) (run_fault-place m n same p.1)
-    named p false true show = refl
-    named p false false true = refl
-    named p false false false = refl
+    named : (p : Text × List Text) (run verify show gen : Bool)
+        → level (is_some (option_map (λ (s : Shape). rows_at s p.1) (first_built m run verify show gen)))
+        (option_map_or (λ (s : Shape). level_fault s [] nothing_held p.1 false []) (first_built m run verify show gen) [])
+        ≡ level (is_some (option_map (λ (s : Shape). rows_at s p.1) (first_built n run verify show gen)))
+        (option_map_or (λ (s : Shape). level_fault s [] nothing_held p.1 false []) (first_built n run verify show gen) [])
+    named p true verify show gen = ap (level true) (run_fault-place m n same p.1)
+    named p false true show gen = refl
+    named p false false true gen = refl
+    named p false false false true = refl
+    named p false false false false = refl
 
     go : (stop : Option (Text × List Text))
         → level (is_some (entered (built (im_at m)) stop)) (entered_fault (built (im_at m)) stop)
         ≡ level (is_some (entered (built (im_at n)) stop)) (entered_fault (built (im_at n)) stop)
     go None = refl
-    go (Some p) = named p (answers_to p.0 (codes "run", [])) (answers_to p.0 (codes "verify", [])) (answers_to p.0 (codes "show", []))
+    go (Some p) = named p (answers_to p.0 (codes "run", [])) (answers_to p.0 (codes "verify", [])) (answers_to p.0 (codes "show", [])) (answers_to p.0 (codes "gen", []))
 
 -- and meets the same subcommand
 pub subcommand_of-place : (m n : Texts) (words : List Text) → subcommand_of (im_at m) words ≡ subcommand_of (im_at n) words
 subcommand_of-place m n words = go (walk [] (names_of (built (im_at m))) nothing_held (drop 1 words)).stopped
   where
-    named : (p : Text × List Text) (run verify show : Bool)
-        → option_map (λ (s : Shape). rows_at s p.1) (first_built m run verify show) ≡ option_map (λ (s : Shape). rows_at s p.1) (first_built n run verify show)
-    named p true verify show = ap (λ (rows : List Row). Some (codes "run", rows)) (rows-place m n p.1)
-    named p false true show = refl
-    named p false false true = refl
-    named p false false false = refl
+    named : (p : Text × List Text) (run verify show gen : Bool)
+        → option_map (λ (s : Shape). rows_at s p.1) (first_built m run verify show gen) ≡ option_map (λ (s : Shape). rows_at s p.1) (first_built n run verify show gen)
+    named p true verify show gen = ap (λ (rows : List Row). Some (codes "run", rows)) (rows-place m n p.1)
+    named p false true show gen = refl
+    named p false false true gen = refl
+    named p false false false true = refl
+    named p false false false false = refl
 
     go : (stop : Option (Text × List Text)) → entered (built (im_at m)) stop ≡ entered (built (im_at n)) stop
     go None = refl
-    go (Some p) = named p (answers_to p.0 (codes "run", [])) (answers_to p.0 (codes "verify", [])) (answers_to p.0 (codes "show", []))
+    go (Some p) = named p (answers_to p.0 (codes "run", [])) (answers_to p.0 (codes "verify", [])) (answers_to p.0 (codes "show", [])) (answers_to p.0 (codes "gen", []))

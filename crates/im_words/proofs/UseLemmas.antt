@@ -50,7 +50,7 @@ at_row-missing id change missing (r ∷ rs) e = go (bytes_eq r.id id) e (at_row-
     go true e rest = cc
     go false e rest = ap (λ (rows : List Row). r ∷ rows) (rest e)
 
-added : (id : Text) (how : Reading) (v : Text) (rows : List Row) → has_row id rows ≡ false
+pub added : (id : Text) (how : Reading) (v : Text) (rows : List Row) → has_row id rows ≡ false
     → with_values id how CommandLine (v ∷ []) (without id rows) ≡ rows ++ use_row id how v ∷ []
 added id how v rows e =
     let gone : without id rows ≡ rows = at_row-missing id (λ _. []) [] rows e ∙ append-nil rows in
@@ -73,7 +73,7 @@ passed true k e = refl
 passed false k e = cc
 
 -- a use that has no fault has one value, which passes, and is the first
-use_is : (p : ValueParser) (id : Text) (values : List Text) (rows : List Row)
+pub use_is : (p : ValueParser) (id : Text) (values : List Text) (rows : List Row)
     → or_else (range_kinds 1 1 (length values)) (or_else (repeat_fault false id rows) (values_kinds false p (values_or_missing logs_built values))) ≡ []
     → (v : Text) × (values ≡ v ∷ []) × (has_row id rows ≡ false) × (accepts false p v ≡ true)
 use_is p id [] rows e = cc

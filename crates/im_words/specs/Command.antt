@@ -41,6 +41,17 @@ verify_shape = (new_app (codes "verify")).top
 abbrev pub show_shape : Shape
 show_shape = (new_app (codes "show")).top
 
+-- the number of lines of `gen`, from 0 to 100,000, which is required
+abbrev pub lines_rule : Rule
+lines_rule = record (new_rule (codes "lines")) {
+  parser = Some (Signed (pos 0) (pos 100000));
+  required = true;
+}
+
+-- the subcommand `gen`, with one value
+abbrev pub gen_shape : Shape
+gen_shape = record ((new_app (codes "gen")).top) { rules = lines_rule ∷ [] }
+
 -- `im` with no help and no subcommand yet, of which one is required
 abbrev pub im_top : App
 im_top = record (new_app (codes "im")) {
@@ -53,7 +64,8 @@ im_top = record (new_app (codes "im")) {
 
 -- `im` with its subcommands, where the names of links lie at these references
 abbrev pub im_at : Texts → App
-im_at names = with_subcommand (with_subcommand (with_subcommand im_top (run_shape names)) verify_shape) show_shape
+im_at names =
+    with_subcommand (with_subcommand (with_subcommand (with_subcommand im_top (run_shape names)) verify_shape) show_shape) gen_shape
 
 -- the names of links
 abbrev pub link_texts : List Text

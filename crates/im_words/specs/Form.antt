@@ -43,3 +43,9 @@ pub record IsVerifyForm (words : List Text) : Type 0 where
 pub record IsShowForm (words : List Text) : Type 0 where
   pub name : Text
   pub are : words ≡ name ∷ codes "show" ∷ []
+
+-- the words are the program's name, `gen` and a number, at most 100,000
+pub record IsGenForm (words : List Text) (n : ℕ) : Type 0 where
+  pub name : Text
+  pub are : words ≡ name ∷ codes "gen" ∷ decimal n ∷ []
+  pub few : n ≤ 100000

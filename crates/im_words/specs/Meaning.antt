@@ -7,7 +7,7 @@ use Rattle.clap.specs.Words.{Row, Text, first_of, one_of, subcommand_of}
 use Rattle.clap.specs.ValueTests.{is_unsigned_in}
 use Rattle.im_words.specs.Command.{im_command}
 use Rattle.im_words.specs.declared.Request.{Request}
-use Rattle.im_words.specs.declared.Request.TheVariants.{Run, Verify, Show}
+use Rattle.im_words.specs.declared.Request.TheVariants.{Run, Verify, Show, Gen}
 use Rattle.im_words.specs.declared.Link.{Link}
 use Rattle.im_words.specs.declared.Link.TheVariants.{Auto, Manual}
 
@@ -33,11 +33,21 @@ link_of rows = option_map_or link_of_text (first_of (codes "link") rows) (Some A
 abbrev pub run_of : List Row → Option Request
 run_of rows = option_and_then (λ logs. option_map (λ link. Run logs link) (link_of rows)) (logs_of rows)
 
+-- the number that a text writes, from 0 to 100,000
+abbrev pub lines_of_text : Text → Option ℕ
+lines_of_text text =
+    if is_unsigned_in 0 100000 text then Some (digits_value 10 (without_leading_plus text)) else None
+
+-- the script that the matches of `gen` ask for, by its number of lines
+abbrev pub gen_of : List Row → Option Request
+gen_of rows = option_map (λ n. Gen n) (option_and_then lines_of_text (one_of (codes "lines") rows))
+
 -- what the subcommand's name and matches ask for
 abbrev pub asked_of : Option (Text × List Row) → Option Request
 asked_of None = None
 asked_of (Some p) = if bytes_eq p.0 (codes "run") then run_of p.1
-    else (if bytes_eq p.0 (codes "verify") then Some Verify else (if bytes_eq p.0 (codes "show") then Some Show else None))
+    else (if bytes_eq p.0 (codes "verify") then Some Verify else (if bytes_eq p.0 (codes "show") then Some Show
+    else (if bytes_eq p.0 (codes "gen") then gen_of p.1 else None)))
 
 -- the words ask for a run
 abbrev pub AsksRun : List Text → Type 0
@@ -52,8 +62,13 @@ AsksVerify words = asked_of (subcommand_of im_command words) ≡ Some Verify
 abbrev pub AsksShow : List Text → Type 0
 AsksShow words = asked_of (subcommand_of im_command words) ≡ Some Show
 
--- a run has 1 to 4 logs
+-- the words ask for the script of some lines
+abbrev pub AsksGen : List Text → Type 0
+AsksGen words = (n : ℕ) × (asked_of (subcommand_of im_command words) ≡ Some (Gen n))
+
+-- a run has 1 to 4 logs, and a script at most 100,000 lines
 abbrev pub HasFewLogs : Request → Type 0
 HasFewLogs (Run logs link) = (1 ≤ logs) × (logs ≤ 4)
 HasFewLogs Verify = Unit {0}
 HasFewLogs Show = Unit {0}
+HasFewLogs (Gen n) = n ≤ 100000

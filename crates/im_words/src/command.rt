@@ -2,7 +2,7 @@
 ghost use Rattle.std.specs.Prelude.{◌≡◌, IfOk, false};
 ghost use Rattle.clap.specs.Words.{app_of, rule_of, shape_of};
 ghost use Rattle.clap.specs.declared.builder.command.Command.TheViews.{out-Command};
-ghost use Rattle.im_words.specs.Command.{IsMadeOfNames, im_at, link_rule, logs_rule, run_shape, show_shape, verify_shape};
+ghost use Rattle.im_words.specs.Command.{IsMadeOfNames, gen_shape, im_at, lines_rule, link_rule, logs_rule, run_shape, show_shape, verify_shape};
 
 use clap::{Arg, Command, value_parser};
 use std::alloc::{AllocError, Global};
@@ -56,6 +56,24 @@ fn show<'a>(alloc: Global) -> Command<'a>
     Command::new(alloc, "show")
 }
 
+// The number of lines of `gen`.
+fn lines<'a>(alloc: Global) -> Arg<'a>
+    ensures rule { rule_of result ≡ lines_rule }
+    ensures local { result.global ≡ false }
+{
+    Arg::new(alloc, "lines")
+        .required(true)
+        .value_parser(value_parser!(u32).range(0..=100_000))
+}
+
+// The subcommand `gen`.
+fn generate<'a>(alloc: Global) -> Result<Command<'a>, AllocError>
+    ensures shape { IfOk result (λ c. shape_of c ≡ gen_shape) }
+    ensures local { IfOk result (λ c. (out-Command c).has_globals ≡ false) }
+{
+    Command::new(alloc, "gen").arg(lines(alloc))
+}
+
 // The whole command line: a subcommand is required, and there is no help and no version.
 pub(crate) fn im_command<'a>(alloc: Global) -> Result<Command<'a>, AllocError>
     ensures { IfOk result (λ c. IsMadeOfNames im_at (app_of c)) }
@@ -66,5 +84,6 @@ pub(crate) fn im_command<'a>(alloc: Global) -> Result<Command<'a>, AllocError>
         .subcommand_required(true)
         .subcommand(run(alloc)?)?
         .subcommand(verify(alloc))?
-        .subcommand(show(alloc))
+        .subcommand(show(alloc))?
+        .subcommand(generate(alloc)?)
 }

@@ -1,12 +1,12 @@
 //! The words of the command line of the program `im`, read with `clap`:
-//! `im run [--logs 1..4] [--link auto|manual]`, `im verify` and `im show`.
+//! `im run [--logs 1..4] [--link auto|manual]`, `im verify`, `im show` and `im gen N`.
 #![tactic(auto)]
 
 ghost use Rattle.std.specs.Prelude.{◌≡◌, ◌≢◌, ◌↔◌, ◌⊎◌, ℕ, IfOk, Some, map};
 ghost use Rattle.std.specs.String.{string_bytes};
 ghost use Rattle.clap.specs.Words.{kind_of, subcommand_of, subcommand_rows_of};
 ghost use Rattle.im_words.specs.Command.{IsFaultless, AreWordsRefused, im_command};
-ghost use Rattle.im_words.specs.Form.{IsForm, IsShowForm, IsVerifyForm};
+ghost use Rattle.im_words.specs.Form.{IsForm, IsGenForm, IsShowForm, IsVerifyForm};
 ghost use Rattle.im_words.specs.Meaning.{HasFewLogs, asked_of};
 
 mod command;
@@ -37,6 +37,8 @@ pub enum Request {
     Verify,
     /// What that client knows.
     Show,
+    /// The script of so many lines, at most 100,000, run in memory and judged.
+    Gen { lines: u32 },
 }
 
 /// Why the words got no answer.
@@ -105,6 +107,8 @@ pub fn read_words(alloc: Global, words: &[String]) -> Result<Request, WordsError
         → (result ≡ Ok Request.Verify) ⊎ (result ≡ Err WordsError.Memory) }
     ensures taken_show { IsShowForm (map string_bytes words.now)
         → (result ≡ Ok Request.Show) ⊎ (result ≡ Err WordsError.Memory) }
+    ensures taken_gen { (n : ℕ) → IsGenForm (map string_bytes words.now) n
+        → (result ≡ Ok (Request.Gen n)) ⊎ (result ≡ Err WordsError.Memory) }
     ensures limits { IfOk result HasFewLogs }
 {
     let matches = matched(alloc, words)?;

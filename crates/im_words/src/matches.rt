@@ -1,7 +1,7 @@
 //! What the matches of a command line ask for.
 ghost use Rattle.std.specs.Prelude.{◌≡◌, IsSome, Some};
 ghost use Rattle.clap.specs.Words.{found_of, rows_of, subcommand_rows_of};
-ghost use Rattle.im_words.specs.Meaning.{asked_of, link_of, link_of_text, logs_of, run_of};
+ghost use Rattle.im_words.specs.Meaning.{asked_of, gen_of, link_of, link_of_text, logs_of, run_of};
 
 use crate::{Link, Request};
 use clap::ArgMatches;
@@ -48,6 +48,16 @@ fn run(matches: &ArgMatches) -> Request
     }
 }
 
+// The script that the matches of `gen` ask for.
+fn generate(matches: &ArgMatches) -> Request
+    requires { IsSome (gen_of (rows_of (found_of matches.now))) }
+    ensures { gen_of (rows_of (found_of matches.now)) ≡ Some result }
+{
+    Request::Gen {
+        lines: matches.get_one::<u32>("lines").unwrap_or(0),
+    }
+}
+
 // What the matches ask for.
 pub(crate) fn asked(matches: &ArgMatches) -> Request
     requires { IsSome (asked_of (subcommand_rows_of matches.now)) }
@@ -57,6 +67,7 @@ pub(crate) fn asked(matches: &ArgMatches) -> Request
         Some(("run", matches)) => run(matches),
         Some(("verify", _)) => Request::Verify,
         Some(("show", _)) => Request::Show,
+        Some(("gen", matches)) => generate(matches),
         _ => unreachable!(),
     }
 }

@@ -2,6 +2,7 @@ use Rattle.std.proofs.Common.{map, refl, sym, ◌∙◌, inl, inr}
 use Rattle.std.specs.String.{string_bytes}
 use Rattle.im_disk.proofs.Growing.{grows_none}
 use Rattle.im_words.proofs.FormLemmas.{form_asks_so, show_asks, verify_asks}
+use Rattle.im_words.proofs.GenLemmas.{gen_asks_so}
 use Rattle.im_app.proofs.RunLemmas.{same-found, takes-none, usage-found}
 use Rattle.im_app.proofs.top.top.Goals as goal
 
@@ -38,6 +39,24 @@ returns-in-Err-Memory-clause-verify_form g c = λ form.
 pub returns-in-Err-Memory-clause-show_form : goal.returns-in-Err-Memory-clause-show_form
 returns-in-Err-Memory-clause-show_form g c = λ form.
     (λ usage. cc, show_asks (map string_bytes c.args.words.now) form)
+
+pub returns-in-Ok-Gen-clause-form : goal.returns-in-Ok-Gen-clause-form
+returns-in-Ok-Gen-clause-form g c = λ logs link form.
+    (c.generate-status.ensures.never, form_asks_so (map string_bytes c.args.words.now) logs link form)
+
+pub returns-in-Ok-Gen-clause-gen_form : goal.returns-in-Ok-Gen-clause-gen_form
+returns-in-Ok-Gen-clause-gen_form g c = λ n form.
+    (c.generate-status.ensures.never, gen_asks_so (map string_bytes c.args.words.now) n form)
+
+pub returns-in-Err-Memory-clause-gen_form : goal.returns-in-Err-Memory-clause-gen_form
+returns-in-Err-Memory-clause-gen_form g c = λ n form.
+    (λ usage. cc, gen_asks_so (map string_bytes c.args.words.now) n form)
+
+pub returns-in-Ok-Gen-clause-grows : goal.returns-in-Ok-Gen-clause-grows
+returns-in-Ok-Gen-clause-grows g c = grows_none (g.D.Disk.told c.args.disk)
+
+pub returns-in-Ok-Gen-clause-taken : goal.returns-in-Ok-Gen-clause-taken
+returns-in-Ok-Gen-clause-taken g c = takes-none 67112960 (g.S.Source.left c.args.source.now)
 
 pub returns-in-Ok-Show-clause-grows : goal.returns-in-Ok-Show-clause-grows
 returns-in-Ok-Show-clause-grows g c = grows_none (g.D.Disk.told c.args.disk)

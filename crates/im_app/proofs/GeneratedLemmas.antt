@@ -1,0 +1,55 @@
+-- What a run over an empty disk in memory leaves.
+use Rattle.std.proofs.Common.{◌≡◌, ◌<◌, ◌≤◌, ◌+◌, ◌∙◌, cond, ne_eqb, ℤ, ℕ, List, [], Option, Some, drop, length, pos, take, arith, ap, subst, sym}
+use Rattle.std.proofs.lemmas.Bool.{eq-eqb}
+use Rattle.std.proofs.lemmas.List.{take_all}
+use Rattle.std.specs.List.{All}
+use Rattle.im_digest.specs.Digests.{Hash}
+use Rattle.im_disk.specs.Disk.{Told, seen}
+use Rattle.im_format.specs.Batches.{Counts}
+use Rattle.im_format.proofs.EmptyLemmas.{none-alone}
+use Rattle.im_model.specs.Headers.{alh}
+use Rattle.im_model.specs.History.{header_of}
+use Rattle.im_model.specs.declared.transactions.Transaction.{Transaction}
+use Rattle.im_script.specs.declared.commands.Line.{Line}
+use Rattle.im_report.specs.Report.{Report}
+use Rattle.im_session.specs.Turns.{HasTime}
+use Rattle.im_app.specs.Generated.{IsReported, last_alh}
+use Rattle.im_app.specs.Runs.{IsGiven, WritesReport}
+
+-- files without octets hold no batch
+none-counts : (log : List ℕ) → log ≡ [] → Counts log 0 → ⊥
+none-counts log none counts =
+    let c : Counts [] 0 = subst (λ (l : List ℕ). Counts l 0) none counts in
+    absurd (let whole : 0 + 25 < 0 = c.whole in omega arith)
+
+-- a report that was written into nothing, over empty files, is one from nothing
+pub reported-of : (hash : Hash) (script octets : List ℕ) (before now : Told) (times_before times_now : Option (List ℤ)) → ((file : ℕ) → seen before file ≡ [])
+    → WritesReport hash (Some (pos 0)) 1 (Some script) (Some before) (Some now) times_before times_now (Some []) (Some octets) → IsReported hash script octets now
+reported-of hash script octets before now times_before times_now empty w =
+    let r = w.report.report in
+    let none : r.found ≡ [] = none-alone hash (seen before) r.found (none-counts (seen before 1) (empty 1)) r.found_is in
+    let all : take r.count r.lines ≡ r.lines = take_all r.count r.lines (omega (arith, w.report.all)) in
+    let G : List ℕ → Type 0 = λ s. IsGiven s r.lines in
+    let F : List Transaction → Type 0 = λ h. Report hash h r.history (take r.count r.lines) w.octets in
+    let L : List Line → Type 0 = λ ls. Report hash [] r.history ls w.octets in
+    let O : List ℕ → Type 0 = λ o. Report hash [] r.history r.lines o in
+    let T : List Transaction → Type 0 = λ h. All (HasTime (Some (pos 0))) (drop (length h) r.history) in
+    record {
+      lines = r.lines;
+      given = subst G (sym w.script_is) r.given;
+      history = r.history;
+      report = subst O (sym w.whole) (subst L all (subst F none r.report));
+      timed = subst T none r.timed;
+      stands = w.report.here.stands;
+    }
+
+-- the Alh of the last transaction, where there is none
+pub last-none : (hash : Hash) (history : List Transaction) → length history ≡ 0 → hash [] ≡ last_alh hash history
+last-none hash history none =
+    sym (ap (λ b. cond b (hash []) (alh hash (header_of hash history (length history)))) (eq-eqb (length history) 0 none))
+
+-- and where there are some
+pub last-some : (hash : Hash) (history : List Transaction) (k : ℕ) → k ≡ length history → 1 ≤ k → alh hash (header_of hash history k) ≡ last_alh hash history
+last-some hash history k same some =
+    ap (λ (m : ℕ). alh hash (header_of hash history m)) same
+    ∙ sym (ap (λ b. cond b (hash []) (alh hash (header_of hash history (length history)))) (ne_eqb (length history) 0 (λ e. omega arith)))

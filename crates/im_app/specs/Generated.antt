@@ -1,0 +1,60 @@
+-- What `gen` writes.
+use Rattle.std.specs.Prelude.{◌≡◌, ◌<◌, ◌==◌, ℕ, List, [], length, take, pos, All, Option, Some, if◌then◌else◌}
+use Rattle.std.specs.Io.KnownBytes.{Appends}
+use Rattle.im_digest.specs.Digests.{Hash}
+use Rattle.im_disk.specs.Disk.{Told, seen}
+use Rattle.im_format.specs.Standing.{Stands}
+use Rattle.im_model.specs.Headers.{alh}
+use Rattle.im_model.specs.History.{header_of}
+use Rattle.im_model.specs.declared.transactions.Transaction.{Transaction}
+use Rattle.im_script.specs.declared.commands.Line.{Line}
+use Rattle.im_report.specs.Report.{Report}
+use Rattle.im_facts.specs.Verdicts.{Verdict}
+use Rattle.im_verify.specs.Judged.{IsVerified, NoneForked, NoneRefused, kept_texts, up_to_fork}
+use Rattle.im_session.specs.Turns.{HasTime}
+use Rattle.im_gen.specs.Generator.{accepted_of, line_text, placed_of, script_text}
+use Rattle.im_app.specs.Runs.{IsGiven}
+
+-- the Alh of the last transaction, that of the empty string where there is none
+abbrev pub last_alh : Hash → List Transaction → List ℕ
+last_alh hash history = if length history == 0 then hash [] else alh hash (header_of hash history (length history))
+
+-- These octets are the report of a script, at time 0 and from nothing, to a history for which reads of a disk stand now.
+pub record IsReported (hash : Hash) (script octets : List ℕ) (now : Told) : Type 0 where
+  pub lines : List Line
+  pub given : IsGiven script lines
+  pub history : List Transaction
+  pub report : Report hash [] history lines octets
+  pub timed : All (HasTime (Some (pos 0))) history
+  pub stands : Stands hash (seen now) history
+
+-- The line tells of the script of n lines: that this history is the one to which the script leads from nothing at time 0,
+-- that it has as many transactions as the line says, and that a client that knows nothing accepts as many lines of the
+-- script's report, and neither refuses nor forks one.
+pub record IsGenerated (hash : Hash) (n : ℕ) (line : List ℕ) : Type 0 where
+  pub lines : List Line
+  pub given : IsGiven (script_text n) lines
+  pub octets : List ℕ
+  pub history : List Transaction
+  pub report : Report hash [] history lines octets
+  pub timed : All (HasTime (Some (pos 0))) history
+  pub many : length history ≡ placed_of n
+  pub verdicts : List Verdict
+  pub judged : IsVerified hash [] octets verdicts
+  pub none : NoneRefused verdicts × NoneForked verdicts
+  pub accepted : length (kept_texts (up_to_fork verdicts)) ≡ accepted_of n
+  pub told : line ≡ line_text n (last_alh hash history)
+
+-- that line was written, and nothing else
+pub record WritesGenerated (hash : Hash) (n : ℕ) (before now : Option (List ℕ)) : Type 0 where
+  pub line : List ℕ
+  pub is : IsGenerated hash n line
+  pub whole : Appends before now line
+
+-- a front part of it, not all of it, and nothing else
+pub record WritesGeneratedPart (hash : Hash) (n : ℕ) (before now : Option (List ℕ)) : Type 0 where
+  pub line : List ℕ
+  pub is : IsGenerated hash n line
+  pub count : ℕ
+  pub less : count < length line
+  pub part : Appends before now (take count line)
