@@ -24,7 +24,7 @@ use Rattle.im_script.specs.declared.commands.Command.TheVariants.{Set, Get, Scan
 use Rattle.im_proof.specs.Between.{anchor_between, dual_between}
 use Rattle.im_report.specs.Replies.{item_reply}
 use Rattle.im_report.specs.Report.{Answered, IsAnswer, Report}
-use Rattle.im_client.specs.Folds.{state_with}
+use Rattle.im_client.specs.Lines.{state_with}
 use Rattle.im_client.specs.LineChecks.{line_checks}
 use Rattle.im_facts.specs.Facts.{anchor_headers, both_headers, entries_shown, headers_shown}
 use Rattle.im_facts.proofs.OrderLemmas.{each-append}

@@ -14,7 +14,7 @@ use Rattle.im_script.specs.declared.commands.Command.{Command}
 use Rattle.im_script.specs.declared.commands.Command.TheVariants.{Set, Get, Scan, History, Header, State, Prove, Advance, Item, Link}
 use Rattle.im_proof.specs.Between.{no_entry}
 use Rattle.im_report.specs.Report.{Answered}
-use Rattle.im_client.specs.Folds.{state_with}
+use Rattle.im_client.specs.Lines.{state_with}
 use Rattle.im_facts.specs.Facts.{Known, with_message}
 use Rattle.im_facts.specs.Folds.{IsVerdict}
 use Rattle.im_facts.specs.Verdicts.{Accepted}

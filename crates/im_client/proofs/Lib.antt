@@ -1,3 +1,3 @@
-pub mod OutcomeLemmas
+pub mod SaysLemmas
 pub mod TextLemmas
-pub mod OutcomeSome
+pub mod LineSome

@@ -1,4 +1,3 @@
-pub mod Folds
-pub mod Keeping
 pub mod LineChecks
+pub mod Lines
 pub mod Texts

@@ -1,5 +1,5 @@
--- The lines that tell what became of a stream's lines.
-use Rattle.std.specs.Prelude.{ℕ, ◌+◌, List, [], ◌∷◌, ◌++◌, codes}
+-- The line that tells which check of a stream's line failed.
+use Rattle.std.specs.Prelude.{ℕ, List, ◌++◌, codes}
 use Rattle.std.specs.Fmt.{decimal}
 use Rattle.hex.specs.Hex.{encode_lower}
 use Rattle.im_mtree.specs.declared.faults.PathFault.{PathFault}
@@ -8,12 +8,8 @@ use Rattle.im_proof.specs.declared.faults.HeaderFault.{HeaderFault}
 use Rattle.im_proof.specs.declared.faults.HeaderFault.TheVariants.{Version, Entries, Tree}
 use Rattle.im_proof.specs.declared.faults.DualFault.{DualFault}
 use Rattle.im_proof.specs.declared.faults.DualFault.TheVariants as dual
-use Rattle.im_wire.specs.declared.messages.Message.{Message}
-use Rattle.im_wire.specs.declared.messages.Message.TheVariants as says
 use Rattle.im_client.specs.declared.faults.LineFault.{LineFault}
 use Rattle.im_client.specs.declared.faults.LineFault.TheVariants as line
-use Rattle.im_client.specs.declared.outcomes.Outcome.{Outcome}
-use Rattle.im_client.specs.declared.outcomes.Outcome.TheVariants.{Passed, Accepted, Refused}
 
 -- a name, and two numbers: wanted, then found
 unfoldable pub with_numbers : List ℕ → ℕ → ℕ → List ℕ
@@ -79,28 +75,6 @@ fault_text (line.AnchorTargetAlh want got) = with_digests (codes "anchor-target-
 fault_text (line.Anchor fault) = codes "anchor-" ++ dual_fault_text fault
 fault_text (line.Path fault) = path_fault_text fault
 
--- what an accepted message shows
-unfoldable pub shown_text : Message → List ℕ
-shown_text (says.State header) = codes "state " ++ decimal header.id
-shown_text (says.Dual dual) = codes "dual " ++ decimal dual.source.id ++ codes " " ++ decimal dual.target.id
-shown_text (says.Advance dual anchor) = codes "advance " ++ decimal dual.source.id ++ codes " " ++ decimal dual.target.id
-shown_text (says.Item dual entry index path) = codes "item " ++ decimal dual.source.id ++ codes " " ++ decimal index
-
--- what is written of line n where its message is accepted
-unfoldable pub ok_line : ℕ → Message → List ℕ
-ok_line n message = codes "ok " ++ decimal n ++ codes " " ++ shown_text message ++ codes "\n"
-
--- and where a check of it fails
+-- what is written of line n where a check of it fails
 unfoldable pub refused_line : ℕ → LineFault → List ℕ
 refused_line n fault = codes "refused " ++ decimal n ++ codes " " ++ fault_text fault ++ codes "\n"
-
--- what is written of line n: nothing where it is passed over
-abbrev pub outcome_line : ℕ → Outcome → List ℕ
-outcome_line n Passed = []
-outcome_line n (Accepted message) = ok_line n message
-outcome_line n (Refused fault) = refused_line n fault
-
--- what is written of lines from line n on
-abbrev pub outcome_lines : ℕ → List Outcome → List ℕ
-outcome_lines n [] = []
-outcome_lines n (outcome ∷ outcomes) = outcome_line n outcome ++ outcome_lines (n + 1) outcomes

@@ -20,16 +20,18 @@ use im_mtree::paths::check_path;
 use im_proof::proofs::DualProof;
 use im_wire::messages::Message;
 
-/// A kept header, and its Alh.
+/// The header that a client keeps as its state, and its Alh.
 #[derive(Clone, Copy)]
-pub(crate) struct Known<'k> {
-    pub(crate) header: &'k Header,
-    pub(crate) alh: D32,
+pub struct KnownHeader<'k> {
+    /// The header.
+    pub header: &'k Header,
+    /// Its Alh under the client's hash function.
+    pub alh: D32,
 }
 
-/// Whether a message passes every check under the kept state: what a client stands on. Without a kept state
-/// only a state does. It takes no memory. It hashes each header once, each term of a list at most twice, a leaf for
-/// each path, and an item's entry once.
+/// Whether a message passes every check under the kept state. Without a kept state only a state does. It takes no
+/// memory. It hashes each header once, the kept one too, each term of a list at most twice, a leaf for each path, and
+/// an item's entry once.
 ///
 /// # Errors
 ///
@@ -45,13 +47,18 @@ pub fn check_message<H: Hash32>(
         return check_known(hash, None, message);
     };
     let alh = alh(hash, header);
-    check_known(hash, Some(Known { header, alh }), message)
+    check_known(hash, Some(KnownHeader { header, alh }), message)
 }
 
-/// The same where the Alh of the kept state is known, and not hashed again.
-pub(crate) fn check_known<H: Hash32>(
+/// The same where the Alh of the kept state is known, and not hashed again: what a client that keeps it beside the header
+/// stands on.
+///
+/// # Errors
+///
+/// The first check that fails, with what was wanted and what was found.
+pub fn check_known<H: Hash32>(
     hash: &H,
-    kept: Option<Known<'_>>,
+    kept: Option<KnownHeader<'_>>,
     message: &Message,
 ) -> Result<(), LineFault>
     requires { IfSome kept (λ known. known.alh ≡ alh (H.digest hash.now) known.header.now) }
@@ -83,7 +90,7 @@ pub(crate) fn check_known<H: Hash32>(
 #[tactic(auto, using(im_mtree::proofs::CheckLemmas::fail_both, im_mtree::proofs::CheckLemmas::fail_append))]
 fn check_state<H: Hash32>(
     hash: &H,
-    kept: Option<Known<'_>>,
+    kept: Option<KnownHeader<'_>>,
     header: &Header,
 ) -> Result<(), LineFault>
     requires { IfSome kept (λ known. known.alh ≡ alh (H.digest hash.now) known.header.now) }
@@ -103,7 +110,7 @@ fn check_state_header(header: &Header) -> Result<(), LineFault>
 // Whether a state is the kept one, where one is kept.
 fn check_same_state<H: Hash32>(
     hash: &H,
-    kept: Option<Known<'_>>,
+    kept: Option<KnownHeader<'_>>,
     header: &Header,
 ) -> Result<(), LineFault>
     requires { IfSome kept (λ known. known.alh ≡ alh (H.digest hash.now) known.header.now) }
@@ -127,7 +134,11 @@ fn check_same_state<H: Hash32>(
 }
 
 // Whether a dual proof leads to the kept state.
-fn check_dual_line<H: Hash32>(hash: &H, kept: Known<'_>, dual: &DualProof) -> Result<(), LineFault>
+fn check_dual_line<H: Hash32>(
+    hash: &H,
+    kept: KnownHeader<'_>,
+    dual: &DualProof,
+) -> Result<(), LineFault>
     requires { kept.alh ≡ alh (H.digest hash.now) kept.header.now }
     ensures { result ≡ first_fail (dual_line_checks (H.digest hash.now) kept.entry.header.now dual.now) }
 {
@@ -166,7 +177,7 @@ fn check_dual<H: Hash32>(
 // Whether an advance leads from the kept state on.
 fn check_advance_line<H: Hash32>(
     hash: &H,
-    kept: Known<'_>,
+    kept: KnownHeader<'_>,
     dual: &DualProof,
     anchor: Option<&DualProof>,
 ) -> Result<(), LineFault>
@@ -299,7 +310,7 @@ fn check_anchor_dual<H: Hash32>(
 #[tactic(auto, using(im_mtree::proofs::CheckLemmas::fail_both, im_mtree::proofs::CheckLemmas::fail_append))]
 fn check_item_line<H: Hash32>(
     hash: &H,
-    kept: Known<'_>,
+    kept: KnownHeader<'_>,
     dual: &DualProof,
     entry: &Entry,
     index: u32,

@@ -1,10 +1,7 @@
-//! A client that trusts nobody: it keeps one state, and accepts or refuses each line that it is shown by
-//! the first check that fails.
+//! What a client that trusts nobody checks of a message under the state that it keeps, and the names of the checks that
+//! fail.
 #![tactic(auto)]
 
 pub mod checks;
-pub mod clients;
 pub mod faults;
-pub mod laws;
-pub mod outcomes;
 pub mod texts;

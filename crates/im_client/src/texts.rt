@@ -1,14 +1,12 @@
-ghost use Rattle.std.specs.Prelude.{◌≡◌, ◌++◌, codes, IfOk, OnOk};
+ghost use Rattle.std.specs.Prelude.{◌≡◌, ◌++◌, IfOk, OnOk};
 ghost use Rattle.std.specs.Fmt.{decimal};
-ghost use Rattle.im_client.specs.Texts.{with_numbers, with_digests, header_fault_text, dual_fault_text, path_fault_text, fault_text, shown_text, ok_line, refused_line, outcome_line};
+ghost use Rattle.im_client.specs.Texts.{with_numbers, with_digests, header_fault_text, dual_fault_text, path_fault_text, fault_text, refused_line};
 
 use crate::faults::LineFault;
-use crate::outcomes::Outcome;
 use im_digest::D32;
 use im_mtree::faults::PathFault;
 use im_proof::faults::{DualFault, HeaderFault};
 use im_text::writing::{push_hex, push_number};
-use im_wire::messages::Message;
 use std::alloc::{AllocError, Global};
 
 // Adds a name and two numbers, the one wanted and the one found.
@@ -180,50 +178,12 @@ fn push_fault(out: &mut Vec<u8>, fault: &LineFault) -> Result<(), AllocError>
     }
 }
 
-// Adds what an accepted message shows.
-#[tactic(auto, unfolding(crate::specs::Texts::shown_text))]
-fn push_shown(out: &mut Vec<u8>, message: &Message) -> Result<(), AllocError>
-    ensures { OnOk result (out.new.items ≡ out.old.items ++ shown_text message.now) }
-{
-    match message {
-        Message::State { header } => push_one(out, b"state ", header.id),
-        Message::Dual { dual } => push_two(out, b"dual ", dual.source.id, dual.target.id),
-        Message::Advance { dual, .. } => {
-            push_two(out, b"advance ", dual.source.id, dual.target.id)
-        }
-        Message::Item { dual, index, .. } => {
-            push_two(out, b"item ", dual.source.id, u64::from(*index))
-        }
-    }
-}
-
 // Adds a text and a number.
 fn push_one(out: &mut Vec<u8>, text: &[u8], n: u64) -> Result<(), AllocError>
     ensures { OnOk result (out.new.items ≡ out.old.items ++ text.now ++ decimal n) }
 {
     let alloc = *out.allocator();
     push_number(alloc, out, text, n)
-}
-
-// Adds a text and two numbers.
-fn push_two(out: &mut Vec<u8>, text: &[u8], first: u64, second: u64) -> Result<(), AllocError>
-    ensures { OnOk result (out.new.items ≡ out.old.items ++ text.now ++ decimal first ++ codes " " ++ decimal second) }
-{
-    push_one(out, text, first)?;
-    push_one(out, b" ", second)
-}
-
-// The line of an accepted message.
-#[tactic(auto, unfolding(crate::specs::Texts::ok_line))]
-fn accepted_text(alloc: Global, n: u64, message: &Message) -> Result<Vec<u8>, AllocError>
-    ensures { IfOk result (λ text. text.items ≡ ok_line n message.now) }
-{
-    let mut out = Vec::new(alloc);
-    push_one(&mut out, b"ok ", n)?;
-    out.extend_from_slice(b" ")?;
-    push_shown(&mut out, message)?;
-    out.extend_from_slice(b"\n")?;
-    Ok(out)
 }
 
 /// What is written of line n, with its LF, where a check of it fails.
@@ -237,15 +197,4 @@ pub fn refused_text(alloc: Global, n: u64, fault: &LineFault) -> Result<Vec<u8>,
     push_fault(&mut out, fault)?;
     out.extend_from_slice(b"\n")?;
     Ok(out)
-}
-
-/// What is written of line n, with its LF: nothing where it is passed over.
-pub fn outcome_text(alloc: Global, n: u64, outcome: &Outcome) -> Result<Vec<u8>, AllocError>
-    ensures { IfOk result (λ text. text.items ≡ outcome_line n outcome.now) }
-{
-    match outcome {
-        Outcome::Passed => Ok(Vec::new(alloc)),
-        Outcome::Accepted { message } => accepted_text(alloc, n, message),
-        Outcome::Refused { fault } => refused_text(alloc, n, fault),
-    }
 }

@@ -34,14 +34,14 @@ fn push_lines<H: Hash32>(
     hash: &H,
     lines: &str,
 ) -> Result<(), Wrong> {
-    let mut client = FactClient::new(alloc);
+    let mut client = FactClient::new(alloc, hash);
     let mut number = 0u64;
     for line in lines.split_terminator('\n') {
         let Some((">", short)) = line.split_once(' ') else {
             return Err(Wrong::Mark);
         };
         let text = in_full(alloc, short)?;
-        let taken = client.take_line(alloc, hash, text.as_bytes())?;
+        let taken = client.take_line(alloc, text.as_bytes())?;
         number = number.saturating_add(1);
         push_taken(alloc, out, number, taken)?;
     }

@@ -1,8 +1,8 @@
 //! What is told of a line, and of a client.
 
 use im_client::faults::LineFault;
-use im_client::outcomes::Outcome;
-use im_client::texts::outcome_text;
+use im_client::texts::refused_text;
+use im_digest::Hash32;
 use im_facts::clients::FactClient;
 use im_facts::taken::{Shown, Taken};
 use im_octet::octets::Octets;
@@ -18,7 +18,7 @@ pub fn push_taken(
     match taken {
         None => writeln!(out, "passed {number}"),
         Some(Taken::Accepted { shown }) => push_shown(out, number, shown),
-        Some(Taken::Refused { fault }) => push_refused(alloc, out, number, fault),
+        Some(Taken::Refused { fault }) => push_refused(alloc, out, number, &fault),
         Some(Taken::Forked { x, y }) => push_pair(alloc, out, number, &x, &y),
     }
 }
@@ -36,12 +36,9 @@ fn push_refused(
     alloc: Global,
     out: &mut String,
     number: u64,
-    fault: LineFault,
+    fault: &LineFault,
 ) -> Result<(), AllocError> {
-    let outcome = Outcome::Refused { fault };
-    let told = outcome_text(alloc, number, &outcome);
-    drop(outcome);
-    let line = told?;
+    let line = refused_text(alloc, number, fault)?;
     let text = String::from_utf8_lossy(alloc, line.as_slice())?;
     out.push_str(&text)
 }
@@ -59,7 +56,10 @@ fn push_pair(
 }
 
 /// Adds what a client knows: `known STATE HEADERS ENTRIES`, the number of its state, 0 for none, and how many facts there are.
-pub fn push_known(out: &mut String, client: &FactClient) -> Result<(), AllocError> {
+pub fn push_known<H: Hash32>(
+    out: &mut String,
+    client: &FactClient<'_, H>,
+) -> Result<(), AllocError> {
     let state = client.state().map_or(0, |header| header.id);
     let headers = client.headers().len();
     let entries = client.entries().len();

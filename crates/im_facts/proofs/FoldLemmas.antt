@@ -16,7 +16,7 @@ use Rattle.im_hashed.proofs.FitsLemmas.{header-fits}
 use Rattle.im_wire.specs.Fits.{IsMessage}
 use Rattle.im_wire.specs.declared.messages.Message.{Message}
 use Rattle.im_wire.specs.declared.messages.Message.TheVariants as says
-use Rattle.im_client.specs.Folds.{state_with}
+use Rattle.im_client.specs.Lines.{state_with}
 use Rattle.im_client.specs.LineChecks.{line_checks}
 use Rattle.im_facts.specs.Accepted.{IsAccepted, AreAccepted, IsClient}
 use Rattle.im_facts.specs.Facts.{Known, nothing, with_message, known_after, known_header, headers_shown, entries_shown, with_headers, with_entries, is_lower, is_level, is_before, is_beside}

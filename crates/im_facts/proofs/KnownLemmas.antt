@@ -10,7 +10,7 @@ use Rattle.im_model.specs.declared.headers.Header.{Header}
 use Rattle.im_model.specs.declared.entries.Entry.{Entry}
 use Rattle.im_wire.specs.declared.messages.Message.{Message}
 use Rattle.im_wire.specs.declared.messages.Message.TheVariants as says
-use Rattle.im_client.specs.Folds.{state_with}
+use Rattle.im_client.specs.Lines.{state_with}
 use Rattle.im_facts.specs.Accepted.{IsAccepted, AreAccepted, IsClient}
 use Rattle.im_facts.specs.Facts.{Known, nothing, with_message, known_after, Agrees, IsRising, known_header, entry_at, headers_shown, entries_shown, with_headers, with_entries, is_lower, is_level, is_before, is_beside}
 use Rattle.im_facts.specs.declared.facts.EntryFact.{EntryFact}

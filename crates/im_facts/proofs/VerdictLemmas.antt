@@ -6,7 +6,7 @@ use Rattle.im_wire.specs.Lines.{IsLine}
 use Rattle.im_wire.specs.declared.messages.Message.{Message}
 use Rattle.im_client.specs.LineChecks.{line_checks}
 use Rattle.im_client.specs.declared.faults.LineFault.{LineFault}
-use Rattle.im_client.proofs.OutcomeLemmas.{err-is, ok-err, says-one, says-none}
+use Rattle.im_client.proofs.SaysLemmas.{err-is, ok-err, says-one, says-none}
 use Rattle.im_facts.specs.Facts.{Known, with_message, Differs}
 use Rattle.im_facts.specs.Folds.{IsTakenAs, IsVerdict, AreVerdicts, known_behind, known_by, known_by_all}
 use Rattle.im_facts.specs.Verdicts.{Verdict, Passed, Accepted, Refused, Forked, IsSameVerdict, AreSameVerdicts, messages_of, taken_of}

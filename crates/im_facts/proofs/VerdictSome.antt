@@ -1,5 +1,5 @@
 -- Each line has a verdict, where a message that differs comes with a pair; and behind lines a client is one still.
-use Rattle.std.proofs.Common.{◌≡◌, ◌⊎◌, ℕ, List, [], ◌∷◌, ◌++◌, refl, sym, ap, subst, ◌∙◌, inl, inr, Option, Some, None, Result, Ok, Err}
+use Rattle.std.proofs.Common.{◌≡◌, ◌⊎◌, ℕ, List, [], ◌∷◌, ◌++◌, refl, sym, ap, subst, ◌∙◌, inl, inr, Some, None, Result, Ok, Err}
 use Rattle.im_digest.specs.Digests.{Hash}
 use Rattle.im_mtree.specs.Checks.{first_fail}
 use Rattle.im_pairs.specs.Pairs.{HasPair}
@@ -8,32 +8,16 @@ use Rattle.im_wire.specs.Fits.{IsMessage}
 use Rattle.im_wire.specs.Lines.{IsLine}
 use Rattle.im_wire.specs.declared.messages.Message.{Message}
 use Rattle.im_wire.proofs.FitLemmas.{said-fits}
-use Rattle.im_client.specs.Folds.{IsBad, IsOutcome}
 use Rattle.im_client.specs.LineChecks.{line_checks}
 use Rattle.im_client.specs.declared.faults.LineFault.{LineFault}
 use Rattle.im_client.specs.declared.faults.LineFault.TheVariants.{Syntax}
-use Rattle.im_client.specs.declared.outcomes.Outcome.{Outcome}
-use Rattle.im_client.specs.declared.outcomes.Outcome.TheVariants as client
-use Rattle.im_client.proofs.OutcomeSome.{outcome-exists}
+use Rattle.im_client.proofs.LineSome.{LineOrBad, line-or-bad}
 use Rattle.im_facts.specs.Accepted.{Passes, IsAccepted, IsClient}
 use Rattle.im_facts.specs.Facts.{Known, with_message, Agrees, Differs}
 use Rattle.im_facts.specs.Folds.{IsForkedBy, IsVerdict, AreVerdicts, known_by, known_by_all}
 use Rattle.im_facts.specs.Verdicts.{Verdict, Passed, Accepted, Refused, Forked}
 use Rattle.im_facts.proofs.AgreeLemmas.{agrees-or-differs}
 use Rattle.im_facts.proofs.KeepLemmas.{client-more}
-
--- a line says something, or is bad
-abbrev LineOrBad : List ℕ → Type 0
-LineOrBad line = ((o : Option Message) × IsLine line o) ⊎ IsBad line
-
-said : (hash : Hash) (line : List ℕ) (outcome : Outcome) → IsOutcome hash None line outcome → LineOrBad line
-said hash line client.Passed is = inl (None, is)
-said hash line (client.Accepted m) is = inl (Some m, is.0)
-said hash line (client.Refused fault) (inl is) = inr is.0
-said hash line (client.Refused fault) (inr is) = inl (Some is.0, is.1)
-
-line-or-bad : (hash : Hash) (line : List ℕ) → LineOrBad line
-line-or-bad hash line = let some = outcome-exists hash None line in said hash line some.0 some.1
 
 -- a message that a line says has the ranges of its types
 pub line-fits : (line : List ℕ) (m : Message) → IsLine line (Some m) → IsMessage m
@@ -45,7 +29,7 @@ ForksHavePairs hash known line = (m : Message) → IsLine line (Some m) → Pass
 
 -- a line has a verdict
 pub verdict-exists : (hash : Hash) (known : Known) (line : List ℕ) → ForksHavePairs hash known line → (verdict : Verdict) × IsVerdict hash known line verdict
-verdict-exists hash known line pairs = go (line-or-bad hash line)
+verdict-exists hash known line pairs = go (line-or-bad line)
   where
     compared : (m : Message) → IsLine line (Some m) → Passes hash known m → Agrees known m ⊎ Differs known m → (verdict : Verdict) × IsVerdict hash known line verdict
     compared m says passes (inl agrees) = (Accepted m, (says, record { passes = passes; agrees = agrees }))

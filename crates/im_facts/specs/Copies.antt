@@ -3,7 +3,7 @@ use Rattle.std.specs.Prelude.{◌≡◌, Option, Some, None}
 use Rattle.std.specs.Option.{option_to_list}
 use Rattle.im_model.specs.declared.headers.Header.{Header}
 use Rattle.im_wire.specs.declared.messages.Message.{Message}
-use Rattle.im_client.specs.Folds.{state_with}
+use Rattle.im_client.specs.Lines.{state_with}
 use Rattle.im_facts.specs.Facts.{headers_shown, entries_shown}
 use Rattle.im_facts.specs.declared.copies.Copies.{Copies}
 

@@ -7,7 +7,7 @@ use Rattle.im_model.specs.declared.headers.Header.{Header}
 use Rattle.im_proof.specs.declared.proofs.DualProof.{DualProof}
 use Rattle.im_wire.specs.declared.messages.Message.{Message}
 use Rattle.im_wire.specs.declared.messages.Message.TheVariants as says
-use Rattle.im_client.specs.Folds.{state_with}
+use Rattle.im_client.specs.Lines.{state_with}
 use Rattle.im_facts.specs.declared.facts.EntryFact.{EntryFact}
 
 -- the kept header of number t

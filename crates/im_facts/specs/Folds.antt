@@ -6,7 +6,7 @@ use Rattle.im_pairs.specs.Pairs.{IsPair}
 use Rattle.im_hashed.specs.Messages.{strings_of}
 use Rattle.im_wire.specs.Lines.{IsLine}
 use Rattle.im_wire.specs.declared.messages.Message.{Message}
-use Rattle.im_client.specs.Folds.{IsBad}
+use Rattle.im_client.specs.Lines.{IsBad}
 use Rattle.im_client.specs.LineChecks.{line_checks}
 use Rattle.im_client.specs.declared.faults.LineFault.TheVariants.{Syntax}
 use Rattle.im_facts.specs.Accepted.{Passes, IsAccepted}

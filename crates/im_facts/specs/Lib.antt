@@ -4,4 +4,5 @@ pub mod Accepted
 pub mod Copies
 pub mod Folds
 pub mod Held
+pub mod Keeping
 pub mod Texts

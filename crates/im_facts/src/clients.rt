@@ -1,19 +1,22 @@
-ghost use Rattle.std.specs.Prelude.{◌≡◌, ◌⊎◌, ◌<◌, ◌∷◌, ◌++◌, [], IsTrue, IsFalse, IfOk, OnOk, OnErr, AllPairs, option_map};
+ghost use Rattle.std.specs.Prelude.{◌≡◌, ◌<◌, ◌∷◌, ◌++◌, [], IsTrue, IsFalse, IfOk, OnOk, OnErr, AllPairs, option_map};
 ghost use Rattle.im_digest.specs.Digests.{Hash};
 ghost use Rattle.im_model.specs.declared.headers.Header.{Header as TheHeader};
+ghost use Rattle.im_mtree.specs.Checks.{first_fail};
 ghost use Rattle.im_pairs.specs.Pairs.{IsPair};
 ghost use Rattle.im_hashed.specs.Messages.{strings_of};
 ghost use Rattle.im_wire.specs.Fits.{IsMessage};
+ghost use Rattle.im_client.specs.LineChecks.{line_checks};
 ghost use Rattle.im_facts.specs.Accepted.{IsClient, Passes};
 ghost use Rattle.im_facts.specs.Folds.{IsTakenAs, IsVerdict, known_behind, known_by};
-ghost use Rattle.im_facts.specs.Facts.{nothing, with_message, headers_shown, Agrees, Differs, IsBefore, IsRising};
+ghost use Rattle.im_facts.specs.Facts.{nothing, with_message, Agrees, Differs, IsBefore, IsRising};
 ghost use Rattle.im_facts.specs.Verdicts.{Verdict, shown_of, taken_of};
 
 use crate::agree::{entries_agree, headers_agree};
-use crate::copies::{Copies, copies_of, follow, make_room, put_entries, put_headers, put_message};
+use crate::copies::{Copies, copies_of, make_room, put_entries, put_headers, put_message};
 use crate::facts::EntryFact;
+use crate::states::{State, follow, header_of};
 use crate::taken::{Shown, Taken};
-use im_client::checks::check_message;
+use im_client::checks::{KnownHeader, check_known};
 use im_client::faults::LineFault;
 use im_digest::Hash32;
 use im_hashed::messages::hashed;
@@ -27,7 +30,7 @@ use std::alloc::{AllocError, Global};
 use std::marker::Model;
 
 /// A client that trusts nobody: it keeps a state, and every header and entry that accepted messages showed. A clause
-/// sees what it knows.
+/// sees its hash function and what it knows.
 ///
 /// # Thread safety
 ///
@@ -35,31 +38,42 @@ use std::marker::Model;
 ///
 /// # Invariants
 ///
-/// `IsClient`, for one hash function: what it knows is what its messages lead to, each accepted behind those before it.
-/// `new` begins with it for any function, and `take` asks for it and keeps it.
+/// `IsClient`, for its hash function: what it knows is what its messages lead to, each accepted behind those before it.
+/// `new` begins with it, and `take` and `take_line` ask for it and keep it. Beside the state it keeps that header's Alh, so
+/// that no line hashes it again.
 #[derive(Drop)]
-pub struct FactClient {
-    state: Option<Header>,
+pub struct FactClient<'h, H: Hash32> {
+    hash: &'h H,
+    state: Option<State>,
     headers: Vec<Header>,
     entries: Vec<EntryFact>,
     messages: Vec<Message>,
 }
 
-impl Model for FactClient {
-    ghost use Rattle.im_facts.specs.Facts.{Known};
+impl<'h, H: Hash32> Model for FactClient<'h, H> {
+    ghost use Rattle.std.specs.Prelude.{◌≡◌, IfSome, option_map};
+    ghost use Rattle.im_model.specs.Headers.{alh};
+    ghost use Rattle.im_facts.specs.Keeping.{Keeping};
 
-    ghost Value = { Known };
+    ghost Value = { Keeping H };
 
-    ghost view = { λ s. record { state = s.state; headers = s.headers.items; entries = s.entries.items; messages = s.messages.items } };
+    ghost view = { λ s. record {
+      hash = s.hash.now;
+      known = record { state = option_map (λ state. state.header) s.state; headers = s.headers.items; entries = s.entries.items; messages = s.messages.items };
+    } };
+
+    ghost invariant = { λ s. IfSome s.state (λ state. state.alh ≡ alh (H.digest s.hash.now) state.header) };
 }
 
-impl FactClient {
-    /// A client that knows nothing. It takes no memory.
-    pub fn new(alloc: Global) -> Self
-        ensures empty { result ≡ nothing }
-        ensures client { (hash : Hash) → IsClient hash result }
+impl<'h, H: Hash32> FactClient<'h, H> {
+    /// A client that knows nothing, under a hash function. It takes no memory.
+    pub fn new(alloc: Global, hash: &'h H) -> Self
+        ensures empty { result.known ≡ nothing }
+        ensures hash { result.hash ≡ hash.now }
+        ensures client { (function : Hash) → IsClient function result.known }
     {
         FactClient {
+            hash,
             state: None,
             headers: Vec::new(alloc),
             entries: Vec::new(alloc),
@@ -69,85 +83,67 @@ impl FactClient {
 
     /// The state that it keeps.
     pub fn state(&self) -> Option<&Header>
-        ensures { option_map (λ header. header.now) result ≡ self.now.state }
+        ensures { option_map (λ header. header.now) result ≡ self.now.known.state }
     {
-        self.state.as_ref()
+        header_of(&self.state)
     }
 
     /// Lends the kept headers by rising number, one for each number at most.
     pub fn headers(&self) -> &[Header]
-        ensures list { result.now ≡ self.now.headers }
-        ensures rising { (hash : Hash) → IsClient hash self.now → AllPairs (λ (a b : TheHeader). a.id < b.id) result.now }
+        ensures list { result.now ≡ self.now.known.headers }
+        ensures rising { (hash : Hash) → IsClient hash self.now.known → AllPairs (λ (a b : TheHeader). a.id < b.id) result.now }
     {
         self.headers.as_slice()
     }
 
     /// Lends the kept entries by rising place, one for each place at most.
     pub fn entries(&self) -> &[EntryFact]
-        ensures list { result.now ≡ self.now.entries }
-        ensures rising { (hash : Hash) → IsClient hash self.now → AllPairs IsBefore result.now }
+        ensures list { result.now ≡ self.now.known.entries }
+        ensures rising { (hash : Hash) → IsClient hash self.now.known → AllPairs IsBefore result.now }
     {
         self.entries.as_slice()
     }
 
     /// Lends the messages that it accepted, in order.
     pub fn messages(&self) -> &[Message]
-        ensures { result.now ≡ self.now.messages }
+        ensures { result.now ≡ self.now.known.messages }
     {
         self.messages.as_slice()
     }
 
-    /// Takes a message. Its checks cost what `check_message` says, and each fact that it shows is looked up by halving the
+    /// Takes a message. Its checks cost what `check_known` says, and each fact that it shows is looked up by halving the
     /// kept ones. Each fact of an accepted message is copied, and a new one is put at its place, one step for each kept fact
-    /// behind that place: none for the target of an advance. The message itself is moved in. At a fork all strings hashed for
-    /// the accepted messages and this one are made again, held at once, and hashed.
+    /// behind that place: none for the target of an advance. The message itself is moved in, and a header that becomes the
+    /// state is hashed once more. At a fork all strings hashed for the accepted messages and this one are made again, held at
+    /// once, and hashed. Before all this it walks over the message's lists of digests, to say that these have 32 octets;
+    /// `take_line`, which read them, doesn't.
     ///
-    /// The hash function is that of the calls before, as far as they accepted anything. Its only error is want of memory;
-    /// then nothing changed.
-    pub fn take<H: Hash32>(
-        &mut self,
-        alloc: Global,
-        hash: &H,
-        message: Message,
-    ) -> Result<Taken, AllocError>
-        requires { IsClient (H.digest hash.now) self.old }
-        ensures taken { IfOk result (IsTakenAs (H.digest hash.now) self.old message) }
-        ensures keeps { IfOk result (λ taken. self.new ≡ known_behind self.old message taken) }
+    /// Its only error is want of memory; then nothing changed.
+    pub fn take(&mut self, alloc: Global, message: Message) -> Result<Taken, AllocError>
+        requires { IsClient (H.digest self.old.hash) self.old.known }
+        ensures taken { IfOk result (IsTakenAs (H.digest self.old.hash) self.old.known message) }
+        ensures keeps { IfOk result (λ taken. self.new.known ≡ known_behind self.old.known message taken) }
         ensures left { OnErr result (self.new ≡ self.old) }
-        ensures client { IsClient (H.digest hash.now) self.new }
+        ensures client { IsClient (H.digest self.new.hash) self.new.known }
+        ensures hash { self.new.hash ≡ self.old.hash }
     {
         message_fits(&message);
-        if let Err(fault) = check_message(hash, self.state.as_ref(), &message) {
-            drop(message);
-            return Ok(Taken::Refused { fault });
-        }
-        if self.agrees(&message) {
-            let shown = self.keep(alloc, message)?;
-            return Ok(Taken::Accepted { shown });
-        }
-        let pair = self.pair_with(alloc, hash, &message);
-        drop(message);
-        let Pair { x, y } = pair?;
-        Ok(Taken::Forked { x, y })
+        self.take_fitting(alloc, message)
     }
 
-    /// Takes a line of a stream, without its LF: reads it, and takes the message that it says, which costs what `take` says.
-    /// `None` for a line that is passed over. A line that says no message is refused. Its only error is want of memory;
-    /// then nothing changed.
-    pub fn take_line<H: Hash32>(
-        &mut self,
-        alloc: Global,
-        hash: &H,
-        line: &[u8],
-    ) -> Result<Option<Taken>, AllocError>
-        requires { IsClient (H.digest hash.now) self.old }
-        ensures told { IfOk result (λ taken. (verdict : Verdict) × IsVerdict (H.digest hash.now) self.old line.now verdict × (taken ≡ taken_of verdict) × (self.new ≡ known_by self.old verdict)) }
+    /// Takes a line of a stream, without its LF: reads it, and takes the message that it says, which costs what `take` says
+    /// but for the walk. `None` for a line that is passed over. A line that says no message is refused. Its only error is
+    /// want of memory; then nothing changed.
+    pub fn take_line(&mut self, alloc: Global, line: &[u8]) -> Result<Option<Taken>, AllocError>
+        requires { IsClient (H.digest self.old.hash) self.old.known }
+        ensures told { IfOk result (λ taken. (verdict : Verdict) × IsVerdict (H.digest self.old.hash) self.old.known line.now verdict × (taken ≡ taken_of verdict) × (self.new.known ≡ known_by self.old.known verdict)) }
         ensures left { OnErr result (self.new ≡ self.old) }
-        ensures client { IsClient (H.digest hash.now) self.new }
+        ensures client { IsClient (H.digest self.new.hash) self.new.known }
+        ensures hash { self.new.hash ≡ self.old.hash }
     {
         match read_line(alloc, line) {
             Ok(None) => Ok(None),
-            Ok(Some(message)) => Ok(Some(self.take(alloc, hash, message)?)),
+            Ok(Some(message)) => Ok(Some(self.take_fitting(alloc, message)?)),
             Err(WireError::Syntax) => Ok(Some(Taken::Refused {
                 fault: LineFault::Syntax,
             })),
@@ -155,29 +151,74 @@ impl FactClient {
         }
     }
 
+    // Takes a message that has the ranges of its types.
+    fn take_fitting(&mut self, alloc: Global, message: Message) -> Result<Taken, AllocError>
+        requires client { IsClient (H.digest self.old.hash) self.old.known }
+        requires fits { IsMessage message }
+        ensures taken { IfOk result (IsTakenAs (H.digest self.old.hash) self.old.known message) }
+        ensures keeps { IfOk result (λ taken. self.new.known ≡ known_behind self.old.known message taken) }
+        ensures left { OnErr result (self.new ≡ self.old) }
+        ensures client { IsClient (H.digest self.new.hash) self.new.known }
+        ensures hash { self.new.hash ≡ self.old.hash }
+    {
+        if let Err(fault) = self.check(&message) {
+            drop(message);
+            return Ok(Taken::Refused { fault });
+        }
+        if self.agrees(&message) {
+            let shown = self.keep(alloc, message)?;
+            return Ok(Taken::Accepted { shown });
+        }
+        let pair = self.pair_with(alloc, &message);
+        drop(message);
+        let Pair { x, y } = pair?;
+        Ok(Taken::Forked { x, y })
+    }
+
+    // Lends its hash function.
+    fn hash(&self) -> &'h H
+        ensures { result.now ≡ self.now.hash }
+    {
+        self.hash
+    }
+
+    // Whether a message passes every check under the kept state.
+    fn check(&self, message: &Message) -> Result<(), LineFault>
+        ensures { result ≡ first_fail (line_checks (H.digest self.now.hash) self.now.known.state message.now) }
+    {
+        match &self.state {
+            Some(state) => {
+                let header = &state.header;
+                let alh = state.alh;
+                check_known(self.hash, Some(KnownHeader { header, alh }), message)
+            }
+            None => check_known(self.hash, None, message),
+        }
+    }
+
     // Whether no fact of a message is unlike a kept one. It looks up each fact that the message shows.
     fn agrees(&self, message: &Message) -> bool
-        requires { IsRising self.now }
-        ensures yes { IsTrue result → Agrees self.now message.now }
-        ensures no { IsFalse result → Differs self.now message.now }
+        requires { IsRising self.now.known }
+        ensures yes { IsTrue result → Agrees self.now.known message.now }
+        ensures no { IsFalse result → Differs self.now.known message.now }
     {
-        headers_agree(self.headers.as_slice(), message)
-            && entries_agree(self.entries.as_slice(), message)
+        headers_agree(self.headers(), message) && entries_agree(self.entries(), message)
     }
 
     // Keeps an accepted message: all memory is taken first, and then what it shows is put in.
     fn keep(&mut self, alloc: Global, message: Message) -> Result<Shown, AllocError>
-        requires { IsRising self.old }
-        ensures ok { OnOk result (self.new ≡ with_message self.old message) }
+        requires { IsRising self.old.known }
+        ensures ok { OnOk result (self.new.known ≡ with_message self.old.known message) }
         ensures shown { IfOk result (λ shown. shown ≡ shown_of message) }
         ensures left { OnErr result (self.new ≡ self.old) }
+        ensures hash { self.new.hash ≡ self.old.hash }
     {
         let room = make_room(&mut self.headers, &mut self.entries, &mut self.messages);
         if let Err(error) = room {
             drop(message);
             return Err(error);
         }
-        match copies_of(alloc, self.state.as_ref(), &message) {
+        match copies_of(alloc, header_of(&self.state), &message) {
             Ok(copies) => {
                 let shown = shown_by(&message);
                 let Copies {
@@ -185,7 +226,7 @@ impl FactClient {
                     headers,
                     entry,
                 } = copies;
-                follow(&mut self.state, state);
+                follow(self.hash, &mut self.state, state);
                 put_headers(&mut self.headers, headers);
                 put_entries(&mut self.entries, entry);
                 put_message(&mut self.messages, message);
@@ -199,20 +240,16 @@ impl FactClient {
     }
 
     // Two unequal strings of one digest among those hashed for the accepted messages and for this one.
-    fn pair_with<H: Hash32>(
-        &self,
-        alloc: Global,
-        hash: &H,
-        message: &Message,
-    ) -> Result<Pair, AllocError>
-        requires client { IsClient (H.digest hash.now) self.now }
+    fn pair_with(&self, alloc: Global, message: &Message) -> Result<Pair, AllocError>
+        requires client { IsClient (H.digest self.now.hash) self.now.known }
         requires fits { IsMessage message.now }
-        requires passes { Passes (H.digest hash.now) self.now message.now }
-        requires differs { Differs self.now message.now }
-        ensures { IfOk result (λ pair. IsPair (H.digest hash.now) pair.x pair.y (strings_of (H.digest hash.now) (self.now.messages ++ message.now ∷ []))) }
+        requires passes { Passes (H.digest self.now.hash) self.now.known message.now }
+        requires differs { Differs self.now.known message.now }
+        ensures { IfOk result (λ pair. IsPair (H.digest self.now.hash) pair.x pair.y (strings_of (H.digest self.now.hash) (self.now.known.messages ++ message.now ∷ []))) }
     {
-        let strings = hashed(alloc, hash, self.messages.as_slice(), message)?;
-        pair_of(alloc, hash, strings.as_slice())
+        let function = self.hash();
+        let strings = hashed(alloc, function, self.messages(), message)?;
+        pair_of(alloc, function, strings.as_slice())
     }
 }
 

@@ -1,8 +1,8 @@
 ghost use Rattle.std.specs.Prelude.{◌≡◌, ◌<◌, ◌≤◌, ◌+◌, ◌∷◌, ◌++◌, [], IfOk, OnOk, AllPairs, length, option_copied, vec_len, vec_capacity};
 ghost use Rattle.std.specs.Option.{option_to_list};
 ghost use Rattle.im_model.specs.declared.headers.Header.{Header as TheHeader};
-ghost use Rattle.im_client.specs.Folds.{state_with};
-ghost use Rattle.im_facts.specs.Copies.{AreCopies, Follows, followed};
+ghost use Rattle.im_client.specs.Lines.{state_with};
+ghost use Rattle.im_facts.specs.Copies.{AreCopies, Follows};
 ghost use Rattle.im_facts.specs.Facts.{anchor_headers, both_headers, headers_shown, entries_shown, with_entries, with_headers, IsBefore};
 
 use crate::facts::{EntryFact, put_entry, put_header};
@@ -132,15 +132,6 @@ pub(crate) fn make_room(
     headers.try_reserve(4)?;
     entries.try_reserve(1)?;
     messages.try_reserve(1)
-}
-
-// The next state becomes the kept one.
-pub(crate) fn follow(state: &mut Option<Header>, next: Option<Header>)
-    ensures { state.new ≡ followed state.old next }
-{
-    if let Some(header) = next {
-        *state = Some(header);
-    }
 }
 
 // Puts headers at their places, each unless one is kept for its number. There is room for them.

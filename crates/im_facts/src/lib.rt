@@ -7,5 +7,6 @@ pub mod collisions;
 mod copies;
 pub mod facts;
 pub mod laws;
+mod states;
 pub mod taken;
 pub mod texts;

@@ -1,10 +1,9 @@
 //! What a client keeps, how a message is written, and what is told of a line.
 
-use im_client::clients::Client;
 use im_client::faults::LineFault;
-use im_client::outcomes::Outcome;
-use im_client::texts::outcome_text;
+use im_client::texts::refused_text;
 use im_digest::Sum;
+use im_facts::clients::FactClient;
 use im_proof::faults::DualFault;
 use im_wire::reading::read_message;
 use im_wire::writing::write;
@@ -38,7 +37,7 @@ const DUAL: &str = "\
     argetBlTxAlh\":\"d3d3d3d3d3d3d3d3d3d3d3d3d3d3d3d3d3d3d3d3d3d3d3d3d3d3d3d3d3d3d3d3\"},\"t\
     ype\":\"dual\"}";
 
-// Messages and outcomes end by `drop`: the proof of a function in which one falls out of scope goes through all of
+// Messages and answers end by `drop`: the proof of a function in which one falls out of scope goes through all of
 // its parts again.
 
 // Whether a text reads as a message that is written as the same text.
@@ -57,32 +56,23 @@ fn a_message_of_the_greatest_numbers_is_written_as_it_was_read(
     Ok(())
 }
 
-// Follows a line.
-fn follow(alloc: Global, client: &mut Client<'_, Sum>, line: &str) -> Result<(), AllocError> {
-    let outcome = client.judge(alloc, line.as_bytes())?;
-    client.follow(outcome);
-    Ok(())
-}
-
 #[test]
 fn a_state_is_kept(rt: HostRuntime) -> Result<(), Fail> {
     let hash = Sum;
-    let mut client = Client::new(&hash);
+    let mut client = FactClient::new(rt.alloc(), &hash);
     let kept_none = client.state().is_none();
-    let followed = follow(rt.alloc(), &mut client, STATE);
+    let taken = client.take_line(rt.alloc(), STATE.as_bytes());
     let kept = client.state().map(|header| header.id);
     drop(client);
-    followed?;
+    drop(taken?);
     assert!(rt; kept_none && kept == Some(7));
     Ok(())
 }
 
 // Whether this is told of line n where this is its fault.
 fn is_told(alloc: Global, n: u64, fault: LineFault, wanted: &[u8]) -> Result<bool, AllocError> {
-    let outcome = Outcome::Refused { fault };
-    let text = outcome_text(alloc, n, &outcome);
-    drop(outcome);
-    Ok(text?.as_slice() == wanted)
+    let text = refused_text(alloc, n, &fault)?;
+    Ok(text.as_slice() == wanted)
 }
 
 // No stream has so many lines, no client keeps the header of transaction 0, and an anchor's ends are compared before

@@ -56,19 +56,20 @@ fn is_rejected(taken: &Option<Taken>) -> bool
 }
 
 // The client behind kept lines, or the first of them that is refused or forked.
-fn follow_lines<H: Hash32>(
+fn follow_lines<'h, H: Hash32>(
     alloc: Global,
-    hash: &H,
+    hash: &'h H,
     lines: &[Octets],
-) -> Result<FactClient, KeptError>
-    ensures ok { IfOk result (λ client. TakesKept (H.digest hash.now) lines.now client) }
-    ensures client { IfOk result (IsClient (H.digest hash.now)) }
+) -> Result<FactClient<'h, H>, KeptError>
+    ensures ok { IfOk result (λ client. TakesKept (H.digest hash.now) lines.now client.known) }
+    ensures client { IfOk result (λ client. IsClient (H.digest client.hash) client.known) }
+    ensures hash { IfOk result (λ client. client.hash ≡ hash.now) }
     ensures line { (k : ℕ) → result ≡ Err (KeptError.Line k) → (n : ℕ) × (k ≡ n + 1) × StopsKept (H.digest hash.now) lines.now n }
     ensures keeper { result ≡ Err KeptError.KeeperFault → ⊥ }
 {
-    let mut client = FactClient::new(alloc);
+    let mut client = FactClient::new(alloc, hash);
     for (i, line) in lines.iter().enumerate() {
-        let taken = client.take_line(alloc, hash, line.as_slice())?;
+        let taken = client.take_line(alloc, line.as_slice())?;
         if is_rejected(&taken) {
             drop(taken);
             return Err(KeptError::Line(i as u64 + 1));
@@ -80,13 +81,14 @@ fn follow_lines<H: Hash32>(
 
 /// The client behind the lines that a keeper holds, from knowing nothing on. The keeper's lines stay.
 #[tactic(auto, using(crate::proofs::KeepLemmas::takes_held, crate::proofs::KeepLemmas::stops_held))]
-pub(crate) fn take_kept<H: Hash32, P: Keeper>(
+pub(crate) fn take_kept<'h, H: Hash32, P: Keeper>(
     alloc: Global,
-    hash: &H,
+    hash: &'h H,
     keeper: &mut P,
-) -> Result<FactClient, KeptError>
-    ensures ok { IfOk result (λ client. TakesHeld (H.digest hash.now) (P.kept keeper.old) client) }
-    ensures client { IfOk result (IsClient (H.digest hash.now)) }
+) -> Result<FactClient<'h, H>, KeptError>
+    ensures ok { IfOk result (λ client. TakesHeld (H.digest hash.now) (P.kept keeper.old) client.known) }
+    ensures client { IfOk result (λ client. IsClient (H.digest client.hash) client.known) }
+    ensures hash { IfOk result (λ client. client.hash ≡ hash.now) }
     ensures line { (k : ℕ) → result ≡ Err (KeptError.Line k) → StopsHeld (H.digest hash.now) (P.kept keeper.old) k }
     ensures kept { P.kept keeper.new ≡ P.kept keeper.old }
     ensures fault { result ≡ Err KeptError.KeeperFault → Rose (P.faults keeper.old) (P.faults keeper.new) }

@@ -130,22 +130,22 @@ fn keep_and_tell<K: Sink, P: Keeper>(
 // client may have taken the message by then.
 fn take_line<H: Hash32, K: Sink, P: Keeper>(
     alloc: Global,
-    hash: &H,
-    client: &mut FactClient,
+    client: &mut FactClient<'_, H>,
     sink: &mut K,
     keeper: &mut P,
     number: u64,
     line: &[u8],
 ) -> Result<LineEnd, Stop>
-    requires { IsClient (H.digest hash.now) client.old }
-    ensures ok { IfOk result (λ end. LineTurn (H.digest hash.now) number line.now end client.old client.new
+    requires { IsClient (H.digest client.old.hash) client.old.known }
+    ensures ok { IfOk result (λ end. LineTurn (H.digest client.old.hash) number line.now end client.old.known client.new.known
         (done (K.written sink.old) (P.kept keeper.old)) (done (K.written sink.new) (P.kept keeper.new))) }
-    ensures client { IsClient (H.digest hash.now) client.new }
-    ensures part { result ≡ Err Stop.WriteFault → HalfTurn (H.digest hash.now) number line.now client.old
+    ensures client { IsClient (H.digest client.new.hash) client.new.known }
+    ensures hash { client.new.hash ≡ client.old.hash }
+    ensures part { result ≡ Err Stop.WriteFault → HalfTurn (H.digest client.old.hash) number line.now client.old.known
         (done (K.written sink.old) (P.kept keeper.old)) (done (K.written sink.new) (P.kept keeper.new)) }
     ensures nothing { (result ≡ Err Stop.KeeperFault) ⊎ (result ≡ Err Stop.Memory) →
         (K.written sink.new ≡ K.written sink.old) × (P.kept keeper.new ≡ P.kept keeper.old) }
-    ensures accepted { result ≡ Err Stop.KeeperFault → (next : TheMessage) × IsVerdict (H.digest hash.now) client.old line.now (Accepted next) }
+    ensures accepted { result ≡ Err Stop.KeeperFault → (next : TheMessage) × IsVerdict (H.digest client.old.hash) client.old.known line.now (Accepted next) }
     ensures write { result ≡ Err Stop.WriteFault → Rose (K.faults sink.old) (K.faults sink.new) }
     ensures keep { result ≡ Err Stop.KeeperFault → Rose (P.faults keeper.old) (P.faults keeper.new) }
     ensures sink_count { (result ≡ Err Stop.WriteFault → ⊥) → K.faults sink.new ≡ K.faults sink.old }
@@ -153,7 +153,7 @@ fn take_line<H: Hash32, K: Sink, P: Keeper>(
     ensures sink_once { K.faults sink.new ≤ K.faults sink.old + 1 }
     ensures keeper_once { P.faults keeper.new ≤ P.faults keeper.old + 1 }
 {
-    let taken = client.take_line(alloc, hash, line)?;
+    let taken = client.take_line(alloc, line)?;
     let message = accepted_last(client.messages(), &taken);
     let end = keep_and_tell(alloc, sink, keeper, number, &taken, message);
     drop(taken);
@@ -164,20 +164,19 @@ fn take_line<H: Hash32, K: Sink, P: Keeper>(
 /// they ended. Lines are numbered from 1, and empty ones count.
 pub(crate) fn take_lines<H: Hash32, K: Sink, P: Keeper>(
     alloc: Global,
-    hash: &H,
-    client: &mut FactClient,
+    client: &mut FactClient<'_, H>,
     sink: &mut K,
     keeper: &mut P,
     stream: &[u8],
 ) -> Result<LineEnd, Stop>
-    requires { IsClient (H.digest hash.now) client.old }
-    ensures ok { IfOk result (λ end. TakesAll (H.digest hash.now) client.old stream.now end
+    requires { IsClient (H.digest client.old.hash) client.old.known }
+    ensures ok { IfOk result (λ end. TakesAll (H.digest client.old.hash) client.old.known stream.now end
         (done (K.written sink.old) (P.kept keeper.old)) (done (K.written sink.new) (P.kept keeper.new))) }
-    ensures into { result ≡ Err Stop.WriteFault → TakesInto (H.digest hash.now) client.old stream.now
+    ensures into { result ≡ Err Stop.WriteFault → TakesInto (H.digest client.old.hash) client.old.known stream.now
         (done (K.written sink.old) (P.kept keeper.old)) (done (K.written sink.new) (P.kept keeper.new)) }
-    ensures some { result ≡ Err Stop.Memory → TakesSome (H.digest hash.now) client.old stream.now
+    ensures some { result ≡ Err Stop.Memory → TakesSome (H.digest client.old.hash) client.old.known stream.now
         (done (K.written sink.old) (P.kept keeper.old)) (done (K.written sink.new) (P.kept keeper.new)) }
-    ensures accepted { result ≡ Err Stop.KeeperFault → TakesAt (H.digest hash.now) client.old stream.now
+    ensures accepted { result ≡ Err Stop.KeeperFault → TakesAt (H.digest client.old.hash) client.old.known stream.now
         (done (K.written sink.old) (P.kept keeper.old)) (done (K.written sink.new) (P.kept keeper.new)) }
     ensures write { result ≡ Err Stop.WriteFault → Rose (K.faults sink.old) (K.faults sink.new) }
     ensures keep { result ≡ Err Stop.KeeperFault → Rose (P.faults keeper.old) (P.faults keeper.new) }
@@ -192,7 +191,7 @@ pub(crate) fn take_lines<H: Hash32, K: Sink, P: Keeper>(
     while !rest.is_empty() {
         let (line, behind) = first_line(rest);
         number += 1;
-        let end = take_line(alloc, hash, client, sink, keeper, number, line)?;
+        let end = take_line(alloc, client, sink, keeper, number, line)?;
         if is_forked(end) {
             return Ok(LineEnd::Forked);
         }

@@ -84,9 +84,9 @@ fn push_entries(out: &mut Vec<u8>, facts: &[EntryFact]) -> Result<(), AllocError
 pub(crate) fn known_text<H: Hash32>(
     alloc: Global,
     hash: &H,
-    client: &FactClient,
+    client: &FactClient<'_, H>,
 ) -> Result<Vec<u8>, AllocError>
-    ensures { IfOk result (λ text. text.items ≡ known_text (H.digest hash.now) client.now) }
+    ensures { IfOk result (λ text. text.items ≡ known_text (H.digest hash.now) client.now.known) }
 {
     let mut out = Vec::new(alloc);
     push_state(&mut out, hash, client.state())?;

@@ -50,7 +50,7 @@ fn verify_octets<H: Hash32, K: Sink, P: Keeper>(
         Err(KeptError::Memory) => return Ended::Memory,
         Err(KeptError::Line(line)) => return Ended::Kept { line },
     };
-    match take_lines(alloc, hash, &mut client, sink, keeper, stream) {
+    match take_lines(alloc, &mut client, sink, keeper, stream) {
         Ok(LineEnd::Fine) => Ended::Ok,
         Ok(LineEnd::Refused) => Ended::Refused,
         Ok(LineEnd::Forked) => Ended::Forked,
@@ -70,7 +70,7 @@ fn verify_octets<H: Hash32, K: Sink, P: Keeper>(
 /// kept before the stream was read and the kept lines were taken.
 ///
 /// The stream, the kept lines and all accepted messages are held in memory. Each line is read and checked once, and costs what
-/// `FactClient::take` says; the sink gets the text of each that isn't passed over, and the keeper one line for each accepted
+/// `FactClient::take_line` says; the sink gets the text of each that isn't passed over, and the keeper one line for each accepted
 /// message.
 pub fn verify<H: Hash32, S: Source, K: Sink, P: Keeper>(
     alloc: Global,

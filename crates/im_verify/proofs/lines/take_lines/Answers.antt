@@ -8,8 +8,9 @@ use Rattle.im_verify.proofs.lines.take_lines.Goals as goal
 
 pub loop-rest-init : goal.loop-rest-init
 loop-rest-init g c = record {
-  progress = progress-first (g.H.Hash32.digest c.args.hash.now) c.args.client.now c.args.stream.now (done (g.K.Sink.written c.args.sink.now) (g.P.Keeper.kept c.args.keeper.now));
+  progress = progress-first (g.H.Hash32.digest c.args.client.now.hash) c.args.client.now.known c.args.stream.now (done (g.K.Sink.written c.args.sink.now) (g.P.Keeper.kept c.args.keeper.now));
   client = c.requires;
+  hash = refl;
   few = omega arith;
   sink = refl;
   keeper = refl;
@@ -17,17 +18,18 @@ loop-rest-init g c = record {
 
 pub loop-rest-preserved : goal.loop-rest-preserved
 loop-rest-preserved g c =
-    let hash : List ℕ → List ℕ = g.H.Hash32.digest c.args.hash.now in
+    let hash : List ℕ → List ℕ = g.H.Hash32.digest c.args.client.now.hash in
     let from : WrittenAndKept = done (g.K.Sink.written c.args.sink.now) (g.P.Keeper.kept c.args.keeper.now) in
     let mid : WrittenAndKept = done (g.K.Sink.written c.loop-rest.sink) (g.P.Keeper.kept c.loop-rest.keeper) in
     let to : WrittenAndKept = done (g.K.Sink.written c.take_line.new.sink) (g.P.Keeper.kept c.take_line.new.keeper) in
     let some : 0 < length c.loop-rest.rest.now = grind arith in
     let fewer : c.loop-rest.number + 1 + length c.first_line.result.1.now ≤ length c.args.stream.now = omega arith in
     record {
-      progress = progress-next hash c.args.client.now c.args.stream.now c.loop-rest.rest.now c.first_line.result.0.now c.first_line.result.1.now c.loop-rest.number c.loop-rest.refused c.is_refused-refused.result
-          c.in_ok-end.end c.loop-rest.client c.take_line.new.client from mid to some c.first_line.ensures.first c.loop-rest.invariant.progress c.in_ok-end.ensures.ok
+      progress = progress-next hash c.args.client.now.known c.args.stream.now c.loop-rest.rest.now c.first_line.result.0.now c.first_line.result.1.now c.loop-rest.number c.loop-rest.refused c.is_refused-refused.result
+          c.in_ok-end.end c.loop-rest.client.known c.take_line.new.client.known from mid to some c.first_line.ensures.first c.loop-rest.invariant.progress (rw c.loop-rest.invariant.hash at c.in_ok-end.ensures.ok)
           (λ e. both_ways c.is_forked.result c.if-is_forked.false (c.is_forked.ensures.1 e)) c.is_refused-refused.ensures;
       client = c.in_ok-end.ensures.client;
+      hash = c.in_ok-end.ensures.hash ∙ c.loop-rest.invariant.hash;
       few = fewer;
       sink = c.in_ok-end.ensures.sink_count (ok-no-err c.in_ok-end.end stops.WriteFault) ∙ c.loop-rest.invariant.sink;
       keeper = c.in_ok-end.ensures.keeper_count (ok-no-err c.in_ok-end.end stops.KeeperFault) ∙ c.loop-rest.invariant.keeper;
@@ -35,53 +37,55 @@ loop-rest-preserved g c =
 
 pub returns-then-is_forked-clause-ok : goal.returns-then-is_forked-clause-ok
 returns-then-is_forked-clause-ok g c =
-    let hash : List ℕ → List ℕ = g.H.Hash32.digest c.args.hash.now in
+    let hash : List ℕ → List ℕ = g.H.Hash32.digest c.args.client.now.hash in
     let from : WrittenAndKept = done (g.K.Sink.written c.args.sink.now) (g.P.Keeper.kept c.args.keeper.now) in
     let mid : WrittenAndKept = done (g.K.Sink.written c.loop-rest.sink) (g.P.Keeper.kept c.loop-rest.keeper) in
     let to : WrittenAndKept = done (g.K.Sink.written c.take_line.new.sink) (g.P.Keeper.kept c.take_line.new.keeper) in
     let some : 0 < length c.loop-rest.rest.now = grind arith in
-    takes-fork hash c.args.client.now c.args.stream.now c.loop-rest.rest.now c.first_line.result.0.now c.first_line.result.1.now c.loop-rest.number c.loop-rest.refused
-    c.in_ok-end.end c.loop-rest.client c.take_line.new.client from mid to (g.met.H.Hash32.size c.args.hash.now) c.in_ok-end.ensures.client some c.first_line.ensures.first
-    c.loop-rest.invariant.progress c.in_ok-end.ensures.ok (c.is_forked.ensures.0 c.if-is_forked.true)
+    takes-fork hash c.args.client.now.known c.args.stream.now c.loop-rest.rest.now c.first_line.result.0.now c.first_line.result.1.now c.loop-rest.number c.loop-rest.refused
+    c.in_ok-end.end c.loop-rest.client.known c.take_line.new.client.known from mid to (g.met.H.Hash32.size c.args.client.now.hash)
+    (rw (c.in_ok-end.ensures.hash, c.loop-rest.invariant.hash) at c.in_ok-end.ensures.client) some c.first_line.ensures.first
+    c.loop-rest.invariant.progress (rw c.loop-rest.invariant.hash at c.in_ok-end.ensures.ok) (c.is_forked.ensures.0 c.if-is_forked.true)
 
 pub returns-in_err-end-clause-into : goal.returns-in_err-end-clause-into
 returns-in_err-end-clause-into g c = λ e.
-    let hash : List ℕ → List ℕ = g.H.Hash32.digest c.args.hash.now in
+    let hash : List ℕ → List ℕ = g.H.Hash32.digest c.args.client.now.hash in
     let from : WrittenAndKept = done (g.K.Sink.written c.args.sink.now) (g.P.Keeper.kept c.args.keeper.now) in
     let mid : WrittenAndKept = done (g.K.Sink.written c.loop-rest.sink) (g.P.Keeper.kept c.loop-rest.keeper) in
     let to : WrittenAndKept = done (g.K.Sink.written c.take_line.new.sink) (g.P.Keeper.kept c.take_line.new.keeper) in
     let some : 0 < length c.loop-rest.rest.now = grind arith in
     let failed : c.take_line.result ≡ Err stops.WriteFault = grind arith in
-    takes-into hash c.args.client.now c.args.stream.now c.loop-rest.rest.now c.first_line.result.0.now c.first_line.result.1.now c.loop-rest.number c.loop-rest.refused
-    c.loop-rest.client from mid to some c.first_line.ensures.first c.loop-rest.invariant.progress (c.take_line.ensures.part failed)
+    takes-into hash c.args.client.now.known c.args.stream.now c.loop-rest.rest.now c.first_line.result.0.now c.first_line.result.1.now c.loop-rest.number c.loop-rest.refused
+    c.loop-rest.client.known from mid to some c.first_line.ensures.first c.loop-rest.invariant.progress (rw c.loop-rest.invariant.hash at (c.take_line.ensures.part failed))
 
 pub returns-in_err-end-clause-some : goal.returns-in_err-end-clause-some
 returns-in_err-end-clause-some g c = λ e.
-    let hash : List ℕ → List ℕ = g.H.Hash32.digest c.args.hash.now in
+    let hash : List ℕ → List ℕ = g.H.Hash32.digest c.args.client.now.hash in
     let from : WrittenAndKept = done (g.K.Sink.written c.args.sink.now) (g.P.Keeper.kept c.args.keeper.now) in
     let mid : WrittenAndKept = done (g.K.Sink.written c.loop-rest.sink) (g.P.Keeper.kept c.loop-rest.keeper) in
     let to : WrittenAndKept = done (g.K.Sink.written c.take_line.new.sink) (g.P.Keeper.kept c.take_line.new.keeper) in
     let failed : c.take_line.result ≡ Err stops.Memory = grind arith in
     let same = c.take_line.ensures.nothing (inr failed) in
-    takes-some hash c.args.client.now c.args.stream.now c.loop-rest.rest.now c.loop-rest.number c.loop-rest.refused c.loop-rest.client from mid to same.0 same.1 c.loop-rest.invariant.progress
+    takes-some hash c.args.client.now.known c.args.stream.now c.loop-rest.rest.now c.loop-rest.number c.loop-rest.refused c.loop-rest.client.known from mid to same.0 same.1 c.loop-rest.invariant.progress
 
 pub returns-in_err-end-clause-accepted : goal.returns-in_err-end-clause-accepted
 returns-in_err-end-clause-accepted g c = λ e.
-    let hash : List ℕ → List ℕ = g.H.Hash32.digest c.args.hash.now in
+    let hash : List ℕ → List ℕ = g.H.Hash32.digest c.args.client.now.hash in
     let from : WrittenAndKept = done (g.K.Sink.written c.args.sink.now) (g.P.Keeper.kept c.args.keeper.now) in
     let mid : WrittenAndKept = done (g.K.Sink.written c.loop-rest.sink) (g.P.Keeper.kept c.loop-rest.keeper) in
     let to : WrittenAndKept = done (g.K.Sink.written c.take_line.new.sink) (g.P.Keeper.kept c.take_line.new.keeper) in
     let some : 0 < length c.loop-rest.rest.now = grind arith in
     let failed : c.take_line.result ≡ Err stops.KeeperFault = grind arith in
     let same = c.take_line.ensures.nothing (inl failed) in
-    takes-at hash c.args.client.now c.args.stream.now c.loop-rest.rest.now c.first_line.result.0.now c.first_line.result.1.now c.loop-rest.number c.loop-rest.refused
-    c.loop-rest.client from mid to some c.first_line.ensures.first same.0 same.1 c.loop-rest.invariant.progress (c.take_line.ensures.accepted failed)
+    takes-at hash c.args.client.now.known c.args.stream.now c.loop-rest.rest.now c.first_line.result.0.now c.first_line.result.1.now c.loop-rest.number c.loop-rest.refused
+    c.loop-rest.client.known from mid to some c.first_line.ensures.first same.0 same.1 c.loop-rest.invariant.progress
+    (rw c.loop-rest.invariant.hash at (c.take_line.ensures.accepted failed))
 
 pub returns-clause-ok : goal.returns-clause-ok
 returns-clause-ok g c =
-    let hash : List ℕ → List ℕ = g.H.Hash32.digest c.args.hash.now in
+    let hash : List ℕ → List ℕ = g.H.Hash32.digest c.args.client.now.hash in
     let from : WrittenAndKept = done (g.K.Sink.written c.args.sink.now) (g.P.Keeper.kept c.args.keeper.now) in
     let to : WrittenAndKept = done (g.K.Sink.written c.loop-rest.sink) (g.P.Keeper.kept c.loop-rest.keeper) in
-    subst (λ (end : LineEnd). TakesAll hash c.args.client.now c.args.stream.now end from to) (sym c.end_by.ensures)
-    (takes-all hash c.args.client.now c.args.stream.now c.loop-rest.rest.now c.loop-rest.number c.loop-rest.refused c.loop-rest.client from to
+    subst (λ (end : LineEnd). TakesAll hash c.args.client.now.known c.args.stream.now end from to) (sym c.end_by.ensures)
+    (takes-all hash c.args.client.now.known c.args.stream.now c.loop-rest.rest.now c.loop-rest.number c.loop-rest.refused c.loop-rest.client.known from to
     (no-octets c.loop-rest.rest.now (sym c.is_empty.ensures ∙ c.loop-rest-test.false)) c.loop-rest.invariant.progress)

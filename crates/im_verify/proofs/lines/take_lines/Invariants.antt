@@ -6,9 +6,10 @@ use Rattle.im_verify.proofs.lines.take_lines.Given as goal
 
 abbrev pub invariant-loop-rest : goal.invariant-loop-rest
 invariant-loop-rest g l = record {
-  progress : Progress (g.H.Hash32.digest l.hash) l.fn.client l.stream l.rest l.number l.refused l.client
+  progress : Progress (g.H.Hash32.digest l.fn.client.hash) l.fn.client.known l.stream l.rest l.number l.refused l.client.known
       (done (g.K.Sink.written l.fn.sink) (g.P.Keeper.kept l.fn.keeper)) (done (g.K.Sink.written l.sink) (g.P.Keeper.kept l.keeper));
-  client : IsClient (g.H.Hash32.digest l.hash) l.client;
+  client : IsClient (g.H.Hash32.digest l.client.hash) l.client.known;
+  hash : l.client.hash ≡ l.fn.client.hash;
   few : l.number + length l.rest ≤ length l.stream;
   sink : g.K.Sink.faults l.sink ≡ g.K.Sink.faults l.fn.sink;
   keeper : g.P.Keeper.faults l.keeper ≡ g.P.Keeper.faults l.fn.keeper;

@@ -1,5 +1,5 @@
--- Each line has an outcome.
-use Rattle.std.proofs.Common.{◌≡◌, ◌⊎◌, ℕ, List, [], ◌∷◌, ◌++◌, true, false, Option, Some, None, Result, Ok, Err, IsUtf8, inl, inr, refl, ap, ◌∙◌}
+-- Each line says something, or is bad.
+use Rattle.std.proofs.Common.{◌≡◌, ◌⊎◌, ℕ, List, [], ◌∷◌, ◌++◌, true, false, Option, Some, None, IsUtf8, inl, inr, refl, ap, ◌∙◌}
 use Rattle.std.proofs.lemmas.Bool.{both_ways}
 use Rattle.std.proofs.lemmas.Str.{IsUtf8-from_is_utf8, is_utf8-from_IsUtf8}
 use Rattle.std.specs.Char.{is_ascii_digit}
@@ -9,20 +9,12 @@ use Rattle.serde_json.specs.Read.{read}
 use Rattle.im_text.specs.Cuts.{IsCut}
 use Rattle.im_text.specs.Words.{is_word}
 use Rattle.im_text.proofs.DecideLemmas.{CutOrNone, cut-tells, truth}
-use Rattle.im_digest.specs.Digests.{Hash}
-use Rattle.im_model.specs.declared.headers.Header.{Header}
-use Rattle.im_mtree.specs.Checks.{first_fail}
 use Rattle.im_text.specs.Fields.{is_session_octet}
 use Rattle.im_wire.specs.Lines.{IsLine, IsReply, IsShown, is_open}
 use Rattle.im_wire.specs.Messages.{HasMessage, message_of}
 use Rattle.im_wire.specs.declared.messages.Message.{Message}
 use Rattle.im_wire.proofs.LineLemmas.{line-refused, reply-bad-number, reply-bad-session, reply-none, reply-tail}
-use Rattle.im_client.specs.Folds.{IsBad, IsFold, IsOutcome, state_by}
-use Rattle.im_client.specs.LineChecks.{line_checks}
-use Rattle.im_client.specs.declared.faults.LineFault.{LineFault}
-use Rattle.im_client.specs.declared.faults.LineFault.TheVariants.{Syntax}
-use Rattle.im_client.specs.declared.outcomes.Outcome.{Outcome}
-use Rattle.im_client.specs.declared.outcomes.Outcome.TheVariants.{Passed, Accepted, Refused}
+use Rattle.im_client.specs.Lines.{IsBad}
 
 -- a line is a reply, or none
 abbrev ReplyOrNone : List ℕ → Type 0
@@ -73,10 +65,10 @@ message-or-none text = go (truth (is_utf8 text))
     go (inr bad) = inr (λ m h. both_ways _ bad (is_utf8-from_IsUtf8 text h.0))
 
 -- a line says something, or is bad
-abbrev LineOrBad : List ℕ → Type 0
+abbrev pub LineOrBad : List ℕ → Type 0
 LineOrBad line = ((o : Option Message) × IsLine line o) ⊎ IsBad line
 
-line-or-bad : (line : List ℕ) → LineOrBad line
+pub line-or-bad : (line : List ℕ) → LineOrBad line
 line-or-bad [] = inl (None, inl refl)
 line-or-bad (x ∷ line) = go (reply-or-none (x ∷ line))
   where
@@ -94,24 +86,3 @@ line-or-bad (x ∷ line) = go (reply-or-none (x ∷ line))
     go : ReplyOrNone (x ∷ line) → LineOrBad (x ∷ line)
     go (inl r) = opens r.0 r.1 (truth (is_open r.0))
     go (inr none) = shows (x ∷ line) (inr (refl, some, none)) (message-or-none (x ∷ line))
-
--- a line has an outcome
-pub outcome-exists : (hash : Hash) (kept : Option Header) (line : List ℕ) → (outcome : Outcome) × IsOutcome hash kept line outcome
-outcome-exists hash kept line = go (line-or-bad line)
-  where
-    checked : (m : Message) → IsLine line (Some m) → (r : Result (Unit {0}) LineFault) → first_fail (line_checks hash kept m) ≡ r → (outcome : Outcome) × IsOutcome hash kept line outcome
-    checked m says (Ok done) is = (Accepted m, (says, is))
-    checked m says (Err fault) is = (Refused fault, inr (m, says, is))
-
-    go : LineOrBad line → (outcome : Outcome) × IsOutcome hash kept line outcome
-    go (inl (None, says)) = (Passed, says)
-    go (inl (Some m, says)) = checked m says (first_fail (line_checks hash kept m)) refl
-    go (inr bad) = (Refused Syntax, inl (bad, refl))
-
--- so have lines, one after the other
-pub fold-exists : (hash : Hash) (kept : Option Header) (lines : List (List ℕ)) → (outcomes : List Outcome) × IsFold hash kept lines outcomes
-fold-exists hash kept [] = ([], tt)
-fold-exists hash kept (line ∷ lines) =
-    let first = outcome-exists hash kept line in
-    let rest = fold-exists hash (state_by kept first.0) lines in
-    (first.0 ∷ rest.0, (first.1, rest.1))
