@@ -137,7 +137,8 @@ pub fn top<
     // Where the sink failed, the first lines were told, and the next one in part, never whole; the accepted messages of
     // them all are kept. Where memory ran out, nothing was done, or the first lines were told and kept. Where the keeper
     // failed, nothing was done, or they were, before one that is accepted, of which nothing was told or kept. Else nothing
-    // was done, nor with a stream past the limit, at any end.
+    // was done, nor with a stream past the limit, at any end. Where the source failed or is past the limit, the keeper is
+    // as it was.
     ensures into { AsksVerify (map string_bytes words.now) → result.status ≡ Status.WriteFault →
         BreaksInto (H.digest hash.now) (S.left source.old) (K.written sink.old) (K.written sink.new) (P.kept keeper.old) (P.kept keeper.new) }
     ensures off { AsksVerify (map string_bytes words.now) → result.status ≡ Status.Memory →
@@ -149,6 +150,7 @@ pub fn top<
     ensures too_long { AsksVerify (map string_bytes words.now) → IfSome (S.left source.old) (λ stream. 67108864 < length stream → (sink.new ≡ sink.old) × (keeper.new ≡ keeper.old)) }
     ensures no_verdict { AsksVerify (map string_bytes words.now) → (result.status ≡ Status.ReadFault) ⊎ ((result.status ≡ Status.Long) ⊎ ((k : ℕ) × (result.status ≡ Status.Kept k))) →
         (sink.new ≡ sink.old) × (P.kept keeper.new ≡ P.kept keeper.old) }
+    ensures verify_idle { AsksVerify (map string_bytes words.now) → (result.status ≡ Status.ReadFault) ⊎ (result.status ≡ Status.Long) → keeper.new ≡ keeper.old }
 
     // `show`: what the kept lines lead to was written, or a front part of it where the sink failed; else nothing was. The
     // kept lines stay, and the source, the disk and the clock aren't touched.
@@ -237,14 +239,15 @@ pub fn top<
         → (Rose (K.faults sink.old) (K.faults sink.new) → ⊥) → (Rose (P.faults keeper.old) (P.faults keeper.new) → ⊥)
         → IfSome (P.kept keeper.old) (HasShow (H.digest hash.now) result.status) }
 
-    // `verify` leaves the disk as it was handed in, and so does a script that wasn't read, want of memory aside; a run
-    // leaves the keeper. The clock comes back as one that gives the same constant.
+    // `verify` leaves the disk as it was handed in, and so does a script that wasn't read, want of memory aside, and `show`
+    // and `gen`, of which `show_idle` and `generated_idle` say it; a run leaves the keeper. The clock comes back as one that
+    // gives the same constant.
     ensures disk { AsksVerify (map string_bytes words.now) ⊎ (EndsReading result.status × (result.status ≡ Status.Memory → ⊥)) → result.disk ≡ disk }
     ensures keeper { AsksRun (map string_bytes words.now) → keeper.new ≡ keeper.old }
     ensures clock { C.constant result.clock ≡ C.constant clock }
 
     // The clock comes back as it was from `verify`, from a script that wasn't read, and from a disk whose files are
-    // damaged.
+    // damaged; from `show` and `gen` too, by `show_idle` and `generated_idle`.
     ensures idle { AsksVerify (map string_bytes words.now) ⊎ ((EndsReading result.status × (result.status ≡ Status.Memory → ⊥)) ⊎ ((d : Damage) × (result.status ≡ Status.Damaged d))) → result.clock ≡ clock }
 {
     let mut clock = clock;

@@ -41,6 +41,7 @@ pub(crate) fn verdict<H: Hash32, S: Source, K: Sink, P: Keeper>(
         ⊎ BreaksAt (H.digest hash.now) (S.left source.old) (K.written sink.old) (K.written sink.new) (P.kept keeper.old) (P.kept keeper.new) }
     ensures nothing { (result ≡ Status.ReadFault) ⊎ ((result ≡ Status.Long) ⊎ ((k : ℕ) × (result ≡ Status.Kept k))) →
         (sink.new ≡ sink.old) × (P.kept keeper.new ≡ P.kept keeper.old) }
+    ensures idle { (result ≡ Status.ReadFault) ⊎ (result ≡ Status.Long) → keeper.new ≡ keeper.old }
     ensures kept { (k : ℕ) → result ≡ Status.Kept k → StopsHeld (H.digest hash.now) (P.kept keeper.old) k }
     ensures ends { EndsVerify result }
     ensures never { result ≡ Status.Usage → ⊥ }

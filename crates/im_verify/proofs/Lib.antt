@@ -3,6 +3,7 @@ pub mod FateLemmas
 pub mod FoldLemmas
 pub mod ForkLemmas
 pub mod KeepLemmas
+pub mod LeftLemmas
 pub mod PrintLemmas
 pub mod RunLemmas
 pub mod ShowLemmas

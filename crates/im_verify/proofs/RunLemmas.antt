@@ -192,7 +192,7 @@ into-keeps hash source before after held now b =
     (subst (λ (x : List ℕ). Appends before after x) (sym part) b.told) b.keeps
 
 -- a run that broke off before an accepted line broke off
-at-off : (hash : Hash) (source before after : Option (List ℕ)) (held now : Option (List (List ℕ))) → BreaksAt hash source before after held now → BreaksOff hash source before after held now
+pub at-off : (hash : Hash) (source before after : Option (List ℕ)) (held now : Option (List (List ℕ))) → BreaksAt hash source before after held now → BreaksOff hash source before after held now
 at-off hash source before after held now b = record {
   stream = b.stream;
   stream_is = b.stream_is;

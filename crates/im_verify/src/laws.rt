@@ -1,4 +1,4 @@
-ghost use Rattle.std.specs.Prelude.{◌≡◌, ◌⊎◌, ◌++◌, ℕ, List, [], ◌∷◌, length, get_or, Option, Some};
+ghost use Rattle.std.specs.Prelude.{◌≡◌, ◌⊎◌, ◌++◌, ℕ, List, [], ◌∷◌, length, get_or, IfSome, Option, Some};
 ghost use Rattle.im_digest.specs.Digests.{Hash};
 ghost use Rattle.im_pairs.specs.Pairs.{GivesDigests};
 ghost use Rattle.im_wire.specs.Lines.{IsLine};
@@ -7,7 +7,8 @@ ghost use Rattle.im_facts.specs.Facts.{nothing};
 ghost use Rattle.im_facts.specs.Folds.{IsForkedBy, known_by_all};
 ghost use Rattle.im_facts.specs.Verdicts.{Verdict, Forked};
 ghost use Rattle.im_verify.specs.Judged.{kept_texts, up_to_fork, AreJudged, AreTaken, StopsKept};
-ghost use Rattle.im_verify.specs.Runs.{BreaksAt, BreaksInto, BreaksOff, KeepsFirst};
+ghost use Rattle.im_verify.specs.Runs.{BreaksAt, BreaksInto, BreaksOff, KeepsFirst, Verifies};
+ghost use Rattle.im_verify.specs.declared.ended.Ended.{Ended};
 
 /// However a run breaks off, each line that is written whole has its message kept.
 pub fn a_told_message_is_kept()
@@ -34,6 +35,18 @@ pub fn what_is_kept_is_taken()
     ensures { (hash : Hash) (kept texts : List (List ℕ)) (verdicts : List Verdict) (judged : AreJudged hash kept texts verdicts)
         → (again : List Verdict) × AreTaken hash (kept ++ kept_texts (up_to_fork verdicts)) again
         × (known_by_all nothing again ≡ known_by_all (known_by_all nothing judged.before) (up_to_fork verdicts)) }
+{}
+
+/// However a run ended, the lines that its keeper then holds are all taken by the next one, where the keeper tells them.
+pub fn what_is_left_is_taken()
+    ensures done { (hash : Hash) (ended : Ended) (source before after : Option (List ℕ)) (held now : Option (List (List ℕ)))
+        → Verifies hash ended source before after held now → IfSome now (λ lines. (again : List Verdict) × AreTaken hash lines again) }
+    ensures into { (hash : Hash) (source before after : Option (List ℕ)) (held now : Option (List (List ℕ)))
+        → BreaksInto hash source before after held now → IfSome now (λ lines. (again : List Verdict) × AreTaken hash lines again) }
+    ensures off { (hash : Hash) (source before after : Option (List ℕ)) (held now : Option (List (List ℕ)))
+        → BreaksOff hash source before after held now → IfSome now (λ lines. (again : List Verdict) × AreTaken hash lines again) }
+    ensures at { (hash : Hash) (source before after : Option (List ℕ)) (held now : Option (List (List ℕ)))
+        → BreaksAt hash source before after held now → IfSome now (λ lines. (again : List Verdict) × AreTaken hash lines again) }
 {}
 
 /// The fork that a run tells is of a line of the stream: the line behind those that were told before is a message that passes
