@@ -1,0 +1,9 @@
+pub mod SumLemmas
+pub mod FrontLemmas
+pub mod NumberLemmas
+pub mod ReferenceLemmas
+pub mod KeepLemmas
+pub mod LoadLemmas
+pub mod StoreLemmas
+pub mod ShareLemmas
+pub mod EndLemmas

@@ -1,0 +1,15 @@
+use Rattle.std.proofs.Common.{rules, ◌≡◌, ◌≤◌, true, ap, sym, subst}
+use Rattle.im_table.specs.declared.view.View.{View}
+use Rattle.im_table.proofs.StoreLemmas.{takes}
+use Rattle.im_table.proofs.tip.Tip.store_indexed.Goals as goal
+
+pub store-requires : goal.store-requires
+store-requires g c =
+    let v = sym (ap (λ k. k.view) c.pass.view_is) in (
+      search rules,
+      search rules,
+      takes _ _ _ _ _ _
+          (subst (λ (u : View). u.roles.index ≡ true) v c.requires.role)
+          (subst (λ (u : View). u.least.indexed ≤ c.args.new) v c.requires.more)
+          (subst (λ (u : View). c.args.new ≤ u.least.durable) v c.requires.within),
+    )

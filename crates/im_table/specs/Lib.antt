@@ -1,0 +1,5 @@
+pub mod Views
+pub mod References
+pub mod Rules
+pub mod Known
+pub mod Passes
