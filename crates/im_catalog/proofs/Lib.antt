@@ -1,0 +1,5 @@
+pub mod CutLemmas
+pub mod PartLemmas
+pub mod ColumnLemmas
+pub mod TestLemmas
+pub mod TableLemmas
