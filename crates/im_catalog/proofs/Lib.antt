@@ -3,3 +3,4 @@ pub mod PartLemmas
 pub mod ColumnLemmas
 pub mod TestLemmas
 pub mod TableLemmas
+pub mod FoundLemmas

@@ -1,0 +1,8 @@
+use Rattle.std.proofs.Common.{take}
+use Rattle.std.specs.List.{AllZip}
+use Rattle.im_sqlmodel.specs.Rows.{IsIndexVersion}
+use Rattle.im_catalog.proofs.catalogue.indexes_of.Given as goal
+
+-- the index of each version so far
+abbrev pub invariant-loop-version : goal.invariant-loop-version
+invariant-loop-version l = AllZip (IsIndexVersion l.table) (take l.version-index l.shown) l.indexes.items
