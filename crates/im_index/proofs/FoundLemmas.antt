@@ -40,14 +40,14 @@ filter-both p q [] = refl
 filter-both {X} p q (x ∷ xs) =
     let rest : List X = filter (λ (y : X). p y && q y) xs in
     elim (cases_Bool (q x)) [
-      | inl yes ↦ (
-          ap (λ b. filter p (cond b (x ∷ filter q xs) (filter q xs))) yes
+      | inl met ↦ (
+          ap (λ b. filter p (cond b (x ∷ filter q xs) (filter q xs))) met
           ∙ ap (λ zs. cond (p x) (x ∷ zs) zs) (filter-both p q xs)
-          ∙ ap (λ b. cond b (x ∷ rest) rest) (sym (and-true (p x)) ∙ ap (λ t. p x && t) (sym yes)))
-      | inr no ↦ (
-          ap (λ b. filter p (cond b (x ∷ filter q xs) (filter q xs))) no
+          ∙ ap (λ b. cond b (x ∷ rest) rest) (sym (and-true (p x)) ∙ ap (λ t. p x && t) (sym met)))
+      | inr unmet ↦ (
+          ap (λ b. filter p (cond b (x ∷ filter q xs) (filter q xs))) unmet
           ∙ filter-both p q xs
-          ∙ sym (cond-false (p x && q x) (x ∷ rest) rest (and_right (p x) (q x) no)))
+          ∙ sym (cond-false (p x && q x) (x ∷ rest) rest (and_right (p x) (q x) unmet)))
     ]
 
 -- in either order

@@ -76,8 +76,8 @@ begun-more prefix runs i run h is =
 filter-within : {X : Type 0} (p q : X → Bool) (xs : List X) → ((x : X) → p x ≡ true → q x ≡ true) → filter p (filter q xs) ≡ filter p xs
 filter-within {X} p q xs through =
     filter-both p q xs ∙ filter_agree (λ (x : X). p x && q x) p (λ x. elim (cases_Bool (p x)) [
-      | inl yes ↦ ap (λ b. b && q x) yes ∙ through x yes ∙ sym yes
-      | inr no ↦ ap (λ b. b && q x) no ∙ sym no
+      | inl met ↦ ap (λ b. b && q x) met ∙ through x met ∙ sym met
+      | inr unmet ↦ ap (λ b. b && q x) unmet ∙ sym unmet
     ]) xs
 
 -- of a key that begins with the prefix all versions were looked at

@@ -39,15 +39,15 @@ begun-not-below (p ∷ ps) (k ∷ ks) begins =
 -- a key that neither begins with a prefix nor is below it is above each that begins with it
 pub begun-below-others : (prefix a b : List ℕ) → begins_with prefix a ≡ false → is_lt (slice_cmp nat_cmp a prefix) ≡ false → begins_with prefix b ≡ true
     → is_lt (slice_cmp nat_cmp b a) ≡ true
-begun-below-others [] a b no low begins = absurd (false≢true (sym no))
-begun-below-others (p ∷ ps) a [] no low begins = absurd (false≢true begins)
-begun-below-others (p ∷ ps) [] (y ∷ ys) no low begins = absurd (false≢true (sym low))
-begun-below-others (p ∷ ps) (x ∷ xs) (y ∷ ys) no low begins =
+begun-below-others [] a b apart low begins = absurd (false≢true (sym apart))
+begun-below-others (p ∷ ps) a [] apart low begins = absurd (false≢true begins)
+begun-below-others (p ∷ ps) [] (y ∷ ys) apart low begins = absurd (false≢true (sym low))
+begun-below-others (p ∷ ps) (x ∷ xs) (y ∷ ys) apart low begins =
     let both : (nat_eq p y ≡ true) × (begins_with ps ys ≡ true) = and_parts (nat_eq p y) (begins_with ps ys) begins in
     let same : p ≡ y = eqb-true p y both.0 in
     elim (cases_order x p) [
       | inl one ↦ (
-          let rest : begins_with ps xs ≡ false = ap (λ t. t && begins_with ps xs) (sym (eq-eqb p x (sym one))) ∙ no in
+          let rest : begins_with ps xs ≡ false = ap (λ t. t && begins_with ps xs) (sym (eq-eqb p x (sym one))) ∙ apart in
           let below : is_lt (slice_cmp nat_cmp xs ps) ≡ false =
           ap (λ o. is_lt (ordering_then o (slice_cmp nat_cmp xs ps))) (sym (nat-equal x) ∙ ap (nat_cmp x) one) ∙ low in
           ap (λ o. is_lt (ordering_then o (slice_cmp nat_cmp ys xs))) (ap (λ z. nat_cmp z x) (sym same ∙ sym one) ∙ nat-equal x)

@@ -74,13 +74,13 @@ taken-some (suc n) ms some = refl
 
 -- a list that isn't empty by a test of its length
 pub some-items : {X : Type 0} (xs : List X) (n : ℕ) (b : Bool) → b ≡ nat_eq n 0 → b ≡ false → n ≡ length xs → 0 < length xs
-some-items xs n b test no long = elim (cases_lt 0 (length xs)) [
+some-items xs n b test other long = elim (cases_lt 0 (length xs)) [
   | inl some ↦ some
-  | inr none ↦ absurd (both_ways (nat_eq n 0) (sym test ∙ no) (eq-eqb n 0 (omega arith)))
+  | inr none ↦ absurd (both_ways (nat_eq n 0) (sym test ∙ other) (eq-eqb n 0 (omega arith)))
 ]
 
 -- and one that is
 pub no-items : {X : Type 0} (xs : List X) (n : ℕ) (b : Bool) → b ≡ nat_eq n 0 → b ≡ true → n ≡ length xs → xs ≡ []
-no-items xs n b test yes long =
-    let none : n ≡ 0 = eqb-true n 0 (sym test ∙ yes) in
+no-items xs n b test zeros long =
+    let none : n ≡ 0 = eqb-true n 0 (sym test ∙ zeros) in
     nil_from_length xs (omega arith)
