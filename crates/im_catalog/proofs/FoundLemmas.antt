@@ -34,7 +34,7 @@ of-either true x y p q = inr p
 of-either false x y p q = inl q
 
 entry-second : (t : Table) (row : List Value) (i : SqlIndex) → (get_or (entry_written t row i).key 1 0 ≡ 5) ⊎ (get_or (entry_written t row i).key 1 0 ≡ 6)
-entry-second t row i = of-either i.unique _ _ refl refl
+entry-second t row i = of-either i.unique (entry_written t row (record i { unique = true })) (entry_written t row (record i { unique = false })) refl refl
 
 entry-is : (n : ℕ) (key : List ℕ) (t : Table) (row : List Value) (i : SqlIndex) → n < 5 → get_or key 1 0 ≡ n → key ≡ (entry_written t row i).key → ⊥
 entry-is n key t row i low is e = elim (entry-second t row i) [
