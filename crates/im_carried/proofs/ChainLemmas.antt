@@ -4,8 +4,7 @@ use Rattle.im_octet.specs.Fields.{field8}
 use Rattle.im_digest.specs.Digests.{Hash}
 use Rattle.im_model.specs.Chains.{link_string, chain, chain_strings}
 use Rattle.im_pairs.specs.Pairs.{GivesDigests, HasPair, AreAmong}
-use Rattle.im_pairs.proofs.PairLemmas.{same_or_pair, AreAmong-head, AreAmong-tail, AreAmong-cons}
-use Rattle.im_pairs.proofs.FieldLemmas.{three}
+use Rattle.im_pairs.proofs.PairLemmas.{three, same_or_pair, AreAmong-head, AreAmong-tail, AreAmong-cons}
 use Rattle.im_carried.specs.Opened.{Links}
 
 -- the string of the first step of a chain

@@ -2,12 +2,11 @@
 use Rattle.std.proofs.Common.{◌≡◌, ◌≢◌, ◌≤◌, ◌<◌, ◌+◌, ◌^◌, ℕ, Bool, true, false, List, [], ◌∷◌, ◌++◌, length, take, drop, get_or, refl, sym, ap, ◌∙◌, subst, length-append, arith}
 use Rattle.std.proofs.lemmas.List.{length-take-le, take-append-drop}
 use Rattle.im_octet.specs.Fields.{field2}
-use Rattle.im_octet.proofs.FieldLemmas.{length-field2}
+use Rattle.im_octet.proofs.FieldLemmas.{length-field2, same-field2}
 use Rattle.im_sqltype.specs.declared.columns.ColumnType.{ColumnType}
 use Rattle.im_sqltype.specs.declared.columns.ColumnType.TheVariants as types
 use Rattle.im_sqlparse.specs.Formed.{IsName}
 use Rattle.im_sqlmodel.specs.Tables.{IsHeld, type_code, limit_of}
-use Rattle.im_sqlmodel.proofs.OnceLemmas.{two-apart}
 use Rattle.im_catalog.specs.Fronts.{StandsFirst, NoneStandsFirst}
 use Rattle.im_catalog.specs.Parts.{IsFlag, flag_text, FitsTwo, name_text, held_text, MayNotLimit, IsHeldBy, NoneIsHeldBy}
 use Rattle.im_catalog.proofs.CutLemmas.{Cuts, same-fronts}
@@ -59,7 +58,7 @@ number-none text short = record {
 pub number-cut : Cuts FitsTwo field2
 number-cut m n a b p q e =
     let parts = same-fronts (field2 m) (field2 n) a b (length-field2 m ∙ sym (length-field2 n)) e in
-    (two-apart m n p q parts.0, parts.1)
+    (same-field2 m n p q parts.0, parts.1)
 
 pub ruleset numbers = (number-stands, number-none)
 

@@ -7,12 +7,11 @@ use Rattle.std.proofs.lemmas.Map.Steps.{length-le_from_distinct_below}
 use Rattle.std.proofs.lemmas.Map.Made.{IsDistinct-from_AllPairs}
 use Rattle.std.proofs.lemmas.Bool.Decides.{Decides-eqb, eqb_tells}
 use Rattle.im_octet.specs.Fields.{field2, field4}
-use Rattle.im_octet.proofs.FieldLemmas.{length-field4}
+use Rattle.im_octet.proofs.FieldLemmas.{length-field4, same-field4}
 use Rattle.im_sqlmodel.specs.Tables.{AreColumns, IsTable, IsIndex, column_text, numbers_text, table_text, index_text}
 use Rattle.im_sqlmodel.specs.declared.tables.Column.{Column}
 use Rattle.im_sqlmodel.specs.declared.tables.SqlIndex.{SqlIndex}
 use Rattle.im_sqlmodel.specs.declared.tables.Table.{Table}
-use Rattle.im_sqlmodel.proofs.OnceLemmas.{four-apart}
 use Rattle.im_catalog.specs.Fronts.{StandsFirst, NoneStandsFirst, AreMany}
 use Rattle.im_catalog.specs.Parts.{IsFlag, flag_text, FitsFour, FitsTwo, AreColumnNumbers, IsColumn, columns_text, IsReadTable, HasNoNumbers, HasParts, HasNoParts, HasIndexParts, HasNoIndexParts}
 use Rattle.im_catalog.proofs.CutLemmas.{Cuts, same-fronts, many-cut}
@@ -34,7 +33,7 @@ tid-none text short = record {
 pub tid-cut : Cuts FitsFour field4
 tid-cut m n a b p q e =
     let parts = same-fronts (field4 m) (field4 n) a b (length-field4 m ∙ sym (length-field4 n)) e in
-    (four-apart m n p q parts.0, parts.1)
+    (same-field4 m n p q parts.0, parts.1)
 
 pub ruleset tids = (tid-stands, tid-none)
 

@@ -5,6 +5,7 @@ ghost use Rattle.im_sqlmodel.specs.Conditions as spec;
 ghost use Rattle.im_sqlmodel.specs.Options.{first_found};
 
 use crate::lent::{kind_in, of_literal};
+use crate::levels::MOST_LEVELS;
 use crate::scopes::{kind_at, place_of};
 use im_octet::octets::Octets;
 use im_sqlmodel::answers::SqlError;
@@ -13,9 +14,6 @@ use im_sqlparse::statements::{Condition, Operand};
 use im_sqltype::kinds::ValueKind;
 use sqlite_items::Boxed;
 use std::alloc::{AllocError, Global};
-
-// An OR-list, an AND-list and a comparison are three levels; each of 64 parentheses is two more.
-const MOST_LEVELS: usize = 131;
 
 /// What is wrong with a name: that it is no column's. Its only error is want of memory.
 pub fn name_fault(

@@ -3,5 +3,6 @@
 
 pub mod judged;
 pub mod lent;
+mod levels;
 pub mod met;
 pub mod scopes;

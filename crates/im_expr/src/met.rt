@@ -6,15 +6,13 @@ ghost use Rattle.im_sqlmodel.specs.Conditions as spec;
 ghost use Rattle.im_expr.specs.Lent.{lent_value};
 
 use crate::lent::{Lent, compare, is_null, of_literal};
+use crate::levels::MOST_LEVELS;
 use crate::scopes::value_named;
 use im_sqlmodel::tables::Named;
 use im_sqlparse::statements::{Condition, Operand, Operator};
 use im_sqltype::values::Value;
 use sqlite_items::Boxed;
 use std::cmp::Ordering;
-
-// An OR-list, an AND-list and a comparison are three levels; each of 64 parentheses is two more.
-const MOST_LEVELS: usize = 131;
 
 // The value of a side.
 fn operand_value<'v>(scope: &[Named], row: &'v [Value], operand: &'v Operand) -> Lent<'v>

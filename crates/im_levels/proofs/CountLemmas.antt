@@ -1,8 +1,8 @@
 -- Whole subtrees and ones, counted.
-use Rattle.std.proofs.Common.{◌≡◌, ◌<◌, ◌≤◌, ℕ, suc, zero, ◌+◌, ◌-◌, ◌*◌, ◌/◌, ◌%◌, ◌^◌, refl, arith, ap, ◌∙◌, sym, inl, inr, count_ones}
-use Rattle.std.proofs.lemmas.Bool.{cases_eq}
-use Rattle.std.proofs.lemmas.Nat.{pow_pos, ones-le, ones_cat, ones_le_self, zero_from_ones}
+use Rattle.std.proofs.Common.{◌≡◌, ◌<◌, ◌≤◌, ℕ, suc, zero, ◌+◌, ◌-◌, ◌*◌, ◌/◌, ◌%◌, ◌^◌, refl, arith, ap, ◌∙◌, sym, count_ones}
+use Rattle.std.proofs.lemmas.Nat.{pow_pos, ones-le, ones_cat}
 use Rattle.std.proofs.Math.Nat.{pow-succ', mul_assoc, mul_comm}
+use Rattle.im_model.proofs.Lengths.{ones-none, ones-one}
 use Rattle.im_levels.specs.Counts.{whole_within, whole}
 
 -- twice a multiple of a power of two is one of the next
@@ -140,18 +140,6 @@ whole-grows (suc t) c n even is =
     let after : whole (n + 1) ≡ (n + 1) + whole (n / 2 + 1) = whole-step (n + 1) ∙ ap (λ x. (n + 1) + whole x) half in
     let grows : whole (n / 2 + 1) ≡ whole (n / 2) + t + 1 = whole-grows t c (n / 2) even whole_half in
     omega arith
-
--- 0 has no one, and 1 has one
-pub ones-none : count_ones 0 ≡ 0
-ones-none = let most : count_ones 0 ≤ 0 = ones_le_self 0 in omega arith
-
-pub ones-one : count_ones 1 ≡ 1
-ones-one =
-    let most : count_ones 1 ≤ 1 = ones_le_self 1 in
-    elim (cases_eq (count_ones 1) 0) [
-      | inl e ↦ absurd (let none : 1 ≡ 0 = zero_from_ones 1 e in omega arith)
-      | inr ne ↦ omega arith
-    ]
 
 -- there are at most as many ones as digits
 pub ones-most : (b n : ℕ) → n < 2 ^ b → count_ones n ≤ b

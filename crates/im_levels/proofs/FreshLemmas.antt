@@ -3,21 +3,15 @@ use Rattle.std.proofs.Common.{◌≡◌, ◌<◌, ◌≤◌, length, ℕ, suc, �
 use Rattle.std.proofs.lemmas.List.{length_push, get_or_push, get_or_append_left, get_or-append-add}
 use Rattle.std.proofs.lemmas.Bool.{cases_lt}
 use Rattle.std.proofs.lemmas.Nat.{pow_pos}
-use Rattle.std.proofs.Math.Nat.{pow-succ', mul_assoc, suc-mul}
+use Rattle.std.proofs.Math.Nat.{pow-succ', suc-mul}
 use Rattle.im_digest.specs.Digests.{Hash}
 use Rattle.im_model.specs.Trees.{leaf, node, root}
 use Rattle.im_mtree.proofs.JoinLemmas.{power-twice, root-leaf, root-join}
+use Rattle.im_mtree.proofs.SubtreeLemmas.{odd-place}
 use Rattle.im_levels.specs.Counts.{whole}
 use Rattle.im_levels.specs.Leveled.{leaves_of, place, AreStored, stored, IsLeveled, IsSubtree}
 use Rattle.im_levels.proofs.CountLemmas.{whole-step, whole-most, whole-inside, whole-place, whole-grows}
 use Rattle.im_levels.proofs.PartLemmas.{exponent-less, part-append}
-
--- where an odd count of runs ends
-odd-place : (count s : ℕ) → count % 2 ≡ 1 → count * s ≡ count / 2 * (2 * s) + s
-odd-place count s h =
-    let twice : count ≡ suc (count / 2 * 2) = omega arith in
-    let here : (count / 2 * 2) * s ≡ count / 2 * (2 * s) = mul_assoc (count / 2) 2 s in
-    ap (λ j. j * s) twice ∙ suc-mul (count / 2 * 2) s ∙ ap (λ j. j + s) here
 
 -- while a leaf is added behind `size` others: `count` subtrees of `width` leaves stand before the one that
 -- ends with it, which begins at leaf `at` and is the t-th that becomes whole, counted from 0

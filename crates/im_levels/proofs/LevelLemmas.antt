@@ -3,11 +3,12 @@ use Rattle.std.proofs.Common.{◌≡◌, ◌<◌, ◌≤◌, length, ℕ, suc, z
 use Rattle.std.proofs.Math.Nat.{pow-succ', mul_assoc, suc-mul}
 use Rattle.im_digest.specs.Digests.{Hash}
 use Rattle.im_model.specs.Trees.{leaf, node, root}
+use Rattle.im_model.proofs.Lengths.{ones-one}
 use Rattle.im_mtree.proofs.JoinLemmas.{root-leaf, root-join}
 use Rattle.im_levels.specs.Counts.{whole_within, whole}
 use Rattle.im_levels.specs.Leveled.{leaves_of}
 use Rattle.im_levels.specs.ByLevel.{leaf_digests, pairs, level}
-use Rattle.im_levels.proofs.CountLemmas.{twice-power, ones-one, ones-front}
+use Rattle.im_levels.proofs.CountLemmas.{twice-power, ones-front}
 
 length-leaf_digests : (hash : Hash) (leaves : List (List ℕ)) → length (leaf_digests hash leaves) ≡ length leaves
 unfolding leaf_digests

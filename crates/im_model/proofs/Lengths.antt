@@ -74,10 +74,12 @@ pub path-fits : (n i : ℕ) (path : List (List ℕ)) → i < n → IsPath n i pa
 unfolding path_length
 path-fits n i path h = fits-path n n i path (omega arith) h
 
-ones-zero : count_ones 0 ≡ 0
-ones-zero = let most = ones_le_self 0 in omega arith
+-- 0 has no one in binary
+pub ones-none : count_ones 0 ≡ 0
+ones-none = let most = ones_le_self 0 in omega arith
 
-ones-one : count_ones 1 ≡ 1
+-- 1 has one
+pub ones-one : count_ones 1 ≡ 1
 ones-one =
     let most : count_ones 1 ≤ 1 = ones_le_self 1 in
     elim (cases_eq (count_ones 1) 0) [
@@ -104,7 +106,7 @@ last-path (suc room) n r p = elim (cases_lt 1 n) [
       left ∙ sym ones ∙ ap (λ j. count_ones j) (sym whole))
   | inr few ↦ (
       let none : n - 1 ≡ 0 = omega arith in
-      path-one (suc room) n (n - 1) few ∙ sym ones-zero ∙ ap (λ j. count_ones j) (sym none))
+      path-one (suc room) n (n - 1) few ∙ sym ones-none ∙ ap (λ j. count_ones j) (sym none))
 ]
 
 -- the path of the last leaf has a term for each one of its number in binary

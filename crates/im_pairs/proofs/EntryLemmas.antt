@@ -8,8 +8,7 @@ use Rattle.im_pairs.specs.Pairs.{GivesDigests, HasPair, AreAmong}
 use Rattle.im_pairs.specs.Leads.{Leads}
 use Rattle.im_pairs.specs.Ranges.{EntryFits}
 use Rattle.im_pairs.proofs.PairLemmas.{parts, same_or_pair}
-use Rattle.im_octet.proofs.FieldLemmas.{length-field2}
-use Rattle.im_pairs.proofs.FieldLemmas.{same-field2}
+use Rattle.im_octet.proofs.FieldLemmas.{length-field2, same-field2}
 use Rattle.im_pairs.proofs.UpLemmas.{same_lead}
 
 -- entries are equal by their fields

@@ -6,9 +6,8 @@ use Rattle.im_model.specs.Headers.{inner_string, alh_string, alh, header_strings
 use Rattle.im_model.specs.declared.headers.Header.{Header}
 use Rattle.im_pairs.specs.Pairs.{HasPair, AreAmong}
 use Rattle.im_pairs.specs.Ranges.{HeaderFits}
-use Rattle.im_pairs.proofs.PairLemmas.{parts, same_or_pair}
-use Rattle.im_octet.proofs.FieldLemmas.{length-field2, length-field4, length-field8, length-signed}
-use Rattle.im_pairs.proofs.FieldLemmas.{same-field2, same-field4, same-field8, same-signed8, length-three, three}
+use Rattle.im_pairs.proofs.PairLemmas.{parts, length-three, three, same_or_pair}
+use Rattle.im_octet.proofs.FieldLemmas.{length-field2, length-field4, length-field8, length-signed, same-field2, same-field4, same-field8, same-signed8}
 
 -- headers are equal by their fields
 pub same-fields : (h k : Header) → h.id ≡ k.id → h.ts ≡ k.ts → h.bl_tx_id ≡ k.bl_tx_id → h.bl_root ≡ k.bl_root → h.prev_alh ≡ k.prev_alh

@@ -1,5 +1,5 @@
 -- Strings that are equal or not, the parts of equal ones, and strings that are among others.
-use Rattle.std.proofs.Common.{◌≡◌, ◌≢◌, ◌⊎◌, ◌<◌, length, ℕ, suc, zero, List, ◌∷◌, ◌++◌, take, drop, refl, arith, ap, subst, ◌∙◌, sym, true, false, Contains, inl, inr, take_at, drop_at, slice_index_or, get_or, reverse, [], ◌-◌}
+use Rattle.std.proofs.Common.{◌≡◌, ◌≢◌, ◌⊎◌, ◌<◌, length, ℕ, suc, zero, List, ◌∷◌, ◌++◌, take, drop, refl, arith, ap, subst, ◌∙◌, sym, true, false, Contains, inl, inr, take_at, drop_at, slice_index_or, get_or, reverse, [], ◌-◌, ◌+◌, length-append}
 use Rattle.std.proofs.lemmas.Bool.{false≢true}
 use Rattle.std.proofs.lemmas.List.{length-reverse, get_or-reverse}
 use Rattle.std.proofs.lemmas.List.Elements.{All-from_get_or, Contains-append_left, Contains-append_right, Contains-append_cases}
@@ -30,6 +30,17 @@ parts l r p q n e = (
   sym (take_at l r (length p) n) ∙ ap (λ s. take (length p) s) e ∙ take_at p q (length p) refl,
   sym (drop_at l r (length p) n) ∙ ap (λ s. drop (length p) s) e ∙ drop_at p q (length p) refl,
 )
+
+-- the length of three joined strings
+pub length-three : (a b c : List ℕ) → length (a ++ b ++ c) ≡ length a + length b + length c
+length-three a b c = length-append (a ++ b) c ∙ ap (λ n. n + length c) (length-append a b)
+
+-- equal joined strings of three parts of equal lengths
+pub three : (a b c x y z : List ℕ) → length a ≡ length x → length b ≡ length y → a ++ b ++ c ≡ x ++ y ++ z → (a ≡ x) × (b ≡ y) × (c ≡ z)
+three a b c x y z p q e =
+    let outer = parts (a ++ b) c (x ++ y) z (length-append a b ∙ ap (λ n. n + length b) p ∙ ap (λ n. length x + n) q ∙ sym (length-append x y)) e in
+    let inside = parts a b x y p outer.0 in
+    (inside.0, inside.1, outer.1)
 
 -- equal node strings have equal children, where the left ones are digests
 pub node_parts : (l r p q : List ℕ) → length l ≡ 32 → length p ≡ 32 → node_string l r ≡ node_string p q → (l ≡ p) × (r ≡ q)

@@ -1,9 +1,8 @@
 -- One number of tables, one list of rows, one history of rows.
-use Rattle.std.proofs.Common.{◌≡◌, ◌<◌, ◌^◌, ℕ, true, false, not, true≢false, List, [], ◌∷◌, ◌++◌, pos, Option, unwrap_or, refl, sym, ap, ap₂, ◌∙◌, subst, ⊎_elim}
+use Rattle.std.proofs.Common.{◌≡◌, ℕ, true, false, not, true≢false, List, [], ◌∷◌, ◌++◌, pos, Option, unwrap_or, refl, sym, ap, ap₂, ◌∙◌, subst, ⊎_elim}
 use Rattle.std.specs.List.{AllZip}
-use Rattle.std.specs.Int.{from_be_bytes, w16, w32}
-use Rattle.std.proofs.lemmas.Nat.{from_be_bytes-to_be_bytes_2, from_be_bytes-to_be_bytes_4}
-use Rattle.im_octet.specs.Fields.{field2, field4}
+use Rattle.im_octet.specs.Fields.{field4}
+use Rattle.im_octet.proofs.FieldLemmas.{same-field4}
 use Rattle.im_model.specs.declared.transactions.Transaction.{Transaction}
 use Rattle.im_versions.specs.Versions.{is_live, is_written}
 use Rattle.im_versions.specs.declared.versions.Version.{Version}
@@ -16,16 +15,6 @@ use Rattle.im_sqlmodel.specs.Tables.{kinds_of}
 use Rattle.im_sqlmodel.specs.Rows.{HasValue, CountIs, IsRowVersion, IsStored, RowsAre, revisions, IsRevision, HistoryIs}
 use Rattle.im_sqlmodel.specs.declared.rows.Stored.{Stored}
 use Rattle.im_sqlmodel.specs.declared.tables.Table.{Table}
-
--- ---- fields
-
-pub two-apart : (m n : ℕ) → m < 2 ^ 16 → n < 2 ^ 16 → field2 m ≡ field2 n → m ≡ n
-unfolding field2
-two-apart m n p q e = sym (from_be_bytes-to_be_bytes_2 m p) ∙ ap (from_be_bytes w16) e ∙ from_be_bytes-to_be_bytes_2 n q
-
-pub four-apart : (m n : ℕ) → m < 2 ^ 32 → n < 2 ^ 32 → field4 m ≡ field4 n → m ≡ n
-unfolding field4
-four-apart m n p q e = sym (from_be_bytes-to_be_bytes_4 m p) ∙ ap (from_be_bytes w32) e ∙ from_be_bytes-to_be_bytes_4 n q
 
 -- ---- the number of tables
 
@@ -45,7 +34,7 @@ one-count history a b x y =
     ⊎_elim
     (λ none. ⊎_elim (λ other. none.1 ∙ sym other.1) (λ some. absurd (none-and-some history (field4 b) none.0 some.1)) y)
     (λ some. ⊎_elim (λ none. absurd (none-and-some history (field4 a) none.0 some.1))
-    (λ other. four-apart a b some.0 other.0 (one-value history tables_key (field4 a) (field4 b) some.1 other.1)) y)
+    (λ other. same-field4 a b some.0 other.0 (one-value history tables_key (field4 a) (field4 b) some.1 other.1)) y)
     x
 
 -- ---- lists beside a list

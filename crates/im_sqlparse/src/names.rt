@@ -8,7 +8,7 @@ use crate::kinds::Kind;
 use crate::lex::{keyword, same_kind};
 
 // The most octets of a name.
-const MOST_NAME: usize = 48;
+pub(crate) const MOST_NAME: usize = 48;
 
 fn is_name_octet(octet: u8) -> bool
     ensures { result ≡ is_name_octet octet }

@@ -9,15 +9,13 @@ ghost use Rattle.im_sqlparse.specs.Input.{ReadsTokens};
 use crate::errors::{ParseError, SyntaxKind};
 use crate::kinds::Kind;
 use crate::lists::{Listed, separated};
+use crate::names::MOST_NAME;
 use crate::numbers::integer_value;
 use crate::statements::{Literal, Name};
 use crate::tokens::Tokens;
 use hex::FromHexError;
 use sqlite_items::Items;
 use std::alloc::{AllocError, Global};
-
-// The most characters of a name.
-const MOST_NAME: usize = 48;
 
 /// A name, folded to lower case.
 #[tactic(auto, unfolding(crate::specs::Values::name))]

@@ -1,14 +1,14 @@
 -- Kept lines are all taken, or they stop at the first that is refused or forked.
-use Rattle.std.proofs.Common.{◌⊎◌, ◌<◌, ℕ, suc, List, [], ◌∷◌, length, take, get_or, refl, inl, inr, arith}
+use Rattle.std.proofs.Common.{◌⊎◌, ◌<◌, ℕ, suc, List, [], ◌∷◌, length, take, get_or, inl, inr, arith}
 use Rattle.std.specs.List.{All}
 use Rattle.std.proofs.lemmas.List.Elements.{All-nil, All-cons}
 use Rattle.im_digest.specs.Digests.{Hash}
 use Rattle.im_pairs.specs.Pairs.{GivesDigests}
-use Rattle.im_wire.specs.Fits.{IsMessage}
 use Rattle.im_facts.specs.Accepted.{IsClient}
 use Rattle.im_facts.specs.Facts.{Known, nothing}
 use Rattle.im_facts.specs.Folds.{AreVerdicts, IsVerdict, known_by, known_by_all}
 use Rattle.im_facts.specs.Verdicts.{Verdict, Passed, Accepted, Refused, Forked}
+use Rattle.im_facts.proofs.KeepLemmas.{nothing-client}
 use Rattle.im_facts.proofs.VerdictSome.{client-by, line-fits}
 use Rattle.im_verify.specs.Judged.{AreTaken, IsRejected, StopsKept}
 use Rattle.im_verify.proofs.ForkLemmas.{a-verdict}
@@ -73,10 +73,6 @@ taken-or-stopped hash size known [] client = inl (record { verdicts = []; fold =
 taken-or-stopped hash size known (line ∷ lines) client =
     let first = a-verdict hash size known line client in
     one-line hash known line lines (λ next is. taken-or-stopped hash size next lines is) first.0 first.1 (client-by hash known line first.0 (line-fits line) client first.1)
-
--- nothing is known under any hash function
-nothing-client : (hash : Hash) → IsClient hash nothing
-nothing-client hash = record { fit = All-nil IsMessage; accepted = tt; led = refl }
 
 -- kept lines are taken, or they stop
 pub kept-or-stops : (hash : Hash) (kept : List (List ℕ)) → GivesDigests hash → ((verdicts : List Verdict) × AreTaken hash kept verdicts) ⊎ ((n : ℕ) × StopsKept hash kept n)

@@ -24,7 +24,7 @@ use Rattle.im_words.specs.Form.{IsGenForm}
 use Rattle.im_words.specs.Meaning.{AsksGen, asked_of, gen_of, lines_of_text}
 use Rattle.im_words.specs.declared.Request.TheVariants.{Gen}
 use Rattle.im_words.proofs.BuiltRun.{gen_built, lines_built}
-use Rattle.im_words.proofs.UseLemmas.{IsUse, added, no_faults, use_is, use_row}
+use Rattle.im_words.proofs.UseLemmas.{IsUse, added, either_way, no_faults, use_is, use_row}
 
 -- the rules of `gen`
 abbrev pub gen_rules : List Rule
@@ -161,10 +161,6 @@ walk_lines w (word ∷ words) all e =
     walk_lines (walked gen_rules [] w word) words (turn_lines w word all parts.0) parts.1
 
 -- ---- after the walk
-
-either_way : (b : Bool) (rows : List Row) → cond b rows rows ≡ rows
-either_way true rows = refl
-either_way false rows = refl
 
 without_minus-cond : (v : Text) → without_minus v ≡ cond (starts_with_minus v) (drop 1 v) v
 without_minus-cond [] = refl

@@ -235,7 +235,8 @@ walk_uses w (word ∷ words) all e =
 
 -- ---- after the walk
 
-either_way : (b : Bool) (rows : List Row) → cond b rows rows ≡ rows
+-- rows that are the same either way
+pub either_way : (b : Bool) (rows : List Row) → cond b rows rows ≡ rows
 either_way true rows = refl
 either_way false rows = refl
 

@@ -1,7 +1,8 @@
 use Rattle.std.proofs.Common.{◌≡◌, ◌≤◌, ◌+◌, ◌-◌, arith, ap, ◌∙◌, count_ones}
 use Rattle.im_levels.specs.Leveled.{leaves_of}
 use Rattle.im_model.specs.Trees.{root}
-use Rattle.im_levels.proofs.CountLemmas.{ones-none, whole-most}
+use Rattle.im_model.proofs.Lengths.{ones-none}
+use Rattle.im_levels.proofs.CountLemmas.{whole-most}
 use Rattle.im_levels.proofs.ReadLemmas.{node-made}
 use Rattle.im_levels.proofs.roots.+part_root.Goals as goal
 
