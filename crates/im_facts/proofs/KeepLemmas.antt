@@ -1,5 +1,5 @@
 -- A client with an accepted message more is one, and what was copied of the message makes it.
-use Rattle.std.proofs.Common.{◌≡◌, List, [], ◌∷◌, ◌++◌, refl, ap, subst, sym, ◌∙◌, Option}
+use Rattle.std.proofs.Common.{◌≡◌, Bool, true, false, if◌then◌else◌, List, [], ◌∷◌, ◌++◌, refl, ap, subst, sym, ◌∙◌, Option, Some, None}
 use Rattle.std.specs.Option.{option_to_list}
 use Rattle.std.proofs.lemmas.List.Elements.{All-nil, All-push}
 use Rattle.im_digest.specs.Digests.{Hash}
@@ -9,6 +9,7 @@ use Rattle.im_wire.specs.declared.messages.Message.{Message}
 use Rattle.im_facts.specs.Accepted.{IsAccepted, AreAccepted, IsClient}
 use Rattle.im_facts.specs.Copies.{followed, AreCopies}
 use Rattle.im_facts.specs.Facts.{Known, nothing, with_message, known_after, with_headers, with_entries}
+use Rattle.im_facts.specs.News.{is_old, unkept, with_accepted}
 use Rattle.im_facts.specs.declared.copies.Copies.{Copies}
 use Rattle.im_facts.specs.declared.facts.EntryFact.{EntryFact}
 
@@ -41,3 +42,25 @@ client-more hash known m client fits accepted = record {
   accepted = accepted-more hash nothing known.messages m client.accepted (subst (λ (k : Known). IsAccepted hash k m) client.led accepted);
   led = ap (λ (k : Known). with_message k m) client.led ∙ sym (after-more nothing known.messages m);
 }
+
+-- so it is behind any accepted message, kept or not
+pub client-accepts : (hash : Hash) (known : Known) (m : Message) → IsClient hash known → IsMessage m → IsAccepted hash known m → IsClient hash (with_accepted known m)
+client-accepts hash known m client fits accepted = go (is_old known m)
+  where
+    go : (b : Bool) → IsClient hash (if b then known else with_message known m)
+    go true = client
+    go false = client-more hash known m client fits accepted
+
+-- behind an old message nothing changed, and it isn't kept
+pub old-stays : (known : Known) (m : Message) → is_old known m ≡ true → known ≡ with_accepted known m
+old-stays known m e = sym (ap (λ (b : Bool). if b then known else with_message known m) e)
+
+pub old-out : (known : Known) (m : Message) → is_old known m ≡ true → ◌≡◌ {A = Option Message} (Some m) (unkept known m)
+old-out known m e = sym (ap (λ (b : Bool). if b then Some m else None) e)
+
+-- any other is
+pub new-kept : (known : Known) (m : Message) → is_old known m ≡ false → with_message known m ≡ with_accepted known m
+new-kept known m e = sym (ap (λ (b : Bool). if b then known else with_message known m) e)
+
+pub new-in : (known : Known) (m : Message) → is_old known m ≡ false → ◌≡◌ {A = Option Message} None (unkept known m)
+new-in known m e = sym (ap (λ (b : Bool). if b then Some m else None) e)

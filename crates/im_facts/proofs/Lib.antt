@@ -6,6 +6,7 @@ pub mod AgreeLemmas
 pub mod WalkLemmas
 pub mod SearchLemmas
 pub mod KeepLemmas
+pub mod NewsLemmas
 pub mod VerdictLemmas
 pub mod FoldLemmas
 pub mod ForkLemmas

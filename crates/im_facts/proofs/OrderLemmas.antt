@@ -195,3 +195,9 @@ module _ (X : Type 0) (before beside : X → X → Bool) (order : IsOrder X befo
         puts-found (with_fact before beside xs h) hs h h rises (put-fits xs h old fit.0),
         puts-fit (with_fact before beside xs h) hs rises one.1 (all-fit xs hs h old fit.0 fit.1 one.0),
       )
+
+  -- where each of several is kept, the list stays with them
+  pub puts-known : (xs hs : List X) → Rises X before xs → AllByRecursion (λ h. find (λ k. beside k h) xs ≡ Some h) hs → with_facts before beside xs hs ≡ xs
+  puts-known xs [] old known = refl
+  puts-known xs (h ∷ hs) old known =
+      ap (λ (l : List X). with_facts before beside l hs) (put-known xs h h old known.0) ∙ puts-known xs hs old known.1

@@ -1,5 +1,5 @@
 -- A line has one verdict, and lines have one list of them, but for the strings of a fork.
-use Rattle.std.proofs.Common.{◌≡◌, ℕ, List, [], ◌∷◌, ◌++◌, append_assoc, append-nil, refl, sym, ap, subst, ◌∙◌, inl, inr, Option, Some, None, Result, Ok, Err}
+use Rattle.std.proofs.Common.{◌≡◌, ℕ, Bool, true, false, if◌then◌else◌, List, [], ◌∷◌, ◌++◌, append_assoc, append-nil, refl, sym, ap, subst, ◌∙◌, inl, inr, Option, Some, None, Result, Ok, Err}
 use Rattle.im_digest.specs.Digests.{Hash}
 use Rattle.im_mtree.specs.Checks.{first_fail}
 use Rattle.im_wire.specs.Lines.{IsLine}
@@ -8,8 +8,9 @@ use Rattle.im_client.specs.LineChecks.{line_checks}
 use Rattle.im_client.specs.declared.faults.LineFault.{LineFault}
 use Rattle.im_client.proofs.SaysLemmas.{err-is, ok-err, says-one, says-none}
 use Rattle.im_facts.specs.Facts.{Known, with_message, Differs}
-use Rattle.im_facts.specs.Folds.{IsTakenAs, IsVerdict, AreVerdicts, known_behind, known_by, known_by_all}
-use Rattle.im_facts.specs.Verdicts.{Verdict, Passed, Accepted, Refused, Forked, IsSameVerdict, AreSameVerdicts, messages_of, taken_of}
+use Rattle.im_facts.specs.News.{is_old}
+use Rattle.im_facts.specs.Folds.{IsTakenAs, IsVerdict, AreVerdicts, known_behind, known_by, known_by_all, kept_by, kept_by_all, unkept_behind, unkept_by}
+use Rattle.im_facts.specs.Verdicts.{Verdict, Passed, Accepted, Refused, Forked, IsSameVerdict, AreSameVerdicts, taken_of}
 use Rattle.im_facts.specs.declared.taken.Shown.{Shown}
 use Rattle.im_facts.specs.declared.taken.Taken.{Taken}
 use Rattle.im_facts.specs.declared.taken.Taken.TheVariants as took
@@ -97,17 +98,28 @@ abbrev some_taken : Taken → Option Taken
 some_taken taken = Some taken
 
 -- the verdict that an answer to a line's message tells
-pub told : (hash : Hash) (known after : Known) (line : List ℕ) (m : Message) (taken : Taken) → IsLine line (Some m) → IsTakenAs hash known m taken → after ≡ known_behind known m taken
-    → (verdict : Verdict) × IsVerdict hash known line verdict × (◌≡◌ {A = Option Taken} (Some taken) (taken_of verdict)) × (after ≡ known_by known verdict)
-told hash known after line m (took.Accepted shown) says is e =
-    (Accepted m, (says, is.0), ap (λ (s : Shown). some_taken (took.Accepted s)) is.1, e)
-told hash known after line m (took.Refused fault) says is e = (Refused fault, inr (m, says, is), refl, e)
-told hash known after line m (took.Forked x y) says is e = (Forked x y, (m, says, is), refl, e)
+pub told : (hash : Hash) (known after : Known) (line : List ℕ) (m : Message) (taken : Taken) (out : Option Message) → IsLine line (Some m) → IsTakenAs hash known m taken → after ≡ known_behind known m taken → out ≡ unkept_behind known m taken
+    → (verdict : Verdict) × IsVerdict hash known line verdict × (◌≡◌ {A = Option Taken} (Some taken) (taken_of verdict)) × (after ≡ known_by known verdict) × (out ≡ unkept_by known verdict)
+told hash known after line m (took.Accepted shown) out says is e o =
+    (Accepted m, (says, is.0), ap (λ (s : Shown). some_taken (took.Accepted s)) is.1, e, o)
+told hash known after line m (took.Refused fault) out says is e o = (Refused fault, inr (m, says, is), refl, e, o)
+told hash known after line m (took.Forked x y) out says is e o = (Forked x y, (m, says, is), refl, e, o)
 
--- the messages that are known behind lines
-pub messages-behind : (known : Known) (verdicts : List Verdict) → (known_by_all known verdicts).messages ≡ known.messages ++ messages_of verdicts
+kept-or-not : (b : Bool) (known : Known) (m : Message) → (if b then known else with_message known m).messages ≡ known.messages ++ (if b then [] else m ∷ [])
+kept-or-not true known m = sym (append-nil known.messages)
+kept-or-not false known m = refl
+
+-- the messages that are known behind a line
+messages-by : (known : Known) (v : Verdict) → (known_by known v).messages ≡ known.messages ++ kept_by known v
+messages-by known Passed = sym (append-nil known.messages)
+messages-by known (Accepted m) = kept-or-not (is_old known m) known m
+messages-by known (Refused fault) = sym (append-nil known.messages)
+messages-by known (Forked x y) = sym (append-nil known.messages)
+
+-- and behind lines
+pub messages-behind : (known : Known) (verdicts : List Verdict) → (known_by_all known verdicts).messages ≡ known.messages ++ kept_by_all known verdicts
 messages-behind known [] = sym (append-nil known.messages)
-messages-behind known (Passed ∷ verdicts) = messages-behind known verdicts
-messages-behind known (Accepted m ∷ verdicts) = messages-behind (with_message known m) verdicts ∙ append_assoc known.messages (m ∷ []) (messages_of verdicts)
-messages-behind known (Refused fault ∷ verdicts) = messages-behind known verdicts
-messages-behind known (Forked x y ∷ verdicts) = messages-behind known verdicts
+messages-behind known (v ∷ verdicts) =
+    messages-behind (known_by known v) verdicts
+    ∙ ap (λ (l : List Message). l ++ kept_by_all (known_by known v) verdicts) (messages-by known v)
+    ∙ append_assoc known.messages (kept_by known v) (kept_by_all (known_by known v) verdicts)

@@ -13,11 +13,11 @@ use Rattle.im_client.specs.declared.faults.LineFault.{LineFault}
 use Rattle.im_client.specs.declared.faults.LineFault.TheVariants.{Syntax}
 use Rattle.im_client.proofs.LineSome.{LineOrBad, line-or-bad}
 use Rattle.im_facts.specs.Accepted.{Passes, IsAccepted, IsClient}
-use Rattle.im_facts.specs.Facts.{Known, with_message, Agrees, Differs}
+use Rattle.im_facts.specs.Facts.{Known, Agrees, Differs}
 use Rattle.im_facts.specs.Folds.{IsForkedBy, IsVerdict, AreVerdicts, known_by, known_by_all}
 use Rattle.im_facts.specs.Verdicts.{Verdict, Passed, Accepted, Refused, Forked}
 use Rattle.im_facts.proofs.AgreeLemmas.{agrees-or-differs}
-use Rattle.im_facts.proofs.KeepLemmas.{client-more}
+use Rattle.im_facts.proofs.KeepLemmas.{client-accepts}
 
 -- a message that a line says has the ranges of its types
 pub line-fits : (line : List ℕ) (m : Message) → IsLine line (Some m) → IsMessage m
@@ -49,7 +49,7 @@ verdict-exists hash known line pairs = go (line-or-bad line)
 -- behind a line a client is one still
 pub client-by : (hash : Hash) (known : Known) (line : List ℕ) (verdict : Verdict) → ((m : Message) → IsLine line (Some m) → IsMessage m) → IsClient hash known → IsVerdict hash known line verdict → IsClient hash (known_by known verdict)
 client-by hash known line Passed fits client is = client
-client-by hash known line (Accepted m) fits client is = client-more hash known m client (fits m is.0) is.1
+client-by hash known line (Accepted m) fits client is = client-accepts hash known m client (fits m is.0) is.1
 client-by hash known line (Refused fault) fits client is = client
 client-by hash known line (Forked x y) fits client is = client
 

@@ -21,8 +21,8 @@ abbrev pub AreAccepted : Hash → Known → List Message → Type 0
 AreAccepted hash known [] = Unit {0}
 AreAccepted hash known (message ∷ messages) = IsAccepted hash known message × AreAccepted hash (with_message known message) messages
 
--- what a client knows under this hash function: its messages have the ranges of their types, were accepted one after the
--- other from nothing on, and led to it. One that accepted anything under another function is none.
+-- what a client knows under this hash function: the messages that it keeps have the ranges of their types, were accepted one
+-- after the other from nothing on, and led to it. One that accepted anything under another function is none.
 pub record IsClient (hash : Hash) (known : Known) : Type 0 where
   pub fit : All IsMessage known.messages
   pub accepted : AreAccepted hash nothing known.messages

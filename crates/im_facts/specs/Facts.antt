@@ -1,4 +1,4 @@
--- What a client knows by the messages that it accepted: its state, and as facts each header that they showed, by its
+-- What a client knows by the messages that it accepted and keeps: its state, and as facts each header that they showed, by its
 -- number, and each entry, by the number of its transaction and its index there.
 use Rattle.std.specs.Prelude.{◌≡◌, ◌≢◌, ◌⊎◌, ◌<◌, ◌&&◌, ◌||◌, ℕ, Bool, List, [], ◌∷◌, ◌++◌, nat_eq, nat_lt, if◌then◌else◌, All, AllPairs, Contains, Option, Some, None, IfSome, option_map}
 use Rattle.std.specs.List.{find}
@@ -77,7 +77,8 @@ entries_shown (says.Dual dual) = []
 entries_shown (says.Advance dual anchor) = []
 entries_shown (says.Item dual entry index path) = record { tx = dual.source.id; index = index; entry = entry } ∷ []
 
--- what a client knows: its state, the facts by rising place, and the messages that it accepted, in order
+-- what a client knows: its state, the facts by rising place, and the accepted messages that it keeps, in order: each one
+-- that showed something new or moved the state
 pub record Known : Type 0 where
   pub state : Option Header
   pub headers : List Header
@@ -88,8 +89,8 @@ pub record Known : Type 0 where
 abbrev pub nothing : Known
 nothing = record { state = None; headers = []; entries = []; messages = [] }
 
--- what is known behind an accepted message: the facts that it shows are added, and its state is followed: the first
--- state becomes the kept one, and the target of an advance does
+-- what is known behind an accepted message that is kept: the facts that it shows are added, and its state is followed: the
+-- first state becomes the kept one, and the target of an advance does
 abbrev pub with_message : Known → Message → Known
 with_message known message = record {
   state = state_with known.state message;

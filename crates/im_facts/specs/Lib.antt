@@ -1,4 +1,5 @@
 pub mod Facts
+pub mod News
 pub mod Verdicts
 pub mod Accepted
 pub mod Copies

@@ -6,16 +6,18 @@ ghost use Rattle.im_pairs.specs.Pairs.{IsPair};
 ghost use Rattle.im_hashed.specs.Messages.{strings_of};
 ghost use Rattle.im_wire.specs.Fits.{IsMessage};
 ghost use Rattle.im_client.specs.LineChecks.{line_checks};
-ghost use Rattle.im_facts.specs.Accepted.{IsClient, Passes};
-ghost use Rattle.im_facts.specs.Folds.{IsTakenAs, IsVerdict, known_behind, known_by};
+ghost use Rattle.im_facts.specs.Accepted.{IsAccepted, IsClient, Passes};
+ghost use Rattle.im_facts.specs.Folds.{IsTakenAs, IsVerdict, known_behind, known_by, unkept_behind, unkept_by};
 ghost use Rattle.im_facts.specs.Facts.{nothing, with_message, Agrees, Differs, IsBefore, IsRising};
+ghost use Rattle.im_facts.specs.News.{is_old};
 ghost use Rattle.im_facts.specs.Verdicts.{Verdict, shown_of, taken_of};
 
 use crate::agree::{entries_agree, headers_agree};
 use crate::copies::{Copies, copies_of, make_room, put_entries, put_headers, put_message};
 use crate::facts::EntryFact;
+use crate::news::{knows_entries, knows_headers, leaves};
 use crate::states::{State, follow, header_of};
-use crate::taken::{Shown, Taken};
+use crate::taken::{LineTaking, Shown, Taken, Taking};
 use im_client::checks::{KnownHeader, check_known};
 use im_client::faults::LineFault;
 use im_digest::Hash32;
@@ -29,7 +31,8 @@ use im_wire::messages::Message;
 use std::alloc::{AllocError, Global};
 use std::marker::Model;
 
-/// A client that trusts nobody: it keeps a state, and every header and entry that accepted messages showed. A clause
+/// A client that trusts nobody: it keeps a state, every header and entry that accepted messages showed, and of these messages
+/// each that showed something new or moved the state: the strings of a fork are among those hashed for them. A clause
 /// sees its hash function and what it knows.
 ///
 /// # Thread safety
@@ -38,9 +41,9 @@ use std::marker::Model;
 ///
 /// # Invariants
 ///
-/// `IsClient`, for its hash function: what it knows is what its messages lead to, each accepted behind those before it.
-/// `new` begins with it, and `take` and `take_line` ask for it and keep it. Beside the state it keeps that header's Alh, so
-/// that no line hashes it again.
+/// `IsClient`, for its hash function: what it knows is what the messages that it keeps lead to, each accepted behind those
+/// before it. `new` begins with it, and `take`, `take_line` and `take_line_out` ask for it and keep it. Beside the state it
+/// keeps that header's Alh, so that no line hashes it again.
 #[derive(Drop)]
 pub struct FactClient<'h, H: Hash32> {
     hash: &'h H,
@@ -104,7 +107,7 @@ impl<'h, H: Hash32> FactClient<'h, H> {
         self.entries.as_slice()
     }
 
-    /// Lends the messages that it accepted, in order.
+    /// Lends the accepted messages that it keeps, in order: each that showed a new header or entry, or moved the state.
     pub fn messages(&self) -> &[Message]
         ensures { result.now ≡ self.now.known.messages }
     {
@@ -112,11 +115,12 @@ impl<'h, H: Hash32> FactClient<'h, H> {
     }
 
     /// Takes a message. Its checks cost what `check_known` says, and each fact that it shows is looked up by halving the
-    /// kept ones. Each fact of an accepted message is copied, and a new one is put at its place, one step for each kept fact
-    /// behind that place: none for the target of an advance. The message itself is moved in, and a header that becomes the
-    /// state is hashed once more. At a fork all strings hashed for the accepted messages and this one are made again, held at
-    /// once, and hashed. Before all this it walks over the message's lists of digests, to say that these have 32 octets;
-    /// `take_line`, which read them, doesn't.
+    /// kept ones, twice where it is accepted. A message that shows nothing new and leaves the state isn't kept, and nothing
+    /// of it is copied. Each fact of any other accepted message is copied, and a new one is put at its place, one step for
+    /// each kept fact behind that place: none for the target of an advance; the message itself is moved in, and a header that
+    /// becomes the state is hashed once more. At a fork all strings hashed for the kept messages and this one are made again,
+    /// held at once, and hashed. Before all this it walks over the message's lists of digests, to say that these have 32
+    /// octets; `take_line`, which read them, doesn't.
     ///
     /// Its only error is want of memory; then nothing changed.
     pub fn take(&mut self, alloc: Global, message: Message) -> Result<Taken, AllocError>
@@ -128,7 +132,10 @@ impl<'h, H: Hash32> FactClient<'h, H> {
         ensures hash { self.new.hash ≡ self.old.hash }
     {
         message_fits(&message);
-        self.take_fitting(alloc, message)
+        let taking = self.take_fitting(alloc, message)?;
+        let Taking { taken, unkept } = taking;
+        drop(unkept);
+        Ok(taken)
     }
 
     /// Takes a line of a stream, without its LF: reads it, and takes the message that it says, which costs what `take` says
@@ -141,38 +148,98 @@ impl<'h, H: Hash32> FactClient<'h, H> {
         ensures client { IsClient (H.digest self.new.hash) self.new.known }
         ensures hash { self.new.hash ≡ self.old.hash }
     {
+        let taking = self.take_line_out(alloc, line)?;
+        let LineTaking { taken, unkept } = taking;
+        drop(unkept);
+        Ok(taken)
+    }
+
+    /// The same as `take_line`, with the accepted message: it is handed out where it isn't kept, and is the last of
+    /// `messages` where it is.
+    pub fn take_line_out(&mut self, alloc: Global, line: &[u8]) -> Result<LineTaking, AllocError>
+        requires { IsClient (H.digest self.old.hash) self.old.known }
+        ensures told { IfOk result (λ taking. (verdict : Verdict) × IsVerdict (H.digest self.old.hash) self.old.known line.now verdict × (taking.taken ≡ taken_of verdict) × (self.new.known ≡ known_by self.old.known verdict) × (taking.unkept ≡ unkept_by self.old.known verdict)) }
+        ensures left { OnErr result (self.new ≡ self.old) }
+        ensures client { IsClient (H.digest self.new.hash) self.new.known }
+        ensures hash { self.new.hash ≡ self.old.hash }
+    {
         match read_line(alloc, line) {
-            Ok(None) => Ok(None),
-            Ok(Some(message)) => Ok(Some(self.take_fitting(alloc, message)?)),
-            Err(WireError::Syntax) => Ok(Some(Taken::Refused {
-                fault: LineFault::Syntax,
-            })),
+            Ok(None) => Ok(LineTaking {
+                taken: None,
+                unkept: None,
+            }),
+            Ok(Some(message)) => {
+                let taking = self.take_fitting(alloc, message)?;
+                let Taking { taken, unkept } = taking;
+                Ok(LineTaking {
+                    taken: Some(taken),
+                    unkept,
+                })
+            }
+            Err(WireError::Syntax) => Ok(LineTaking {
+                taken: Some(Taken::Refused {
+                    fault: LineFault::Syntax,
+                }),
+                unkept: None,
+            }),
             Err(WireError::Memory) => Err(AllocError),
         }
     }
 
     // Takes a message that has the ranges of its types.
-    fn take_fitting(&mut self, alloc: Global, message: Message) -> Result<Taken, AllocError>
+    fn take_fitting(&mut self, alloc: Global, message: Message) -> Result<Taking, AllocError>
         requires client { IsClient (H.digest self.old.hash) self.old.known }
         requires fits { IsMessage message }
-        ensures taken { IfOk result (IsTakenAs (H.digest self.old.hash) self.old.known message) }
-        ensures keeps { IfOk result (λ taken. self.new.known ≡ known_behind self.old.known message taken) }
+        ensures taken { IfOk result (λ taking. IsTakenAs (H.digest self.old.hash) self.old.known message taking.taken) }
+        ensures keeps { IfOk result (λ taking. self.new.known ≡ known_behind self.old.known message taking.taken) }
+        ensures unkept { IfOk result (λ taking. taking.unkept ≡ unkept_behind self.old.known message taking.taken) }
         ensures left { OnErr result (self.new ≡ self.old) }
         ensures client { IsClient (H.digest self.new.hash) self.new.known }
         ensures hash { self.new.hash ≡ self.old.hash }
     {
         if let Err(fault) = self.check(&message) {
             drop(message);
-            return Ok(Taken::Refused { fault });
+            return Ok(Taking {
+                taken: Taken::Refused { fault },
+                unkept: None,
+            });
         }
         if self.agrees(&message) {
-            let shown = self.keep(alloc, message)?;
-            return Ok(Taken::Accepted { shown });
+            return self.accept(alloc, message);
         }
         let pair = self.pair_with(alloc, &message);
         drop(message);
         let Pair { x, y } = pair?;
-        Ok(Taken::Forked { x, y })
+        Ok(Taking {
+            taken: Taken::Forked { x, y },
+            unkept: None,
+        })
+    }
+
+    // Takes an accepted message: an old one is handed back, and any other is kept.
+    fn accept(&mut self, alloc: Global, message: Message) -> Result<Taking, AllocError>
+        requires client { IsClient (H.digest self.old.hash) self.old.known }
+        requires fits { IsMessage message }
+        requires accepted { IsAccepted (H.digest self.old.hash) self.old.known message }
+        ensures taken { IfOk result (λ taking. IsTakenAs (H.digest self.old.hash) self.old.known message taking.taken) }
+        ensures keeps { IfOk result (λ taking. self.new.known ≡ known_behind self.old.known message taking.taken) }
+        ensures unkept { IfOk result (λ taking. taking.unkept ≡ unkept_behind self.old.known message taking.taken) }
+        ensures left { OnErr result (self.new ≡ self.old) }
+        ensures client { IsClient (H.digest self.new.hash) self.new.known }
+        ensures hash { self.new.hash ≡ self.old.hash }
+    {
+        if self.is_old(&message) {
+            let shown = shown_by(&message);
+            return Ok(Taking {
+                taken: Taken::Accepted { shown },
+                unkept: Some(message),
+            });
+        }
+        let shown = self.keep(alloc, message)?;
+        Ok(Taking {
+            taken: Taken::Accepted { shown },
+            unkept: None,
+        })
     }
 
     // Lends its hash function.
@@ -203,6 +270,16 @@ impl<'h, H: Hash32> FactClient<'h, H> {
         ensures no { IsFalse result → Differs self.now.known message.now }
     {
         headers_agree(self.headers(), message) && entries_agree(self.entries(), message)
+    }
+
+    // Whether a message leaves the state and shows nothing new. It looks up each fact that the message shows.
+    fn is_old(&self, message: &Message) -> bool
+        requires { IsRising self.now.known }
+        ensures { result ≡ is_old self.now.known message.now }
+    {
+        leaves(header_of(&self.state), message)
+            && knows_headers(self.headers(), message)
+            && knows_entries(self.entries(), message)
     }
 
     // Keeps an accepted message: all memory is taken first, and then what it shows is put in.
@@ -239,7 +316,7 @@ impl<'h, H: Hash32> FactClient<'h, H> {
         }
     }
 
-    // Two unequal strings of one digest among those hashed for the accepted messages and for this one.
+    // Two unequal strings of one digest among those hashed for the kept messages and for this one.
     fn pair_with(&self, alloc: Global, message: &Message) -> Result<Pair, AllocError>
         requires client { IsClient (H.digest self.now.hash) self.now.known }
         requires fits { IsMessage message.now }

@@ -29,13 +29,13 @@ pub fn an_accepted_advance_carries()
 {}
 
 /// After any accepted messages each kept header is opened under the state, and each kept entry lies under its kept
-/// header, or two unequal strings of one digest are among those hashed in checking these messages.
+/// header, or two unequal strings of one digest are among those hashed in checking the kept ones of these messages.
 pub fn what_is_kept_holds()
     ensures { (hash : Hash) (known : Known) → GivesDigests hash → IsClient hash known → HoldsOrPair hash known }
 {}
 
 /// A message that passes every check, and shows a fact unlike the kept one of its place, comes with two unequal strings
-/// of one digest among those hashed in checking the accepted messages and this one.
+/// of one digest among those hashed in checking the kept messages and this one.
 pub fn a_second_fact_is_a_pair()
     ensures { (hash : Hash) (known : Known) (message : Message) → GivesDigests hash → IsClient hash known → IsMessage message → Passes hash known message → Differs known message
         → HasPair hash (strings_of hash (known.messages ++ message ∷ [])) }

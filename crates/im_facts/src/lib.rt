@@ -7,6 +7,7 @@ pub mod collisions;
 mod copies;
 pub mod facts;
 pub mod laws;
+mod news;
 mod states;
 pub mod taken;
 pub mod texts;

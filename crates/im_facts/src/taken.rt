@@ -1,5 +1,6 @@
 use im_client::faults::LineFault;
 use im_octet::octets::Octets;
+use im_wire::messages::Message;
 
 /// What an accepted message shows, as its line tells it.
 #[derive(Clone, Copy, Debug, PartialEq, Eq)]
@@ -17,11 +18,27 @@ pub enum Shown {
 /// The answer of a client to a message.
 #[derive(Drop)]
 pub enum Taken {
-    /// Every check holds and no fact is unlike a kept one; what it shows is kept now.
+    /// Every check holds and no fact is unlike a kept one; what it shows is known now.
     Accepted { shown: Shown },
     /// The first check that fails. Nothing changed.
     Refused { fault: LineFault },
     /// Every check holds, but a fact is unlike the kept one of its place: two unequal strings of one digest, both among
     /// those hashed in checking the kept messages and this one. Nothing changed.
     Forked { x: Octets, y: Octets },
+}
+
+// The answer to a message, and the message itself where it is accepted and not kept.
+#[derive(Drop)]
+pub(crate) struct Taking {
+    pub(crate) taken: Taken,
+    pub(crate) unkept: Option<Message>,
+}
+
+/// The answer of a client to a line, and its accepted message, where the client doesn't keep it.
+#[derive(Drop)]
+pub struct LineTaking {
+    /// The answer: `None` for a line that is passed over.
+    pub taken: Option<Taken>,
+    /// The accepted message, where it isn't the last one that the client keeps now.
+    pub unkept: Option<Message>,
 }

@@ -1,5 +1,5 @@
 -- How far the lines of a stream were taken, and one line more.
-use Rattle.std.proofs.Common.{◌≡◌, ◌+◌, ◌<◌, ℕ, List, [], ◌∷◌, ◌++◌, length, take, Bool, true, false, ◌||◌, ◌==◌, ◌-◌, Option, Some, None, Ok, Err, refl, sym, ap, subst, ◌∙◌, arith, append_assoc, append-nil, length-append}
+use Rattle.std.proofs.Common.{◌≡◌, ◌+◌, ◌<◌, ℕ, List, [], ◌∷◌, ◌++◌, length, take, Bool, true, false, if◌then◌else◌, ◌||◌, ◌==◌, ◌-◌, Option, Some, None, Ok, Err, refl, sym, ap, subst, ◌∙◌, arith, append_assoc, append-nil, length-append}
 use Rattle.std.specs.Prelude.{◌↔◌, IfOk, IsTrue, OnOk, Result, slice_get}
 use Rattle.std.specs.Option.{option_map}
 use Rattle.std.specs.Io.KnownBytes.{Appends}
@@ -12,14 +12,17 @@ use Rattle.std.proofs.lemmas.List.{get_or_append_left}
 use Rattle.im_digest.specs.Digests.{Hash}
 use Rattle.im_text.specs.Lines.{AreTexts, IsFirstText}
 use Rattle.im_text.proofs.LineLemmas.{texts-exist, texts-more}
+use Rattle.im_wire.specs.Texts.{text}
 use Rattle.im_wire.specs.declared.messages.Message.{Message}
 use Rattle.im_pairs.specs.Pairs.{GivesDigests}
 use Rattle.im_facts.specs.Accepted.{IsClient}
-use Rattle.im_facts.specs.Facts.{Known}
-use Rattle.im_facts.specs.Folds.{AreVerdicts, IsVerdict, known_by, known_by_all}
+use Rattle.im_facts.specs.Facts.{Known, with_message}
+use Rattle.im_facts.specs.Folds.{AreVerdicts, IsVerdict, known_by, known_by_all, unkept_by}
+use Rattle.im_facts.specs.News.{is_old}
 use Rattle.im_facts.specs.Texts.{taken_line, verdict_line, verdict_lines}
-use Rattle.im_facts.specs.Verdicts.{Verdict, Passed, Accepted, Refused, Forked, IsForked, taken_of}
+use Rattle.im_facts.specs.Verdicts.{Verdict, Passed, Accepted, Refused, Forked, IsForked, shown_of, taken_of}
 use Rattle.im_facts.specs.declared.taken.Taken.{Taken}
+use Rattle.im_facts.specs.declared.taken.Taken.TheVariants as took
 use Rattle.im_verify.specs.Judged.{kept_text, kept_texts, IsRefused, NoneForked, NoneRefused, SomeRefused}
 use Rattle.im_verify.specs.Turns.{end_by, end_of, last_accepted, message_text, WritesAndKeeps, AddsPart, WrittenAndKept, EndsStream, HalfTurn, TakesAll, TakesAt, TakesInto, TakesSome, LineTurn}
 use Rattle.im_verify.specs.declared.lines.LineEnd.{LineEnd}
@@ -84,67 +87,74 @@ last-more ms m =
     last-at (n ∷ ms) m = last-at ms m
 
 -- the text that is kept of a line is that of its accepted message
-kept-last : (known : Known) (v : Verdict) → message_text (last_accepted (taken_of v) (known_by known v).messages) ≡ kept_text v
+kept-or-out : (b : Bool) (known : Known) (m : Message)
+    → message_text (last_accepted (Some (took.Accepted (shown_of m))) (if b then known else with_message known m).messages (if b then Some m else None)) ≡ text m ∷ []
+kept-or-out true known m = refl
+kept-or-out false known m = ap message_text (last-more known.messages m)
+
+kept-last : (known : Known) (v : Verdict) → message_text (last_accepted (taken_of v) (known_by known v).messages (unkept_by known v)) ≡ kept_text v
 kept-last known Passed = refl
-kept-last known (Accepted m) = ap message_text (last-more known.messages m)
+kept-last known (Accepted m) = kept-or-out (is_old known m) known m
 kept-last known (Refused fault) = refl
 kept-last known (Forked x y) = refl
 
-accepted-is : (v : Verdict) (messages : List Message) (m : Message) → last_accepted (taken_of v) messages ≡ Some m → (next : Message) × (v ≡ Accepted next)
-accepted-is Passed messages m e = absurd cc
-accepted-is (Accepted next) messages m e = (next, refl)
-accepted-is (Refused fault) messages m e = absurd cc
-accepted-is (Forked x y) messages m e = absurd cc
+accepted-is : (v : Verdict) (messages : List Message) (out : Option Message) (m : Message) → last_accepted (taken_of v) messages out ≡ Some m → (next : Message) × (v ≡ Accepted next)
+accepted-is Passed messages out m e = absurd cc
+accepted-is (Accepted next) messages out m e = (next, refl)
+accepted-is (Refused fault) messages out m e = absurd cc
+accepted-is (Forked x y) messages out m e = absurd cc
 
--- what a client told of a line
-abbrev pub Told : Hash → Known → Known → List ℕ → Option Taken → Type 0
-Told hash known next line taken = (verdict : Verdict) × IsVerdict hash known line verdict × (taken ≡ taken_of verdict) × (next ≡ known_by known verdict)
+-- what a client told of a line, and which message it handed out
+abbrev pub Told : Hash → Known → Known → List ℕ → Option Taken → Option Message → Type 0
+Told hash known next line taken out =
+    (verdict : Verdict) × IsVerdict hash known line verdict × (taken ≡ taken_of verdict) × (next ≡ known_by known verdict) × (out ≡ unkept_by known verdict)
 
 -- so the text that is kept, by the answer
-kept-told : (known next : Known) (taken : Option Taken) (messages : List Message) (message : Option Message) (v : Verdict) → taken ≡ taken_of v → next ≡ known_by known v
-    → messages ≡ next.messages → message ≡ last_accepted taken messages → message_text message ≡ kept_text v
-kept-told known next taken messages message v answer follows lent last =
+kept-told : (known next : Known) (taken : Option Taken) (messages : List Message) (out message : Option Message) (v : Verdict) → taken ≡ taken_of v → next ≡ known_by known v → out ≡ unkept_by known v
+    → messages ≡ next.messages → message ≡ last_accepted taken messages out → message_text message ≡ kept_text v
+kept-told known next taken messages out message v answer follows hands lent last =
     ap message_text last
-    ∙ ap (λ (t : Option Taken). message_text (last_accepted t messages)) answer
-    ∙ ap (λ (ms : List Message). message_text (last_accepted (taken_of v) ms)) lent
-    ∙ ap (λ (k : Known). message_text (last_accepted (taken_of v) k.messages)) follows
+    ∙ ap (λ (t : Option Taken). message_text (last_accepted t messages out)) answer
+    ∙ ap (λ (ms : List Message). message_text (last_accepted (taken_of v) ms out)) lent
+    ∙ ap (λ (k : Known). message_text (last_accepted (taken_of v) k.messages out)) follows
+    ∙ ap (λ (o : Option Message). message_text (last_accepted (taken_of v) (known_by known v).messages o)) hands
     ∙ kept-last known v
 
-turn-of : (hash : Hash) (number : ℕ) (line : List ℕ) (known next : Known) (taken : Option Taken) (messages : List Message) (message : Option Message) (end : LineEnd) (from to : WrittenAndKept)
-    → Told hash known next line taken → messages ≡ next.messages → message ≡ last_accepted taken messages → end ≡ end_of taken
+turn-of : (hash : Hash) (number : ℕ) (line : List ℕ) (known next : Known) (taken : Option Taken) (messages : List Message) (out message : Option Message) (end : LineEnd) (from to : WrittenAndKept)
+    → Told hash known next line taken out → messages ≡ next.messages → message ≡ last_accepted taken messages out → end ≡ end_of taken
     → WritesAndKeeps (taken_line number taken) (message_text message) from to → LineTurn hash number line end known next from to
-turn-of hash number line known next taken messages message end from to (v, is, answer, follows) lent last e adds = record {
+turn-of hash number line known next taken messages out message end from to (v, is, answer, follows, hands) lent last e adds = record {
   verdict = v;
   is = is;
-  tells = subst (λ (ts : List (List ℕ)). WritesAndKeeps (verdict_line number v) ts from to) (kept-told known next taken messages message v answer follows lent last)
+  tells = subst (λ (ts : List (List ℕ)). WritesAndKeeps (verdict_line number v) ts from to) (kept-told known next taken messages out message v answer follows hands lent last)
       (subst (λ (t : Option Taken). WritesAndKeeps (taken_line number t) (message_text message) from to) answer adds);
   follows = follows;
   ends = e ∙ ap end_of answer;
 }
 
 -- a line was taken, told and kept
-pub turn-told : (hash : Hash) (number : ℕ) (line : List ℕ) (known next : Known) (taken : Option Taken) (messages : List Message) (message : Option Message) (from to : WrittenAndKept) (result : Result LineEnd Stop)
-    → Told hash known next line taken → messages ≡ next.messages → message ≡ last_accepted taken messages → IfOk result (λ end. end ≡ end_of taken)
+pub turn-told : (hash : Hash) (number : ℕ) (line : List ℕ) (known next : Known) (taken : Option Taken) (messages : List Message) (out message : Option Message) (from to : WrittenAndKept) (result : Result LineEnd Stop)
+    → Told hash known next line taken out → messages ≡ next.messages → message ≡ last_accepted taken messages out → IfOk result (λ end. end ≡ end_of taken)
     → OnOk result (WritesAndKeeps (taken_line number taken) (message_text message) from to) → IfOk result (λ end. LineTurn hash number line end known next from to)
-turn-told hash number line known next taken messages message from to (Ok end) told lent last e adds = turn-of hash number line known next taken messages message end from to told lent last e adds
-turn-told hash number line known next taken messages message from to (Err stop) told lent last e adds = tt
+turn-told hash number line known next taken messages out message from to (Ok end) told lent last e adds = turn-of hash number line known next taken messages out message end from to told lent last e adds
+turn-told hash number line known next taken messages out message from to (Err stop) told lent last e adds = tt
 
 -- it was told in part
-pub half-told : (hash : Hash) (number : ℕ) (line : List ℕ) (known next : Known) (taken : Option Taken) (messages : List Message) (message : Option Message) (from to : WrittenAndKept)
-    → Told hash known next line taken → messages ≡ next.messages → message ≡ last_accepted taken messages
+pub half-told : (hash : Hash) (number : ℕ) (line : List ℕ) (known next : Known) (taken : Option Taken) (messages : List Message) (out message : Option Message) (from to : WrittenAndKept)
+    → Told hash known next line taken out → messages ≡ next.messages → message ≡ last_accepted taken messages out
     → AddsPart (taken_line number taken) (message_text message) from to → HalfTurn hash number line known from to
-half-told hash number line known next taken messages message from to (v, is, answer, follows) lent last adds = record {
+half-told hash number line known next taken messages out message from to (v, is, answer, follows, hands) lent last adds = record {
   verdict = v;
   is = is;
-  tells = subst (λ (ts : List (List ℕ)). AddsPart (verdict_line number v) ts from to) (kept-told known next taken messages message v answer follows lent last)
+  tells = subst (λ (ts : List (List ℕ)). AddsPart (verdict_line number v) ts from to) (kept-told known next taken messages out message v answer follows hands lent last)
       (subst (λ (t : Option Taken). AddsPart (taken_line number t) (message_text message) from to) answer adds);
 }
 
 -- its message was accepted
-pub accepted-told : (hash : Hash) (line : List ℕ) (known next : Known) (taken : Option Taken) (messages : List Message) (message : Option Message)
-    → Told hash known next line taken → message ≡ last_accepted taken messages → (m : Message) × (message ≡ Some m) → (m : Message) × IsVerdict hash known line (Accepted m)
-accepted-told hash line known next taken messages message (v, is, answer, follows) last (m, some) =
-    let found = accepted-is v messages m (ap (λ (t : Option Taken). last_accepted t messages) (sym answer) ∙ sym last ∙ some) in
+pub accepted-told : (hash : Hash) (line : List ℕ) (known next : Known) (taken : Option Taken) (messages : List Message) (out message : Option Message)
+    → Told hash known next line taken out → message ≡ last_accepted taken messages out → (m : Message) × (message ≡ Some m) → (m : Message) × IsVerdict hash known line (Accepted m)
+accepted-told hash line known next taken messages out message (v, is, answer, follows, hands) last (m, some) =
+    let found = accepted-is v messages out m (ap (λ (t : Option Taken). last_accepted t messages out) (sym answer) ∙ sym last ∙ some) in
     (found.0, subst (λ (w : Verdict). IsVerdict hash known line w) found.1 is)
 
 -- the lines of a stream before its rest were judged from what is known on, none of them a fork, told and kept

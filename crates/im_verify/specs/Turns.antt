@@ -53,12 +53,14 @@ abbrev pub message_text : Option Message → List (List ℕ)
 message_text None = []
 message_text (Some message) = text message ∷ []
 
--- the message that an answer accepted, of a client that then has these messages: the last one
-abbrev pub last_accepted : Option Taken → List Message → Option Message
-last_accepted None messages = None
-last_accepted (Some (took.Accepted shown)) messages = slice_get messages (length messages - 1)
-last_accepted (Some (took.Refused fault)) messages = None
-last_accepted (Some (took.Forked x y)) messages = None
+-- the message that an answer accepted, of a client that then keeps these messages: the one that it doesn't keep, if there is
+-- one, and else the last one
+abbrev pub last_accepted : Option Taken → List Message → Option Message → Option Message
+last_accepted None messages unkept = None
+last_accepted (Some (took.Accepted shown)) messages None = slice_get messages (length messages - 1)
+last_accepted (Some (took.Accepted shown)) messages (Some message) = Some message
+last_accepted (Some (took.Refused fault)) messages unkept = None
+last_accepted (Some (took.Forked x y)) messages unkept = None
 
 -- how lines end of which none was forked, by whether one was refused
 abbrev pub end_by : Bool → LineEnd

@@ -13,7 +13,7 @@ use im_digest::Hash32;
 use im_edge::keeper::Keeper;
 use im_edge::sink::{Sink, write_all};
 use im_facts::clients::FactClient;
-use im_facts::taken::Taken;
+use im_facts::taken::{LineTaking, Taken};
 use im_facts::texts::taken_text;
 use im_text::cuts::first_line;
 use im_wire::messages::Message;
@@ -67,12 +67,19 @@ fn end_by(refused: bool) -> LineEnd
     }
 }
 
-// The message that an answer accepted: the last one of the client.
-fn accepted_last<'m>(messages: &'m [Message], taken: &Option<Taken>) -> Option<&'m Message>
-    ensures { option_copied result ≡ last_accepted taken.now messages.now }
+// The message that an answer accepted: the one that the client doesn't keep, if there is one, and else its last one.
+fn accepted_last<'m>(
+    messages: &'m [Message],
+    taken: &Option<Taken>,
+    unkept: &'m Option<Message>,
+) -> Option<&'m Message>
+    ensures { option_copied result ≡ last_accepted taken.now messages.now unkept.now }
 {
     match taken {
-        Some(Taken::Accepted { .. }) => messages.last(),
+        Some(Taken::Accepted { .. }) => match unkept {
+            Some(message) => Some(message),
+            None => messages.last(),
+        },
         _ => None,
     }
 }
@@ -153,10 +160,12 @@ fn take_line<H: Hash32, K: Sink, P: Keeper>(
     ensures sink_once { K.faults sink.new ≤ K.faults sink.old + 1 }
     ensures keeper_once { P.faults keeper.new ≤ P.faults keeper.old + 1 }
 {
-    let taken = client.take_line(alloc, line)?;
-    let message = accepted_last(client.messages(), &taken);
+    let taking = client.take_line_out(alloc, line)?;
+    let LineTaking { taken, unkept } = taking;
+    let message = accepted_last(client.messages(), &taken, &unkept);
     let end = keep_and_tell(alloc, sink, keeper, number, &taken, message);
     drop(taken);
+    drop(unkept);
     end
 }
 

@@ -69,8 +69,8 @@ fn verify_octets<H: Hash32, K: Sink, P: Keeper>(
 /// unlike a kept one, is told with two unequal strings of one digest, and ends the run. Nothing is written and nothing
 /// kept before the stream was read and the kept lines were taken.
 ///
-/// The stream, the kept lines and all accepted messages are held in memory. Each line is read and checked once, and costs what
-/// `FactClient::take_line` says; the sink gets the text of each that isn't passed over, and the keeper one line for each accepted
+/// The stream, the kept lines, and each accepted message that showed something new or moved the state are held in memory. Each
+/// line is read and checked once, and costs what `FactClient::take_line` says; the sink gets the text of each that isn't passed over, and the keeper one line for each accepted
 /// message.
 pub fn verify<H: Hash32, S: Source, K: Sink, P: Keeper>(
     alloc: Global,

@@ -11,8 +11,8 @@ returns-clause-ok g c =
     let from : WrittenAndKept = done (g.K.Sink.written c.args.sink.now) (g.P.Keeper.kept c.args.keeper.now) in
     let to : WrittenAndKept = done (g.K.Sink.written c.keep_and_tell-end.new.sink) (g.P.Keeper.kept c.keep_and_tell-end.new.keeper) in
     let message : Option Message = option_copied c.accepted_last-message.result in
-    turn-told hash c.args.number c.args.line.now c.args.client.now.known c.take_line.new.self.known c.in_ok-taken.taken c.messages.result.now message from to c.keep_and_tell-end.result
-    c.in_ok-taken.ensures.told c.messages.ensures c.accepted_last-message.ensures c.keep_and_tell-end.ensures.end c.keep_and_tell-end.ensures.ok
+    turn-told hash c.args.number c.args.line.now c.args.client.now.known c.take_line_out.new.self.known c.in_ok-taking.taking.taken c.messages.result.now c.in_ok-taking.taking.unkept message from to c.keep_and_tell-end.result
+    c.in_ok-taking.ensures.told c.messages.ensures c.accepted_last-message.ensures c.keep_and_tell-end.ensures.end c.keep_and_tell-end.ensures.ok
 
 pub returns-clause-part : goal.returns-clause-part
 returns-clause-part g c = λ e.
@@ -20,12 +20,12 @@ returns-clause-part g c = λ e.
     let from : WrittenAndKept = done (g.K.Sink.written c.args.sink.now) (g.P.Keeper.kept c.args.keeper.now) in
     let to : WrittenAndKept = done (g.K.Sink.written c.keep_and_tell-end.new.sink) (g.P.Keeper.kept c.keep_and_tell-end.new.keeper) in
     let message : Option Message = option_copied c.accepted_last-message.result in
-    half-told hash c.args.number c.args.line.now c.args.client.now.known c.take_line.new.self.known c.in_ok-taken.taken c.messages.result.now message from to
-    c.in_ok-taken.ensures.told c.messages.ensures c.accepted_last-message.ensures (c.keep_and_tell-end.ensures.part e)
+    half-told hash c.args.number c.args.line.now c.args.client.now.known c.take_line_out.new.self.known c.in_ok-taking.taking.taken c.messages.result.now c.in_ok-taking.taking.unkept message from to
+    c.in_ok-taking.ensures.told c.messages.ensures c.accepted_last-message.ensures (c.keep_and_tell-end.ensures.part e)
 
 pub returns-clause-accepted : goal.returns-clause-accepted
 returns-clause-accepted g c = λ e.
     let hash : List ℕ → List ℕ = g.H.Hash32.digest c.args.client.now.hash in
     let message : Option Message = option_copied c.accepted_last-message.result in
-    accepted-told hash c.args.line.now c.args.client.now.known c.take_line.new.self.known c.in_ok-taken.taken c.messages.result.now message
-    c.in_ok-taken.ensures.told c.accepted_last-message.ensures (c.keep_and_tell-end.ensures.accepted e)
+    accepted-told hash c.args.line.now c.args.client.now.known c.take_line_out.new.self.known c.in_ok-taking.taking.taken c.messages.result.now c.in_ok-taking.taking.unkept message
+    c.in_ok-taking.ensures.told c.accepted_last-message.ensures (c.keep_and_tell-end.ensures.accepted e)
