@@ -94,7 +94,8 @@ impl MemDisk {
 
     /// Lends the files as they were at first, as they were given.
     pub fn first(&self) -> &[Octets]
-        ensures { result.now ≡ self.now.first }
+        ensures value { result.now ≡ self.now.first }
+        ensures few { length result.now ≤ 16 }
     {
         &self.first
     }

@@ -10,7 +10,8 @@ use im_disk::calls::Call;
 use im_octet::octets::Octets;
 
 /// Whether a crash may leave an image of a disk, whose files were at first `first`, and whose
-/// changing calls were `calls`, the first one first. An image is the octets of each of its files.
+/// changing calls were `calls`, the first one first. Files behind the first ones were empty. An image is the
+/// octets of each of its sixteen files.
 ///
 /// Between two syncs each written range, and what lies past the old end up to the furthest written
 /// octet, may hold any octets after a crash, and the length may be any between; the octets
@@ -21,7 +22,7 @@ use im_octet::octets::Octets;
 /// each file, and again for each stretch of it that lies in one written range or in none: its time
 /// is linear in the octets, and quadratic in the number of calls.
 pub fn may_leave(first: &[Octets], calls: &[Call], image: &[Octets]) -> bool
-    requires first { length first.now ≡ 16 }
+    requires first { length first.now ≤ 16 }
     requires image { length image.now ≡ 16 }
     requires within { AreWithin (files_of first.now) (reverse calls.now) }
     ensures { IsTrue result ↔ Images (told_of first.now calls.now) (files_of image.now) }
@@ -37,8 +38,7 @@ pub fn may_leave(first: &[Octets], calls: &[Call], image: &[Octets]) -> bool
 
 // Whether a file may remain so, which the calls until a sync made durable, and those since wrote.
 fn may_remain(first: &[Octets], until: &[Call], since: &[Call], file: u8, left: &[u8]) -> bool
-    requires file { file < length first.now }
-    requires within { AreWithin (files_of first.now) (reverse until.now) }
+    requires { AreWithin (files_of first.now) (reverse until.now) }
     ensures { IsTrue result ↔ MayRemain (seen_after (files_of first.now) (reverse until.now) file)
         (ranges_of (reverse since.now) file) left.now }
 {
@@ -59,7 +59,6 @@ fn stays(
     len: usize,
     left: &[u8],
 ) -> bool
-    requires file { file < length first.now }
     requires within { AreWithin (files_of first.now) (reverse until.now) }
     requires len { len ≡ length (seen_after (files_of first.now) (reverse until.now) file) }
     requires long { len ≤ length left.now }

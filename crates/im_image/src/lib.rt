@@ -1,4 +1,4 @@
-//! What a crash may leave of a disk, decided by comparing. It is for tests: no program calls it.
+//! What a crash may leave of a disk, decided by comparing.
 #![tactic(auto)]
 
 pub mod images;

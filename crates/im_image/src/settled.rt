@@ -34,14 +34,24 @@ pub fn piece_of(call: &Call, file: u8) -> Option<WrittenPiece<'_>>
     }
 }
 
+// The octets of a file at first: none where it isn't among those given.
+fn octets_of(first: &[Octets], file: u8) -> &[u8]
+    ensures { result.now ≡ files_of first.now file }
+{
+    match first.get(file as usize) {
+        Some(octets) => octets.as_slice(),
+        None => &[],
+    }
+}
+
 /// The length that reads give of a file after these calls, or none where it doesn't fit 64 bits.
 pub fn settled_len(first: &[Octets], calls: &[Call], file: u8) -> Option<usize>
-    requires file { file < length first.now }
-    requires within { AreWithin (files_of first.now) (reverse calls.now) }
+    requires { AreWithin (files_of first.now) (reverse calls.now) }
     ensures { SomeIff result (length (seen_after (files_of first.now) (reverse calls.now) file) < 2 ^ 64)
         (length (seen_after (files_of first.now) (reverse calls.now) file)) }
 {
-    let mut len = first[file as usize].len();
+    let octets = octets_of(first, file);
+    let mut len = octets.len();
     let mut rest = calls;
     while let Some((call, earlier)) = rest.split_last() {
         rest = earlier;
@@ -61,7 +71,6 @@ pub fn settled_octets<'a>(
     place: usize,
     room: usize,
 ) -> &'a [u8]
-    requires file { file < length first.now }
     requires within { AreWithin (files_of first.now) (reverse calls.now) }
     requires some { 0 < room }
     requires room { place + room ≤ length (seen_after (files_of first.now) (reverse calls.now) file) }
@@ -84,5 +93,6 @@ pub fn settled_octets<'a>(
             }
         }
     }
-    &first[file as usize].as_slice()[place..place + count]
+    let octets = octets_of(first, file);
+    &octets[place..place + count]
 }

@@ -16,7 +16,6 @@ const PLACES: u64 = 1 << 62;
 /// and at most the length that reads gave. It takes no memory, and time quadratic in the number of
 /// calls.
 pub fn are_within(first: &[Octets], calls: &[Call]) -> bool
-    requires { length first.now ≡ 16 }
     ensures { IsTrue result ↔ AreWithin (files_of first.now) (reverse calls.now) }
 {
     for n in 0..calls.len() {
@@ -29,8 +28,7 @@ pub fn are_within(first: &[Octets], calls: &[Call]) -> bool
 
 // Whether a disk takes a call behind these.
 fn fits_behind(first: &[Octets], earlier: &[Call], call: &Call) -> bool
-    requires first { length first.now ≡ 16 }
-    requires within { AreWithin (files_of first.now) (reverse earlier.now) }
+    requires { AreWithin (files_of first.now) (reverse earlier.now) }
     ensures { IsTrue result ↔ FitsBehind (files_of first.now) (reverse earlier.now) call.now }
 {
     match call {
@@ -43,8 +41,7 @@ fn fits_behind(first: &[Octets], earlier: &[Call], call: &Call) -> bool
 
 // Whether a disk may write a file at a place behind these calls.
 fn lies_behind(first: &[Octets], earlier: &[Call], file: u8, at: u64) -> bool
-    requires first { length first.now ≡ 16 }
-    requires within { AreWithin (files_of first.now) (reverse earlier.now) }
+    requires { AreWithin (files_of first.now) (reverse earlier.now) }
     ensures { IsTrue result ↔ LiesBehind (files_of first.now) (reverse earlier.now) file at }
 {
     if file >= FILES || at >= PLACES {

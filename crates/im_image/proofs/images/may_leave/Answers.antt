@@ -7,8 +7,8 @@ use Rattle.im_image.proofs.ImageLemmas.{image-remains, remains-by, remains-image
 use Rattle.im_image.proofs.PieceLemmas.{within-until}
 use Rattle.im_image.proofs.images.may_leave.Goals as goal
 
-pub may_remain-requires-clause-within : goal.may_remain-requires-clause-within
-may_remain-requires-clause-within c =
+pub may_remain-requires : goal.may_remain-requires
+may_remain-requires c =
     subst (λ (cs : List Call). AreWithin (files_of c.args.first.now) cs) (c.synced_calls.ensures.until ∙ ap (λ (cs : List Call). reverse cs) (sym c.split_at.ensures.front))
     (within-until (files_of c.args.first.now) (reverse c.args.calls.now) c.requires.within)
 

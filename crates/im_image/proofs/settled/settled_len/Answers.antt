@@ -1,5 +1,4 @@
-use Rattle.std.proofs.Common.{◌≡◌, length, reverse, [], arith, ap, ◌∙◌}
-use Rattle.std.proofs.lemmas.List.{get_or_read}
+use Rattle.std.proofs.Common.{◌≡◌, length, reverse, arith, ap, ◌∙◌}
 use Rattle.im_disk.specs.Disk.{seen_after}
 use Rattle.im_disk.specs.Records.{files_of}
 use Rattle.im_image.proofs.PieceLemmas.{long-begins, long-ends}
@@ -7,8 +6,8 @@ use Rattle.im_image.proofs.settled.settled_len.Goals as goal
 
 pub loop-call-init : goal.loop-call-init
 loop-call-init c =
-    long-begins (files_of c.args.first.now) c.args.calls.now c.args.file c.len-len.result c.requires.within (omega arith)
-    (c.len-len.ensures ∙ ap length (get_or_read c.args.first.now c.args.file c.index-first-file.result c.requires.file c.index-first-file.is []))
+    long-begins (files_of c.args.first.now) c.args.calls.now c.args.file c.len-len.result c.requires (omega arith)
+    (c.len-len.ensures ∙ ap length c.octets_of-octets.ensures)
 
 pub returns : goal.returns
 returns c =
