@@ -15,6 +15,7 @@ ghost use Rattle.im_journal.specs.Phases.{ReadsAll};
 ghost use Rattle.im_journal.specs.Pieces.{pieces_of};
 ghost use Rattle.im_journal.specs.declared.batches.Step.TheVariants.{Idle, Staging, Staged, Sealed, Gated};
 
+mod foretold;
 mod reading;
 mod single;
 
