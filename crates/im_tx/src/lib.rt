@@ -1,6 +1,7 @@
-//! What is asked to be placed: drafts become entries within the limits with distinct keys.
+//! What is asked to be placed: drafts become entries within the limits with distinct keys. Copies of it, and of transactions.
 #![tactic(auto)]
 
+pub mod copies;
 mod distinct;
 pub mod laws;
 mod lengths;

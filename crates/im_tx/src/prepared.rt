@@ -1,5 +1,7 @@
+use crate::copies::{copy_of_entries, copy_of_pres};
 use im_draft::preconditions::{Pre, Pres};
 use im_model::entries::{Entries, Entry};
+use std::alloc::{AllocError, Global};
 use std::marker::Model;
 
 /// What may be placed: 1 to 1024 entries within the limits with distinct keys, and preconditions.
@@ -20,7 +22,7 @@ impl Model for Prepared {
 }
 
 impl Prepared {
-    ghost use Rattle.std.specs.Prelude.{◌≡◌};
+    ghost use Rattle.std.specs.Prelude.{◌≡◌, IfOk};
     ghost use Rattle.im_tx.specs.Asked.{IsAsked};
 
     // These entries and preconditions, which the caller has tested.
@@ -45,6 +47,15 @@ impl Prepared {
         ensures asked { IsAsked self.now }
     {
         self.pres.as_slice()
+    }
+
+    /// A copy, of the entries and the preconditions. Its only error is want of memory.
+    pub fn try_clone(&self, alloc: Global) -> Result<Self, AllocError>
+        ensures { IfOk result (λ prepared. prepared ≡ self.now) }
+    {
+        let entries = copy_of_entries(alloc, self.entries())?;
+        let pres = copy_of_pres(alloc, self.pres())?;
+        Ok(Prepared::new(entries, pres))
     }
 
     /// Gives the entries and the preconditions back. It takes no memory.
