@@ -85,8 +85,9 @@ batches-by hash image (suc most) gate r (batch ∷ batches) enough h =
     ∙ ap (λ (p : ℕ). batch ∷ batches_from image most (gate + 25) p) (records-read hash image r batch h.0.records).place
     ∙ ap (λ (bs : List (List Record)). batch ∷ bs) (batches-by hash image most (gate + 25) (grown_by r batch) batches (omega (arith, enough)) h.1)
 
+pub batches-read : (hash : Hash) (image : Files) (history : List Transaction) → Has32 hash → (s : Stands hash image history) → batches_in image ≡ s.batches
+batches-read hash image history long s = batches-by hash image (length (image 1)) 0 at_first s.batches (omega arith) (stands-holds hash image history long s)
+
 -- so the image has all that stands of those that are read
 pub batches-there : (hash : Hash) (image : Files) (history : List Transaction) → Has32 hash → Stands hash image history → HasBatches image (batches_in image)
-batches-there hash image history long s =
-    subst (HasBatches image)
-    (sym (batches-by hash image (length (image 1)) 0 at_first s.batches (omega arith) (stands-holds hash image history long s))) s.there
+batches-there hash image history long s = subst (HasBatches image) (sym (batches-read hash image history long s)) s.there

@@ -20,6 +20,10 @@ use Rattle.im_opening.specs.Parts.{batches_in}
 use Rattle.im_opening.specs.Reach.{txs_of}
 use Rattle.im_opening.specs.declared.reading.Opened.{Opened}
 use Rattle.im_format.proofs.HeldRecords.{Has32}
+use Rattle.im_format.proofs.StandReads.{stands-read}
+use Rattle.im_format.specs.Standing.{Stands}
+use Rattle.im_model.specs.declared.transactions.Transaction.{Transaction}
+use Rattle.im_opening.proofs.BatchesSame.{batches-read}
 
 held-safe : (batches : List (List Record)) (ends : Ends) (image : Files) → IsHeld batches ends image
     → IsSafe (end_of ends) (spans_of batches) (gate_of (length batches)) image
@@ -60,6 +64,23 @@ if-kept : (batches : List (List Record)) (ends : Ends) (o : Option Told) → IfS
 if-kept batches ends None h = tt
 if-kept batches ends (Some t) h = kept-rests batches ends t h
 
+-- those that are read of a disk that tells this
+record RestsIn (hash : Hash) (t : Told) (now : Option Told) (opened : Opened) : Type 0 where
+  pub first : AreFirst hash (txs_of opened.found.records.items) (batches_in (seen t)) (length opened.found.records.items) opened.ends
+  pub resting : IfSome now (IsResting (batches_in (seen t)) opened.ends)
+
+rests-in : (hash : Hash) (t : Told) (now : Option Told) (opened : Opened) → Has32 hash → AreOpened hash (Some t) now opened → RestsIn hash t now opened
+rests-in hash t now opened long h =
+    let given = h.given in
+    let read = given.read t refl in
+    let there = given.there t refl in
+    record {
+      first =
+          first-of hash opened.found.records.items (batches_in (seen t)) opened.batches opened.ends long given.found.history given.found.records
+          (sym read.batches.records_are) (sym read.batches.batches_are) there.batches.filled given.placed;
+      resting = if-kept (batches_in (seen t)) opened.ends now (h.kept t refl);
+    }
+
 pub rests-with : (hash : Hash) (was now : Option Told) (opened : Opened) → Has32 hash → AreOpened hash was now opened → Rests hash now opened
 rests-with hash None now opened long h =
     let given = h.given in
@@ -73,15 +94,24 @@ rests-with hash None now opened long h =
       resting = subst P (sym h.calls) tt;
     }
 rests-with hash (Some t) now opened long h =
-    let given = h.given in
-    let read = given.read t refl in
-    let there = given.there t refl in
-    let batches = batches_in (seen t) in
+    let rests = rests-in hash t now opened long h in
+    record { batches = batches_in (seen t); joined_is = sym (h.given.read t refl).batches.records_are; first = rests.first; resting = rests.resting }
+
+-- they are those by which the files of the disk stood for their history
+pub record RestsBy (hash : Hash) (history : List Transaction) (batches : List (List Record)) (now : Option Told) (opened : Opened) : Type 0 where
+  pub first : AreFirst hash history batches (length opened.found.records.items) opened.ends
+  pub resting : IfSome now (IsResting batches opened.ends)
+
+pub rests-by : (hash : Hash) (was now : Option Told) (opened : Opened) (t : Told) (history : List Transaction) → Has32 hash → AreOpened hash was now opened → was ≡ Some t
+    → (stands : Stands hash (seen t) history) → RestsBy hash history stands.batches now opened
+rests-by hash was now opened t history long h is stands =
+    let told : AreOpened hash (Some t) now opened = subst (λ (o : Option Told). AreOpened hash o now opened) is h in
+    let rests = rests-in hash t now opened long told in
+    let read : txs_of opened.found.records.items ≡ history = (told.given.read t refl).transactions_are ∙ (stands-read hash (seen t) history long stands).1 in
+    let same : batches_in (seen t) ≡ stands.batches = batches-read hash (seen t) history long stands in
     record {
-      batches = batches;
-      joined_is = sym read.batches.records_are;
       first =
-          first-of hash opened.found.records.items batches opened.batches opened.ends long given.found.history given.found.records
-          (sym read.batches.records_are) (sym read.batches.batches_are) there.batches.filled given.placed;
-      resting = if-kept batches opened.ends now (h.kept t refl);
+          subst (λ (l : List Transaction). AreFirst hash l stands.batches (length opened.found.records.items) opened.ends) read
+          (subst (λ (b : List (List Record)). AreFirst hash (txs_of opened.found.records.items) b (length opened.found.records.items) opened.ends) same rests.first);
+      resting = subst (λ (b : List (List Record)). IfSome now (IsResting b opened.ends)) same rests.resting;
     }

@@ -3,6 +3,7 @@ ghost use Rattle.im_disk.specs.Disk.{Told, seen};
 ghost use Rattle.im_disk.specs.Grown.{Grows};
 ghost use Rattle.im_format.specs.Damages.{image_checks};
 ghost use Rattle.im_format.specs.Standing.{Stands};
+ghost use Rattle.im_journal.specs.Kept.{IsAtRest};
 ghost use Rattle.im_journal.specs.declared.batches.Step.TheVariants.{Idle};
 ghost use Rattle.im_model.specs.declared.transactions.Transaction.{Transaction};
 ghost use Rattle.im_opening.specs.Answers.{HasOpenCause, Judges};
@@ -78,6 +79,9 @@ pub fn open<D: Disk, H: Hash32>(
 ) -> Result<Recovered<D>, OpenFailed<D>>
     ensures opens { IfOk result (λ r. Opens D.told D.faults (H.digest hash.now) disk r.journal.disk r.journal.ends.commits (txs_of r.found.records.items)) }
     ensures rests { IfOk result (λ r. IsFound D.told (H.digest hash.now) r.journal r.found.records.items) }
+    // Its batches are those by which the files stood for the history.
+    ensures held { (t : Told) (history : List Transaction) → D.told disk ≡ Some t → (stands : Stands (H.digest hash.now) (seen t) history)
+        → IfOk result (λ r. IsAtRest D.told (H.digest hash.now) history stands.batches r.journal) }
     ensures found { IfOk result (λ r. IsOneHistory (H.digest hash.now) r.found) }
     ensures fresh { IfOk result (λ r. (r.journal.failures ≡ 0) × (r.journal.batch.step ≡ Idle)) }
     ensures failed { IfErr result (λ failed. FailsToOpen D.told D.faults (H.digest hash.now) disk failed.disk failed.error) }

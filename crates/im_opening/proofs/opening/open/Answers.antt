@@ -5,7 +5,7 @@ use Rattle.im_journal.specs.declared.ends.Ends.{Ends}
 use Rattle.im_opening.specs.Opens.{AreOpened, Opens}
 use Rattle.im_opening.specs.Reach.{txs_of}
 use Rattle.im_format.proofs.HeldRecords.{Has32}
-use Rattle.im_opening.proofs.FoundLemmas.{Rests, rests-with}
+use Rattle.im_opening.proofs.FoundLemmas.{Rests, RestsBy, rests-by, rests-with}
 use Rattle.im_opening.proofs.OpensLemmas.{fails-by, fault-by, opens-by, others-by}
 use Rattle.im_opening.proofs.opening.open.Goals as goal
 
@@ -39,6 +39,18 @@ returns-clause-rests g c =
       rests = c.resume-journal.ensures.rests hash (txs_of records) rests.batches (subst F (sym many) rests.first) rests.resting;
       all = c.resume-journal.ensures.given.2 ∙ many;
     }
+
+pub returns-clause-held : goal.returns-clause-held
+returns-clause-held g c t history is stands =
+    let hash = g.H.Hash32.digest c.args.hash.now in
+    let opened = c.in-Ok.opened in
+    let long : Has32 hash = record { long = g.met.H.Hash32.size c.args.hash.now } in
+    let records = opened.found.records.items in
+    let rests : RestsBy hash history stands.batches (g.D.Disk.told c.open_files.new.disk) opened =
+    rests-by hash (g.D.Disk.told c.args.disk) (g.D.Disk.told c.open_files.new.disk) opened t history long c.in-Ok.ensures.opened is stands in
+    let many : c.len-durable.result ≡ length records = omega (arith, c.len-durable.ensures, opened.found.records.ok) in
+    let F : ℕ → Type 0 = λ n. AreFirst hash history stands.batches n opened.ends in
+    c.resume-journal.ensures.rests hash history stands.batches (subst F (sym many) rests.first) rests.resting
 
 pub returns-clause-fresh : goal.returns-clause-fresh
 returns-clause-fresh g c = (c.resume-journal.ensures.going, (returns-clause-rests g c).rests.idle)
