@@ -77,9 +77,12 @@ front-dual hash source target alhs inners n some before end within =
     let size : ℕ = target.bl_tx_id in
     let short : List (List ℕ) = take n alhs in
     let leaves : take size short ≡ take size alhs = take-take size n alhs within in
-    let of_inclusion = ap (λ (l : List (List ℕ)). if nat_lt s size then path_of hash l (s - 1) else []) leaves in
-    let of_consistency = ap (λ (l : List (List ℕ)). if nat_eq old 0 then [] else consistency hash l old) leaves in
-    let of_last = ap (λ (l : List (List ℕ)). if nat_eq size 0 then [] else path_of hash l (size - 1)) leaves in
+    let of_inclusion : (if nat_lt s size then path_of hash (take size short) (s - 1) else []) ≡ (if nat_lt s size then path_of hash (take size alhs) (s - 1) else []) =
+    ap (λ (l : List (List ℕ)). if nat_lt s size then path_of hash l (s - 1) else []) leaves in
+    let of_consistency : (if nat_eq old 0 then [] else consistency hash (take size short) old) ≡ (if nat_eq old 0 then [] else consistency hash (take size alhs) old) =
+    ap (λ (l : List (List ℕ)). if nat_eq old 0 then [] else consistency hash l old) leaves in
+    let of_last : (if nat_eq size 0 then [] else path_of hash (take size short) (size - 1)) ≡ (if nat_eq size 0 then [] else path_of hash (take size alhs) (size - 1)) =
+    ap (λ (l : List (List ℕ)). if nat_eq size 0 then [] else path_of hash l (size - 1)) leaves in
     let of_alh = if-same (nat_eq size 0) no_digest (get_or short (size - 1) []) no_digest (get_or alhs (size - 1) []) (λ is. refl)
     (λ is. let some_leaf : size ≡ 0 → ⊥ = eqb-false size 0 is in get_or-take n alhs (size - 1) [] (omega (arith, some_leaf, within))) in
     let of_linear = if-same (nat_lt s size) (linear_terms short (take n inners) size target.id) (linear_terms short (take n inners) s target.id)
