@@ -6,5 +6,6 @@ mod advance;
 pub mod anchors;
 pub mod build;
 pub mod check;
+pub mod entries;
 pub mod headers;
 pub mod laws;

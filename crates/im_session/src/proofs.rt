@@ -17,11 +17,9 @@ ghost use Rattle.im_ledger.specs.Ledgers.{IsLedger};
 use im_digest::Hash32;
 use im_dual::anchors::anchor_between;
 use im_dual::build::build;
-use im_entry::digests::digests_of;
+use im_dual::entries::entry_and_path;
 use im_ledger::ledger::Ledger;
 use im_model::entries::Entry;
-use im_mtree::digests::Digests;
-use im_mtree::paths::path;
 use im_proof::proofs::DualProof;
 use im_report::replies::{beyond_text, no_entry_text, order_text};
 use im_wire::messages::Message;
@@ -151,23 +149,6 @@ pub(crate) fn advance_text<H: Hash32>(
     let dual = dual_between(alloc, hash, ledger, s, t)?;
     let anchor = anchor(alloc, hash, ledger, s, t)?;
     message_text(alloc, Message::Advance { dual, anchor })
-}
-
-// An entry of these, and its path among them.
-fn entry_and_path<H: Hash32>(
-    alloc: Global,
-    hash: &H,
-    entries: &[Entry],
-    index: u32,
-) -> Result<(Entry, Digests), AllocError>
-    requires { index < length entries.now }
-    ensures entry { IfOk result (λ shown. shown.0 ≡ slice_index_or entries.now index no_entry) }
-    ensures path { IfOk result (λ shown. shown.1 ≡ path_of (H.digest hash.now) (map (entry_digest (H.digest hash.now)) entries.now) index) }
-{
-    let digests = digests_of(alloc, hash, entries)?;
-    let path = path(alloc, hash, digests.as_slice(), index as usize)?;
-    let entry = entries[index as usize].try_clone(alloc)?;
-    Ok((entry, path))
 }
 
 // An entry of these and its path among them, with the dual proof from their transaction.

@@ -3,7 +3,7 @@ use Rattle.std.proofs.lemmas.List.{get_or_default, reverse-reverse}
 use Rattle.im_digest.specs.Digests.{Hash}
 use Rattle.im_mtree.specs.Inclusion.{inclusion}
 use Rattle.im_proof.specs.Between.{no_entry}
-use Rattle.im_session.proofs.proofs.entry_and_path.Goals as goal
+use Rattle.im_dual.proofs.entries.entry_and_path.Goals as goal
 
 pub returns-clause-entry : goal.returns-clause-entry
 returns-clause-entry g c =
