@@ -8,6 +8,7 @@ pub mod Mids
 pub mod Parts
 pub mod Placing
 pub mod Prefixes
+pub mod Rooms
 pub mod Same
 pub mod Shown
 pub mod Single

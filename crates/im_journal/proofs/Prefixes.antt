@@ -7,7 +7,7 @@ use Rattle.im_model.specs.History.{alh_of, alhs_from, first_alh, next_header}
 use Rattle.im_model.proofs.HeaderLemmas.{alhs_from-first}
 use Rattle.im_model.specs.declared.transactions.Transaction.{Transaction}
 use Rattle.im_format.specs.Batches.{joined}
-use Rattle.im_format.specs.Places.{refs_of}
+use Rattle.im_format.specs.Places.{refs_of, AreAppended, ArePut}
 use Rattle.im_format.specs.Records.{AreRecords, record_octets, records_octets}
 use Rattle.im_format.specs.declared.records.Record.{Record}
 use Rattle.im_format.specs.declared.references.ValueRef.{ValueRef}
@@ -56,3 +56,16 @@ refs_more (r ∷ a) b = ap (λ (l : List ValueRef). r.refs ++ l) (refs_more a b)
 pub joined_more : (batches : List (List Record)) (batch : List Record) → joined (batches ++ batch ∷ []) ≡ joined batches ++ batch
 joined_more [] batch = append-nil batch
 joined_more (b ∷ bs) batch = ap (λ (l : List Record). b ++ l) (joined_more bs batch) ∙ sym (append_assoc b (joined bs) batch)
+
+-- the values of one transaction more
+pub put_more : (w id : ℕ) (before : List ValueRef) (rs : List Record) (r : Record) → ArePut w id before rs → AreAppended w (id + length rs) 0 (before ++ refs_of rs) r.refs → ArePut w id before (rs ++ r ∷ [])
+put_more w id before [] r put last =
+    let P : ℕ → Type 0 = λ n. AreAppended w n 0 before r.refs in
+    let Q : List ValueRef → Type 0 = λ b. AreAppended w (id + 0) 0 b r.refs in
+    let same : id + 0 ≡ id = omega arith in
+    (subst P same (subst Q (append-nil before) last), tt)
+put_more w id before (x ∷ rs) r put last =
+    let P : ℕ → Type 0 = λ n. AreAppended w n 0 ((before ++ x.refs) ++ refs_of rs) r.refs in
+    let Q : List ValueRef → Type 0 = λ b. AreAppended w (id + length (x ∷ rs)) 0 b r.refs in
+    let same : id + length (x ∷ rs) ≡ id + 1 + length rs = omega arith in
+    (put.0, put_more w (id + 1) (before ++ x.refs) rs r put.1 (subst P same (subst Q (sym (append_assoc before x.refs (refs_of rs))) last)))

@@ -1,39 +1,19 @@
--- Where the values of the next transaction are put.
+-- The record of the next transaction, and its references.
 use Rattle.std.proofs.Common.{◌≡◌, ◌<◌, ◌+◌, ℕ, zero, suc, List, [], ◌∷◌, length, get_or, refl, arith, ap, subst, sym, ◌∙◌}
 use Rattle.im_digest.specs.Digests.{Hash}
 use Rattle.im_format.specs.Batches.{joined}
-use Rattle.im_format.specs.Places.{AreAppended, log_end, refs_of}
+use Rattle.im_format.specs.Places.{AreAppended, refs_of}
 use Rattle.im_format.specs.Records.{AreReferences}
 use Rattle.im_format.specs.declared.records.Record.{Record}
 use Rattle.im_format.specs.declared.references.ValueRef.{ValueRef}
-use Rattle.im_journal.specs.Holding.{AreFirst, ends_of}
+use Rattle.im_journal.specs.Holding.{AreFirst}
 use Rattle.im_journal.specs.declared.ends.Ends.{Ends}
-use Rattle.im_journal.proofs.Limits.{first_number}
 use Rattle.im_model.specs.Headers.{alh}
 use Rattle.im_model.specs.History.{next_header}
 use Rattle.im_model.specs.declared.entries.Entry.{Entry}
 use Rattle.im_model.specs.declared.headers.Header.{Header}
 use Rattle.im_model.specs.declared.transactions.Transaction.{Transaction}
-use Rattle.im_vlog.specs.Ends.{AreEnds, HaveRoom}
-use Rattle.im_vlog.proofs.RoomLemmas.{records_have_room}
 use Rattle.im_ledger.specs.Histories.{IsNextRecord, KeptHistory}
-
-module _ (hash : Hash) (history : List Transaction) (batches : List (List Record)) (durable : ℕ) (ends : Ends) (first : AreFirst hash history batches durable ends) where
-  ends-at : (n : ℕ) → n < 4 → get_or (ends_of batches).values n 0 ≡ log_end n (refs_of (joined batches))
-  ends-at zero lt = refl
-  ends-at (suc zero) lt = refl
-  ends-at (suc (suc zero)) lt = refl
-  ends-at (suc (suc (suc zero))) lt = refl
-  ends-at (suc (suc (suc (suc n)))) lt = absurd (omega (arith, lt))
-
-  -- the value logs end behind the values of the batches
-  pub ends-behind : AreEnds ends.values (refs_of (joined batches))
-  ends-behind = record { each = λ n lt. ap (λ (e : Ends). get_or e.values n 0) first.ends_are ∙ ends-at n lt }
-
-  -- and have room for the next one's
-  pub room-behind : HaveRoom (durable + 1) ends.values
-  room-behind = subst (λ (n : ℕ). HaveRoom (n + 1) ends.values) (first_number hash history batches durable ends first)
-      (records_have_room hash history (joined batches) ends.values first.records_are ends-behind)
 
 -- the record that is made for a transaction
 pub next-record : {D : Type 0} (hash : Hash) (v k : KeptHistory D) (tx : Transaction) (header : Header) (digest : List ℕ) (durable : ℕ) (ends : Ends) (refs : List ValueRef)

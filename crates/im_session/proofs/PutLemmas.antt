@@ -9,7 +9,7 @@ use Rattle.im_disk.proofs.Growing.{told_none}
 use Rattle.im_disk.proofs.Leaving.{if_told}
 use Rattle.im_model.specs.declared.transactions.Transaction.{Transaction}
 use Rattle.im_format.specs.Batches.{gate_of, joined, spans_of}
-use Rattle.im_format.specs.Places.{AreAppended, ArePut, refs_of}
+use Rattle.im_format.specs.Places.{AreAppended, refs_of}
 use Rattle.im_format.specs.Standing.{HasBatches, Stands}
 use Rattle.im_format.specs.declared.records.Record.{Record}
 use Rattle.im_format.specs.declared.references.ValueRef.{ValueRef}
@@ -20,25 +20,12 @@ use Rattle.im_journal.specs.Pieces.{end_of}
 use Rattle.im_journal.specs.declared.ends.Ends.{Ends}
 use Rattle.im_journal.proofs.Limits.{first_number}
 use Rattle.im_journal.proofs.Mids.{first_at}
-use Rattle.im_journal.proofs.Prefixes.{refs_more}
+use Rattle.im_journal.proofs.Prefixes.{put_more, refs_more}
 use Rattle.im_journal.proofs.Turns.{stands, stands_batches}
 use Rattle.im_ledger.specs.Commits.{CommitMakes}
 use Rattle.im_ledger.specs.Histories.{HasCommitted, IsKept, KeptHistory}
 use Rattle.im_session.specs.Put.{ArePutBehind, IsKeptPut, StandsPut}
 use Rattle.im_session.proofs.CallLemmas.{calls-grown}
-
--- the values of one transaction more
-put-more : (w id : ℕ) (before : List ValueRef) (rs : List Record) (r : Record) → ArePut w id before rs → AreAppended w (id + length rs) 0 (before ++ refs_of rs) r.refs → ArePut w id before (rs ++ r ∷ [])
-put-more w id before [] r put last =
-    let P : ℕ → Type 0 = λ n. AreAppended w n 0 before r.refs in
-    let Q : List ValueRef → Type 0 = λ b. AreAppended w (id + 0) 0 b r.refs in
-    let same : id + 0 ≡ id = omega arith in
-    (subst P same (subst Q (append-nil before) last), tt)
-put-more w id before (x ∷ rs) r put last =
-    let P : ℕ → Type 0 = λ n. AreAppended w n 0 ((before ++ x.refs) ++ refs_of rs) r.refs in
-    let Q : List ValueRef → Type 0 = λ b. AreAppended w (id + length (x ∷ rs)) 0 b r.refs in
-    let same : id + length (x ∷ rs) ≡ id + 1 + length rs = omega arith in
-    (put.0, put-more w (id + 1) (before ++ x.refs) rs r put.1 (subst P same (subst Q (sym (append_assoc before x.refs (refs_of rs))) last)))
 
 -- the records of batches, and of batches behind them
 joined-both : (a b : List (List Record)) → joined (a ++ b) ≡ joined a ++ joined b
@@ -68,7 +55,7 @@ behind-next w n batches r p last =
       batches_are = ap (λ (b : List (List Record)). b ++ one) p.batches_are ∙ append_assoc p.first ones one
           ∙ ap (λ (b : List (List Record)). p.first ++ b) (sym (map-append (λ (x : Record). x ∷ []) p.rest (r ∷ [])));
       found_are = p.found_are;
-      put = put-more w (n + 1) (refs_of (joined p.first)) p.rest r p.put (subst P number (subst Q refs last));
+      put = put_more w (n + 1) (refs_of (joined p.first)) p.rest r p.put (subst P number (subst Q refs last));
     }
 
 -- an image at rest stands for what is durable with these very batches
