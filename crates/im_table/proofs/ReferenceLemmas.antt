@@ -26,7 +26,7 @@ laid_more logs number before [] x h at =
 laid_more logs number before (y ∷ xs) x h at =
     let same : number + suc (length xs) ≡ number + 1 + length xs = omega arith in
     let here : AreAppended logs (number + suc (length xs)) 0 ((before ++ y.refs) ++ references_of xs) x.refs =
-        subst (λ (refs : List ValueRef). AreAppended logs (number + suc (length xs)) 0 refs x.refs) (sym (append_assoc before y.refs (references_of xs))) at in
+    subst (λ (refs : List ValueRef). AreAppended logs (number + suc (length xs)) 0 refs x.refs) (sym (append_assoc before y.refs (references_of xs))) at in
     (h.0, laid_more logs (number + 1) (before ++ y.refs) xs x h.1 (subst (λ (n : ℕ). AreAppended logs n 0 ((before ++ y.refs) ++ references_of xs) x.refs) same here))
 
 module _ (allows : List Item → Type 0) (logs : ℕ) where

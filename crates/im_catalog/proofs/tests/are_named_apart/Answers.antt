@@ -14,9 +14,11 @@ lent-name columns at column name found wanted is same lent kept =
 pub returns-then-has_name : goal.returns-then-has_name
 returns-then-has_name c =
     let columns = c.args.columns.now in
-    let column = c.index-columns-at.result in
-    (λ is. absurd (true≢false (sym is)), λ apart. absurd (names-not columns c.loop-at.at column c.loop-at-test.true
-        (lent-name columns c.loop-at.at column c.as_slice.result.now c.has_name.result _ c.has_name.ensures c.if-has_name.true c.as_slice.ensures c.index-columns-at.is) apart))
+    let column = c.index-columns-at.result in (
+      λ is. absurd (true≢false (sym is)),
+      λ apart. absurd (names-not columns c.loop-at.at column c.loop-at-test.true
+          (lent-name columns c.loop-at.at column c.as_slice.result.now c.has_name.result _ c.has_name.ensures c.if-has_name.true c.as_slice.ensures c.index-columns-at.is) apart),
+    )
 
 pub loop-at-preserved : goal.loop-at-preserved
 loop-at-preserved c =
