@@ -12,7 +12,7 @@ use Rattle.im_report.specs.Report.{Report}
 use Rattle.im_facts.specs.Verdicts.{Verdict}
 use Rattle.im_verify.specs.Judged.{IsVerified, NoneForked, NoneRefused, kept_texts, up_to_fork}
 use Rattle.im_session.specs.Turns.{HasTime}
-use Rattle.im_gen.specs.Generator.{accepted_of, line_text, placed_of, script_text}
+use Rattle.im_gen.specs.Generator.{accepted_of, told_line, placed_of, script_text}
 use Rattle.im_app.specs.Runs.{IsGiven}
 
 -- the Alh of the last transaction, that of the empty string where there is none
@@ -43,7 +43,7 @@ pub record IsGenerated (hash : Hash) (n : ℕ) (line : List ℕ) : Type 0 where
   pub judged : IsVerified hash [] octets verdicts
   pub none : NoneRefused verdicts × NoneForked verdicts
   pub accepted : length (kept_texts (up_to_fork verdicts)) ≡ accepted_of n
-  pub told : line ≡ line_text n (last_alh hash history)
+  pub told : line ≡ told_line n (last_alh hash history)
 
 -- that line was written, and nothing else
 pub record WritesGenerated (hash : Hash) (n : ℕ) (before now : Option (List ℕ)) : Type 0 where

@@ -1,7 +1,7 @@
 //! The line that `gen` writes.
 
 ghost use Rattle.std.specs.Prelude.{◌≡◌, ◌≤◌, IfOk};
-ghost use Rattle.im_gen.specs.Generator.{accepted_of, line_text, linked_of, placed_of};
+ghost use Rattle.im_gen.specs.Generator.{accepted_of, told_line, linked_of, placed_of};
 
 use im_text::writing::{push_hex, push_number};
 use std::alloc::{AllocError, Global};
@@ -33,7 +33,7 @@ pub fn accepted_of(n: u64) -> u64
 /// memory.
 pub fn line_of(alloc: Global, n: u64, alh: &[u8]) -> Result<Vec<u8>, AllocError>
     requires { n ≤ 100000 }
-    ensures { IfOk result (λ line. line.items ≡ line_text n alh.now) }
+    ensures { IfOk result (λ line. line.items ≡ told_line n alh.now) }
 {
     let mut line = Vec::new(alloc);
     push_number(alloc, &mut line, b"gen ", n)?;

@@ -2,7 +2,7 @@
 
 ghost use Rattle.std.specs.Prelude.{◌≡◌, ◌≤◌, ◌++◌, codes, IfOk, OnOk};
 ghost use Rattle.std.specs.Fmt.{decimal};
-ghost use Rattle.im_gen.specs.Generator.{asked_text, behind_text, key_number, next_state, own_text, script_text, source_of};
+ghost use Rattle.im_gen.specs.Generator.{advance_text, asked_text, behind_text, item_text, key_of, next_state, own_text, script_text, source_of};
 
 use im_text::writing::push_number;
 use std::alloc::{AllocError, Global};
@@ -20,8 +20,8 @@ fn next_state(x: u64) -> u64
 }
 
 // The number in a key.
-fn key_number(x: u64) -> u64
-    ensures { result ≡ key_number x }
+fn key_of(x: u64) -> u64
+    ensures { result ≡ key_of x }
 {
     x / 8_589_934_592 % 1000
 }
@@ -63,16 +63,34 @@ fn source_of(j: u64) -> u64
     if j == 1 { 1 } else { 60 * (j - 1) }
 }
 
-// Adds advance j, and an entry of its target.
+// Adds advance j.
+fn push_advance(alloc: Global, out: &mut Vec<u8>, j: u64) -> Result<(), AllocError>
+    requires some { 1 ≤ j }
+    requires few { j ≤ 1562 }
+    ensures { OnOk result (out.new.items ≡ out.old.items ++ advance_text j) }
+{
+    push_number(alloc, out, b"a: advance ", source_of(j))?;
+    push_number(alloc, out, b" ", 60 * j)?;
+    out.extend_from_slice(b"\n")
+}
+
+// Adds an entry of its target.
+fn push_item(alloc: Global, out: &mut Vec<u8>, j: u64) -> Result<(), AllocError>
+    requires { j ≤ 1562 }
+    ensures { OnOk result (out.new.items ≡ out.old.items ++ item_text j) }
+{
+    push_number(alloc, out, b"a: item ", 60 * j)?;
+    out.extend_from_slice(b" 0\n")
+}
+
+// Adds both.
 fn push_asked(alloc: Global, out: &mut Vec<u8>, j: u64) -> Result<(), AllocError>
     requires some { 1 ≤ j }
     requires few { j ≤ 1562 }
     ensures { OnOk result (out.new.items ≡ out.old.items ++ asked_text j) }
 {
-    push_number(alloc, out, b"a: advance ", source_of(j))?;
-    push_number(alloc, out, b" ", 60 * j)?;
-    push_number(alloc, out, b"\na: item ", 60 * j)?;
-    out.extend_from_slice(b" 0\n")
+    push_advance(alloc, out, j)?;
+    push_item(alloc, out, j)
 }
 
 // Adds what stands behind line i.
@@ -99,7 +117,7 @@ pub fn script_of(alloc: Global, n: u64) -> Result<Vec<u8>, AllocError>
     let mut state = 1;
     for i in 0..n {
         let next = next_state(state);
-        push_own(alloc, &mut text, i + 1, key_number(next))?;
+        push_own(alloc, &mut text, i + 1, key_of(next))?;
         push_behind(alloc, &mut text, i + 1)?;
         state = next;
     }
