@@ -1,4 +1,4 @@
-use Rattle.std.proofs.Common.{◌≡◌, length, reverse, arith, ap, ◌∙◌}
+use Rattle.std.proofs.Common.{◌≡◌, length, reverse, arith, ap}
 use Rattle.im_disk.specs.Disk.{seen_after}
 use Rattle.im_disk.specs.Records.{files_of}
 use Rattle.im_image.proofs.PieceLemmas.{long-begins, long-ends}
@@ -6,8 +6,7 @@ use Rattle.im_image.proofs.settled.settled_len.Goals as goal
 
 pub loop-call-init : goal.loop-call-init
 loop-call-init c =
-    long-begins (files_of c.args.first.now) c.args.calls.now c.args.file c.len-len.result c.requires (omega arith)
-    (c.len-len.ensures ∙ ap length c.octets_of-octets.ensures)
+    long-begins (files_of c.args.first.now) c.args.calls.now c.args.file (length c.octets_of-octets.result.now) c.requires (omega arith) (ap length c.octets_of-octets.ensures)
 
 pub returns : goal.returns
 returns c =
