@@ -1,5 +1,6 @@
 pub mod SumLemmas
 pub mod FrontLemmas
+pub mod HistoryLemmas
 pub mod NumberLemmas
 pub mod ReferenceLemmas
 pub mod KeepLemmas
@@ -7,3 +8,4 @@ pub mod LoadLemmas
 pub mod StoreLemmas
 pub mod ShareLemmas
 pub mod EndLemmas
+pub mod PassLemmas

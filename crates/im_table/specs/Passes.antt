@@ -1,5 +1,5 @@
 -- Passes that callers have, and those that lie under locks.
-use Rattle.std.specs.Prelude.{◌≡◌, ◌<◌, ◌≤◌, false, true, []}
+use Rattle.std.specs.Prelude.{◌≡◌, ◌+◌, ◌<◌, ◌≤◌, ℕ, false, true, [], ◌∷◌, ◌++◌}
 use mathlib.Core.List.{IsPrefix}
 use Rattle.im_table.specs.Known.{TableId, Known}
 use Rattle.im_table.specs.Views.{no_roles}
@@ -39,8 +39,30 @@ pub record Later (old new : Known) : Type 0 where
   pub indexed : old.view.least.indexed ≤ new.view.least.indexed
   pub failed : old.view.least.failed ≤ new.view.least.failed
 
+-- a pass that has the role of the book alone, while it places
+abbrev pub IsPlacer : TableId → Known → Type 0
+IsPlacer table p = (p.table ≡ table) × (p.view.roles ≡ book_role) × (0 < p.view.weight)
+
 -- it has placed, linked and told no more
 pub record AddsNothing (old new : Known) : Type 0 where
   pub own : new.view.own ≡ old.view.own
   pub leaves : new.view.leaves ≡ old.view.leaves
   pub faults : new.view.faults ≡ old.view.faults
+
+-- it has placed this number, and linked and told no more
+pub record AddsNumber (number : ℕ) (old new : Known) : Type 0 where
+  pub own : new.view.own ≡ old.view.own ++ number ∷ []
+  pub leaves : new.view.leaves ≡ old.view.leaves
+  pub faults : new.view.faults ≡ old.view.faults
+
+-- it has linked so many leaves more, and placed and told no more
+pub record AddsLeaves (count : ℕ) (old new : Known) : Type 0 where
+  pub own : new.view.own ≡ old.view.own
+  pub leaves : new.view.leaves ≡ old.view.leaves + count
+  pub faults : new.view.faults ≡ old.view.faults
+
+-- it has told so many failures more, and placed and linked no more
+pub record AddsFaults (count : ℕ) (old new : Known) : Type 0 where
+  pub own : new.view.own ≡ old.view.own
+  pub leaves : new.view.leaves ≡ old.view.leaves
+  pub faults : new.view.faults ≡ old.view.faults + count

@@ -1,11 +1,13 @@
 use std::marker::Brand;
 
-/// Names one tip, in contracts alone. A value that lies under a lock is known by its type's facts alone: so the type
-/// of such a value, and of a store, takes an `N: Room`, and says that its pass is of `N.table`. Only a function
-/// without an `N` in its signature picks one, as it calls one that has an `N` at `Brand`.
+/// Names one tip, and with it how its store was opened, in contracts alone. A value that lies under a lock is known by
+/// its type's facts alone: so the type of such a value, and of a store, takes an `N: Room`, and says that its pass is
+/// of `N.table`. Only a function without an `N` in its signature picks one, as it calls one that has an `N` at `Brand`.
 pub trait Room {
-    ghost use Rattle.std.specs.Prelude.{ℕ, List};
+    ghost use Rattle.std.specs.Prelude.{ℕ, ℤ, List, Option};
     ghost use Rattle.atomic_table.specs.Seated.{TableId};
+    ghost use Rattle.im_digest.specs.Digests.{Hash};
+    ghost use Rattle.im_disk.specs.Disk.{Told};
     ghost use Rattle.im_table.specs.declared.items.Item.{Item};
 
     // The tip.
@@ -16,10 +18,25 @@ pub trait Room {
 
     // The number of value logs with which it was opened.
     ghost logs: { ℕ };
+
+    // The hash under which it was opened.
+    ghost digest: { Hash };
+
+    // What the disk told behind the first sync of the opening, where it tells.
+    ghost synced: { Option Told };
+
+    // How often the disk had failed when it was opened.
+    ghost faults: { ℕ };
+
+    // The time that its clock always gives, where it tells one.
+    ghost time: { Option ℤ };
+
+    // The times that the clock had given when it was opened, where it tells them.
+    ghost given: { Option (List ℤ) };
 }
 
 impl Room for Brand {
-    ghost use Rattle.std.specs.Prelude.{[]};
+    ghost use Rattle.std.specs.Prelude.{[], None};
     ghost use Rattle.im_table.specs.Known.{no_table};
 
     ghost table = { no_table };
@@ -27,4 +44,14 @@ impl Room for Brand {
     ghost found = { [] };
 
     ghost logs = { 0 };
+
+    ghost digest = { λ _. [] };
+
+    ghost synced = { None };
+
+    ghost faults = { 0 };
+
+    ghost time = { None };
+
+    ghost given = { None };
 }
