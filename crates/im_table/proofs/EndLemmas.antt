@@ -7,17 +7,17 @@ use mathlib.Core.Option.{some, some-ne-none, some-injective}
 use lib.ListN.{get_elem?}
 use Rattle.atomic_table.specs.Table.{Me, keeps, Allows, opening}
 use Rattle.im_table.specs.declared.view.View.{View}
-use Rattle.im_table.specs.declared.items.Item.{Item}
+use Rattle.im_table.specs.declared.items.LogItem.{LogItem}
 use Rattle.im_table.specs.Views.{times, placed_by, spent, opener}
-use Rattle.im_table.specs.Rules.{Slot, Marks, Closes, Fits, Tally, journals, indexes, books, trees, weights, leaves, owns, share, whole, Keeps}
+use Rattle.im_table.specs.Rules.{NoSlot, Marks, Closes, FitsRule, Tally, journals, indexes, books, trees, weights, leaves, owns, share, whole, HoldsRule}
 use Rattle.im_table.proofs.FrontLemmas.{prefix_self}
 use Rattle.im_table.proofs.NumberLemmas.{numbers_found}
 use Rattle.im_table.proofs.SumLemmas.{sum_two, sum_only}
 use Rattle.im_table.proofs.KeepLemmas.{none_less, kept_same, word, again}
 
-module _ (allows : List Item → Type 0) (found : List Item) where
+module _ (allows : List LogItem → Type 0) (found : List LogItem) where
   -- a load by the one who has the whole weight, and the roles of book and tree
-  pub closes : (slots id : ℕ) (me : Me Slot View) → me.0.roles.book ≡ true → Allows (Keeps allows found) slots id me 0 (λ n. n) (λ n w. Closes found me.0 n w.0 × (w.1 ≡ me.1))
+  pub closes : (slots id : ℕ) (me : Me NoSlot View) → me.0.roles.book ≡ true → Allows (HoldsRule allows found) slots id me 0 (λ n. n) (λ n w. Closes found me.0 n w.0 × (w.1 ≡ me.1))
   closes slots id me book s h homes at small =
       let v = me.0 in
       let n = slice_index s.words 0 in
@@ -32,11 +32,11 @@ module _ (allows : List Item → Type 0) (found : List Item) where
         (
           record {
             view = refl;
-            begins = subst (λ (l : List Item). IsPrefix found l) (sym all) h.ordered.begins;
+            begins = subst (λ (l : List LogItem). IsPrefix found l) (sym all) h.ordered.begins;
             whole = word allows found s h 0 ∙ sym (ap length all);
             owned = λ heavy k.
                 let one : sum_by (share (owns k)) s.views ≡ share (owns k) v = sum_only (share (owns k)) s.views id v at (λ j u apart e. ap (times k) ((h.fits j u e).idle (idle heavy j u apart e)).0) in
-                sym one ∙ h.sums (owns k) ∙ ap (λ (l : List Item). times k (placed_by l)) (sym all);
+                sym one ∙ h.sums (owns k) ∙ ap (λ (l : List LogItem). times k (placed_by l)) (sym all);
             leaves = λ heavy tree.
                 let one : sum_by (share leaves) s.views ≡ v.leaves = sum_only (share leaves) s.views id v at (λ j u apart e. ((h.fits j u e).idle (idle heavy j u apart e)).1) in
                 omega (arith, h.sums leaves, f.tree tree, h.ordered.old);
@@ -49,7 +49,7 @@ module _ (allows : List Item → Type 0) (found : List Item) where
   start = record { log = found; durable = length found; linked = length found; indexed = length found; failed = 0 }
 
   -- the first state
-  pub opens : allows found → All (λ (x : Item). x.found ≡ true) found → Keeps allows found (opening (length found ∷ length found ∷ length found ∷ length found ∷ 0 ∷ []) [] (opener found))
+  pub opens : allows found → All (λ (x : LogItem). x.found ≡ true) found → HoldsRule allows found (opening (length found ∷ length found ∷ length found ∷ length found ∷ 0 ∷ []) [] (opener found))
   opens lawful old = record {
     marks = start;
     words = refl;
@@ -58,7 +58,7 @@ module _ (allows : List Item → Type 0) (found : List Item) where
     sums = counts;
   }
     where
-      mine : Fits allows start (opener found)
+      mine : FitsRule allows start (opener found)
       mine = record {
         seen = prefix_self found;
         told = (found, refl);
@@ -76,8 +76,8 @@ module _ (allows : List Item → Type 0) (found : List Item) where
         within = λ k d lt. absurd (omega arith);
       }
 
-      one : (k : ℕ) (v : View) → get_elem? (opener found ∷ []) k ≡ some v → Fits allows start v
-      one zero v e = subst (Fits allows start) (some-injective _ _ e) mine
+      one : (k : ℕ) (v : View) → get_elem? (opener found ∷ []) k ≡ some v → FitsRule allows start v
+      one zero v e = subst (FitsRule allows start) (some-injective _ _ e) mine
       one (suc k) v e = absurd (some-ne-none v (sym e))
 
       counts : (t : Tally) → sum_by (share t) (opener found ∷ []) ≡ whole found start t

@@ -3,7 +3,7 @@ use Rattle.std.proofs.Common.{◌≡◌, ℕ, ◌+◌, ◌≤◌, List, length, 
 use Rattle.std.proofs.lemmas.List.{drop-append-le, length-drop, length-map, map-append, take-append-le}
 use mathlib.Core.List.{IsPrefix}
 use Rattle.im_table.specs.Histories.{history_of}
-use Rattle.im_table.specs.declared.items.Item.{Item}
+use Rattle.im_table.specs.declared.items.LogItem.{LogItem}
 
 module _ {A : Type 0} where
   -- they have the same first elements
@@ -22,9 +22,9 @@ module _ {A : Type 0} where
   map_front f xs ys p = (map f p.0, sym (map-append f xs p.0) ∙ ap (λ (l : List A). map f l) p.1)
 
 -- the history of a front part begins that of the list
-pub history_front : (xs ys : List Item) → IsPrefix xs ys → IsPrefix (history_of xs) (history_of ys)
-history_front xs ys p = map_front (λ (item : Item). item.tx) xs ys p
+pub history_front : (xs ys : List LogItem) → IsPrefix xs ys → IsPrefix (history_of xs) (history_of ys)
+history_front xs ys p = map_front (λ (item : LogItem). item.tx) xs ys p
 
 -- it has a transaction for each item
-pub history_length : (xs : List Item) → length (history_of xs) ≡ length xs
-history_length xs = length-map xs (λ (item : Item). item.tx)
+pub history_length : (xs : List LogItem) → length (history_of xs) ≡ length xs
+history_length xs = length-map xs (λ (item : LogItem). item.tx)

@@ -6,9 +6,9 @@ use lib.ListN.{get_elem?}
 use Rattle.atomic_table.specs.Table.{State, Me, keeps, Allows}
 use Rattle.atomic_table.proofs.Lists.{at_set}
 use Rattle.im_table.specs.declared.view.View.{View}
-use Rattle.im_table.specs.declared.items.Item.{Item}
+use Rattle.im_table.specs.declared.items.LogItem.{LogItem}
 use Rattle.im_table.specs.Views.{zeros, spent}
-use Rattle.im_table.specs.Rules.{Slot, Marks, AtMost, words_of, Ordered, Fits, Tally, journals, indexes, books, trees, weights, leaves, owns, share, whole, Keeps}
+use Rattle.im_table.specs.Rules.{NoSlot, Marks, AtMost, words_of, Ordered, FitsRule, Tally, journals, indexes, books, trees, weights, leaves, owns, share, whole, HoldsRule}
 use Rattle.im_table.proofs.SumLemmas.{sum_set, sum_two}
 
 -- 0 is no more than any word
@@ -29,26 +29,26 @@ none_spent (owns n) = refl
 pub on : (b : Bool) → b ≡ true → ◌≡◌ {A = ℕ} (cond b 1 0) 1
 on b e = ap (λ (c : Bool). cond c 1 0) e
 
-module _ (allows : List Item → Type 0) where
+module _ (allows : List LogItem → Type 0) where
   -- each view fits
   abbrev pub Every : Marks → List View → Type 0
-  Every m views = (k : ℕ) (v : View) → get_elem? views k ≡ some v → Fits allows m v
+  Every m views = (k : ℕ) (v : View) → get_elem? views k ≡ some v → FitsRule allows m v
 
   -- they fit still where one changes
-  pub every_set : (m : Marks) (views : List View) (i : ℕ) (w : View) → ((k : ℕ) (v : View) → k ≢ i → get_elem? views k ≡ some v → Fits allows m v) → Fits allows m w → Every m (set views i w)
+  pub every_set : (m : Marks) (views : List View) (i : ℕ) (w : View) → ((k : ℕ) (v : View) → k ≢ i → get_elem? views k ≡ some v → FitsRule allows m v) → FitsRule allows m w → Every m (set views i w)
   every_set m views i w others mine k v e =
       ⊎_elim
-      (λ (x : (k ≡ i) × (w ≡ v)). subst (λ (y : View). Fits allows m y) x.1 mine)
+      (λ (x : (k ≡ i) × (w ≡ v)). subst (λ (y : View). FitsRule allows m y) x.1 mine)
       (λ (x : (k ≢ i) × (get_elem? views k ≡ some v)). others k v x.0 x.1)
       (at_set views i k w v e)
 
-module _ (allows : List Item → Type 0) (found : List Item) where
+module _ (allows : List LogItem → Type 0) (found : List LogItem) where
   -- one view and the words change
-  pub kept : (s : State Slot View) (ws : List ℕ) (id : ℕ) (v w : View) (m : Marks) (h : Keeps allows found s) → get_elem? s.views id ≡ some v
+  pub kept : (s : State NoSlot View) (ws : List ℕ) (id : ℕ) (v w : View) (m : Marks) (h : HoldsRule allows found s) → get_elem? s.views id ≡ some v
       → ws ≡ words_of m → Ordered found m
-      → ((k : ℕ) (u : View) → k ≢ id → get_elem? s.views k ≡ some u → Fits allows m u) → Fits allows m w
+      → ((k : ℕ) (u : View) → k ≢ id → get_elem? s.views k ≡ some u → FitsRule allows m u) → FitsRule allows m w
       → ((t : Tally) → share t w + whole found h.marks t ≡ share t v + whole found m t)
-      → Keeps allows found (record { words = ws; homes = s.homes; views = set s.views id w })
+      → HoldsRule allows found (record { words = ws; homes = s.homes; views = set s.views id w })
   kept s ws id v w m h at words ordered others mine moves = record {
     marks = m;
     words = words;
@@ -58,31 +58,31 @@ module _ (allows : List Item → Type 0) (found : List Item) where
   }
 
   -- a view changes in what is not shared out
-  pub kept_same : (s : State Slot View) (ws : List ℕ) (id : ℕ) (v w : View) (h : Keeps allows found s) → get_elem? s.views id ≡ some v → ws ≡ s.words
-      → Fits allows h.marks w → ((t : Tally) → share t w ≡ share t v) → Keeps allows found (record { words = ws; homes = s.homes; views = set s.views id w })
+  pub kept_same : (s : State NoSlot View) (ws : List ℕ) (id : ℕ) (v w : View) (h : HoldsRule allows found s) → get_elem? s.views id ≡ some v → ws ≡ s.words
+      → FitsRule allows h.marks w → ((t : Tally) → share t w ≡ share t v) → HoldsRule allows found (record { words = ws; homes = s.homes; views = set s.views id w })
   kept_same s ws id v w h at same f counts = kept s ws id v w h.marks h at (same ∙ h.words) h.ordered (λ k u _ e. h.fits k u e) f (λ t. omega (arith, counts t))
 
   -- two views don't share what is there once
-  pub alone : (s : State Slot View) (h : Keeps allows found s) (t : Tally) → whole found h.marks t ≡ 1 → (i j : ℕ) (u v : View) → i ≢ j → get_elem? s.views i ≡ some u → get_elem? s.views j ≡ some v → share t v ≡ 1 → share t u ≡ 1 → ⊥
+  pub alone : (s : State NoSlot View) (h : HoldsRule allows found s) (t : Tally) → whole found h.marks t ≡ 1 → (i j : ℕ) (u v : View) → i ≢ j → get_elem? s.views i ≡ some u → get_elem? s.views j ≡ some v → share t v ≡ 1 → share t u ≡ 1 → ⊥
   alone s h t one i j u v apart e e' a b = omega (arith, sum_two (share t) s.views i j u v spent (none_spent t) apart e e', h.sums t)
 
   -- a word is as the list and the marks say
-  pub word : (s : State Slot View) (h : Keeps allows found s) (i : ℕ) → slice_index s.words i ≡ slice_index (words_of h.marks) i
+  pub word : (s : State NoSlot View) (h : HoldsRule allows found s) (i : ℕ) → slice_index s.words i ≡ slice_index (words_of h.marks) i
   word s h i = ap (λ (ws : List ℕ). slice_index ws i) h.words
 
   -- a load leaves the words as they were
-  pub again : (s : State Slot View) (h : Keeps allows found s) (i : ℕ) → slice_set (words_of h.marks) i (slice_index (words_of h.marks) i) ≡ words_of h.marks → slice_set s.words i (slice_index s.words i) ≡ s.words
+  pub again : (s : State NoSlot View) (h : HoldsRule allows found s) (i : ℕ) → slice_set (words_of h.marks) i (slice_index (words_of h.marks) i) ≡ words_of h.marks → slice_set s.words i (slice_index s.words i) ≡ s.words
   again s h i e = subst (λ (ws : List ℕ). slice_set ws i (slice_index ws i) ≡ ws) (sym h.words) e
 
   -- a load, which changes what is not shared out
-  pub loaded : (slots id i : ℕ) (me : Me Slot View) (look : ℕ → View) (Tells : ℕ → View → Type 0)
+  pub loaded : (slots id i : ℕ) (me : Me NoSlot View) (look : ℕ → View) (Tells : ℕ → View → Type 0)
       → ((m : Marks) → slice_set (words_of m) i (slice_index (words_of m) i) ≡ words_of m)
-      → ((m : Marks) → Ordered found m → Fits allows m me.0 → Fits allows m (look (slice_index (words_of m) i)) × Tells (slice_index (words_of m) i) (look (slice_index (words_of m) i)))
+      → ((m : Marks) → Ordered found m → FitsRule allows m me.0 → FitsRule allows m (look (slice_index (words_of m) i)) × Tells (slice_index (words_of m) i) (look (slice_index (words_of m) i)))
       → ((t : Tally) (n : ℕ) → share t (look n) ≡ share t me.0)
-      → Allows (Keeps allows found) slots id me i (λ n. n) (λ n w. Tells n w.0 × (w.1 ≡ me.1))
+      → Allows (HoldsRule allows found) slots id me i (λ n. n) (λ n w. Tells n w.0 × (w.1 ≡ me.1))
   loaded slots id i me look Tells same fine counts s h homes at small =
       let n = slice_index s.words i in
-      let good = subst (λ (k : ℕ). Fits allows h.marks (look k) × Tells k (look k)) (sym (word s h i)) (fine h.marks h.ordered (h.fits id me.0 at)) in (
+      let good = subst (λ (k : ℕ). FitsRule allows h.marks (look k) × Tells k (look k)) (sym (word s h i)) (fine h.marks h.ordered (h.fits id me.0 at)) in (
         look n,
         keeps,
         tt,

@@ -3,15 +3,15 @@ use Rattle.std.proofs.Common.{◌≡◌, ℕ, ◌≤◌, List, length, true, ref
 use mathlib.Core.List.{IsPrefix}
 use Rattle.atomic_table.specs.Table.{Me, Allows}
 use Rattle.im_table.specs.declared.view.View.{View}
-use Rattle.im_table.specs.declared.items.Item.{Item}
+use Rattle.im_table.specs.declared.items.LogItem.{LogItem}
 use Rattle.im_table.specs.Views.{looked_placed, looked_durable, looked_linked, looked_indexed, looked_failed, untold}
-use Rattle.im_table.specs.Rules.{Slot, SeesPlaced, Finds, Compares, Tally, journals, indexes, books, trees, weights, leaves, owns, share, Keeps}
+use Rattle.im_table.specs.Rules.{NoSlot, SeesPlaced, Loads, Compares, Tally, journals, indexes, books, trees, weights, leaves, owns, share, HoldsRule}
 use Rattle.im_table.proofs.FrontLemmas.{prefix_shorter, prefix_length}
 use Rattle.im_table.proofs.KeepLemmas.{none_less, loaded}
 
-module _ (allows : List Item → Type 0) (found : List Item) where
+module _ (allows : List LogItem → Type 0) (found : List LogItem) where
   -- of the word placed
-  pub sees_placed : (slots id : ℕ) (me : Me Slot View) → Allows (Keeps allows found) slots id me 0 (λ n. n) (λ n w. SeesPlaced allows me.0 n w.0 × (w.1 ≡ me.1))
+  pub sees_placed : (slots id : ℕ) (me : Me NoSlot View) → Allows (HoldsRule allows found) slots id me 0 (λ n. n) (λ n w. SeesPlaced allows me.0 n w.0 × (w.1 ≡ me.1))
   sees_placed slots id me = loaded allows found slots id 0 me (looked_placed me.0) (SeesPlaced allows me.0) (λ m. refl)
       (λ m o f. (
         record { seen = f.seen; told = f.told; less = f.less; lawful = f.lawful; durable = f.durable; linked = f.linked; indexed = f.indexed; failed = f.failed; book = f.book; journal = f.journal; tree = f.tree; index = f.index; idle = f.idle; within = f.within },
@@ -38,8 +38,8 @@ module _ (allows : List Item → Type 0) (found : List Item) where
       counts (owns k) n = refl
 
   -- of the word durable
-  pub sees_durable : (slots id : ℕ) (me : Me Slot View) → Allows (Keeps allows found) slots id me 1 (λ n. n) (λ n w. ((w.0 ≡ looked_durable me.0 n) × Finds me.0.roles.journal me.0.least.durable n) × (w.1 ≡ me.1))
-  sees_durable slots id me = loaded allows found slots id 1 me (looked_durable me.0) (λ n w. (w ≡ looked_durable me.0 n) × Finds me.0.roles.journal me.0.least.durable n) (λ m. refl)
+  pub sees_durable : (slots id : ℕ) (me : Me NoSlot View) → Allows (HoldsRule allows found) slots id me 1 (λ n. n) (λ n w. ((w.0 ≡ looked_durable me.0 n) × Loads me.0.roles.journal me.0.least.durable n) × (w.1 ≡ me.1))
+  sees_durable slots id me = loaded allows found slots id 1 me (looked_durable me.0) (λ n w. (w ≡ looked_durable me.0 n) × Loads me.0.roles.journal me.0.least.durable n) (λ m. refl)
       (λ m o f. (
         record { seen = f.seen; told = f.told; less = f.less; lawful = f.lawful; durable = omega arith; linked = f.linked; indexed = f.indexed; failed = f.failed; book = f.book; journal = λ b. (refl, (f.journal b).1); tree = f.tree; index = f.index; idle = f.idle; within = f.within },
         (refl, record { least = f.durable; exact = λ b. sym (f.journal b).0 }),
@@ -56,8 +56,8 @@ module _ (allows : List Item → Type 0) (found : List Item) where
       counts (owns k) n = refl
 
   -- of the word linked
-  pub sees_linked : (slots id : ℕ) (me : Me Slot View) → Allows (Keeps allows found) slots id me 2 (λ n. n) (λ n w. ((w.0 ≡ looked_linked me.0 n) × Finds me.0.roles.tree me.0.least.linked n) × (w.1 ≡ me.1))
-  sees_linked slots id me = loaded allows found slots id 2 me (looked_linked me.0) (λ n w. (w ≡ looked_linked me.0 n) × Finds me.0.roles.tree me.0.least.linked n) (λ m. refl)
+  pub sees_linked : (slots id : ℕ) (me : Me NoSlot View) → Allows (HoldsRule allows found) slots id me 2 (λ n. n) (λ n w. ((w.0 ≡ looked_linked me.0 n) × Loads me.0.roles.tree me.0.least.linked n) × (w.1 ≡ me.1))
+  sees_linked slots id me = loaded allows found slots id 2 me (looked_linked me.0) (λ n w. (w ≡ looked_linked me.0 n) × Loads me.0.roles.tree me.0.least.linked n) (λ m. refl)
       (λ m o f. (
         record { seen = f.seen; told = f.told; less = f.less; lawful = f.lawful; durable = f.durable; linked = omega arith; indexed = f.indexed; failed = f.failed; book = f.book; journal = f.journal; tree = λ b. refl; index = f.index; idle = f.idle; within = f.within },
         (refl, record { least = f.linked; exact = λ b. sym (f.tree b) }),
@@ -74,8 +74,8 @@ module _ (allows : List Item → Type 0) (found : List Item) where
       counts (owns k) n = refl
 
   -- of the word indexed
-  pub sees_indexed : (slots id : ℕ) (me : Me Slot View) → Allows (Keeps allows found) slots id me 3 (λ n. n) (λ n w. ((w.0 ≡ looked_indexed me.0 n) × Finds me.0.roles.index me.0.least.indexed n) × (w.1 ≡ me.1))
-  sees_indexed slots id me = loaded allows found slots id 3 me (looked_indexed me.0) (λ n w. (w ≡ looked_indexed me.0 n) × Finds me.0.roles.index me.0.least.indexed n) (λ m. refl)
+  pub sees_indexed : (slots id : ℕ) (me : Me NoSlot View) → Allows (HoldsRule allows found) slots id me 3 (λ n. n) (λ n w. ((w.0 ≡ looked_indexed me.0 n) × Loads me.0.roles.index me.0.least.indexed n) × (w.1 ≡ me.1))
+  sees_indexed slots id me = loaded allows found slots id 3 me (looked_indexed me.0) (λ n w. (w ≡ looked_indexed me.0 n) × Loads me.0.roles.index me.0.least.indexed n) (λ m. refl)
       (λ m o f. (
         record { seen = f.seen; told = f.told; less = f.less; lawful = f.lawful; durable = f.durable; linked = f.linked; indexed = omega arith; failed = f.failed; book = f.book; journal = f.journal; tree = f.tree; index = λ b. refl; idle = f.idle; within = f.within },
         (refl, record { least = f.indexed; exact = λ b. sym (f.index b) }),
@@ -92,8 +92,8 @@ module _ (allows : List Item → Type 0) (found : List Item) where
       counts (owns k) n = refl
 
   -- of the word failed
-  pub sees_failed : (slots id : ℕ) (me : Me Slot View) → Allows (Keeps allows found) slots id me 4 (λ n. n) (λ n w. ((w.0 ≡ looked_failed me.0 n) × Finds me.0.roles.journal me.0.least.failed n) × (w.1 ≡ me.1))
-  sees_failed slots id me = loaded allows found slots id 4 me (looked_failed me.0) (λ n w. (w ≡ looked_failed me.0 n) × Finds me.0.roles.journal me.0.least.failed n) (λ m. refl)
+  pub sees_failed : (slots id : ℕ) (me : Me NoSlot View) → Allows (HoldsRule allows found) slots id me 4 (λ n. n) (λ n w. ((w.0 ≡ looked_failed me.0 n) × Loads me.0.roles.journal me.0.least.failed n) × (w.1 ≡ me.1))
+  sees_failed slots id me = loaded allows found slots id 4 me (looked_failed me.0) (λ n w. (w ≡ looked_failed me.0 n) × Loads me.0.roles.journal me.0.least.failed n) (λ m. refl)
       (λ m o f. (
         record { seen = f.seen; told = f.told; less = f.less; lawful = f.lawful; durable = f.durable; linked = f.linked; indexed = f.indexed; failed = omega arith; book = f.book; journal = λ b. ((f.journal b).0, refl); tree = f.tree; index = f.index; idle = f.idle; within = f.within },
         (refl, record { least = f.failed; exact = λ b. sym (f.journal b).1 }),
@@ -110,7 +110,7 @@ module _ (allows : List Item → Type 0) (found : List Item) where
       counts (owns k) n = refl
 
   -- the load behind a join
-  pub compares : (slots id : ℕ) (me : Me Slot View) → Allows (Keeps allows found) slots id me 0 (λ n. n) (λ n w. Compares me.0 n w.0 × (w.1 ≡ me.1))
+  pub compares : (slots id : ℕ) (me : Me NoSlot View) → Allows (HoldsRule allows found) slots id me 0 (λ n. n) (λ n w. Compares me.0 n w.0 × (w.1 ≡ me.1))
   compares slots id me = loaded allows found slots id 0 me (λ _. untold me.0) (Compares me.0) (λ m. refl)
       (λ m o f. (
         record { seen = f.seen; told = (m.log, refl); less = none_less m; lawful = f.lawful; durable = f.durable; linked = f.linked; indexed = f.indexed; failed = f.failed; book = f.book; journal = f.journal; tree = f.tree; index = f.index; idle = f.idle; within = f.within },

@@ -1,10 +1,10 @@
 -- A pass behind two calls.
 use Rattle.std.proofs.Common.{◌∙◌, arith}
-use Rattle.im_table.specs.Known.{Known}
+use Rattle.im_table.specs.Known.{KnownPass}
 use Rattle.im_table.specs.Passes.{Later}
 use Rattle.im_table.proofs.FrontLemmas.{prefix_trans}
 
-pub later_both : (a b c : Known) → Later a b → Later b c → Later a c
+pub later_both : (a b c : KnownPass) → Later a b → Later b c → Later a c
 later_both a b c first next = record {
   table = next.table ∙ first.table;
   roles = next.roles ∙ first.roles;

@@ -7,24 +7,24 @@ use lib.ListN.{get_elem?}
 use Rattle.atomic_table.specs.Table.{Splits, Joins}
 use Rattle.atomic_table.proofs.Lists.{at_snoc, set_else}
 use Rattle.im_table.specs.declared.view.View.{View}
-use Rattle.im_table.specs.declared.items.Item.{Item}
+use Rattle.im_table.specs.declared.items.LogItem.{LogItem}
 use Rattle.im_table.specs.declared.roles.Roles.{Roles}
 use Rattle.im_table.specs.Views.{AreHeld, left_of, right_of, chosen, together, spent}
-use Rattle.im_table.specs.Rules.{Fits, Tally, journals, indexes, books, trees, weights, leaves, owns, share, whole, Keeps}
+use Rattle.im_table.specs.Rules.{FitsRule, Tally, journals, indexes, books, trees, weights, leaves, owns, share, whole, HoldsRule}
 use Rattle.im_table.proofs.NumberLemmas.{times_append, chosen_one, other_one, chosen_length, chosen_whole, role_cut, role_left, role_both, append_nil_left, pick_one, rest_one, pick_whole}
 use Rattle.im_table.proofs.SumLemmas.{sum_set, sum_snoc, sum_two}
 use Rattle.im_table.proofs.KeepLemmas.{none_less, none_spent, every_set}
 
-module _ (allows : List Item → Type 0) (found : List Item) where
+module _ (allows : List LogItem → Type 0) (found : List LogItem) where
   -- roles and weights are shared out
-  pub cuts : (id : ℕ) (v : View) (roles : Roles) (weight : ℕ) → AreHeld v.roles roles → weight < v.weight → Splits (Keeps allows found) id v (left_of roles weight v) (right_of roles weight v)
+  pub cuts : (id : ℕ) (v : View) (roles : Roles) (weight : ℕ) → AreHeld v.roles roles → weight < v.weight → Splits (HoldsRule allows found) id v (left_of roles weight v) (right_of roles weight v)
   cuts id v roles weight may less s h at =
       let l = left_of roles weight v in
       let r = right_of roles weight v in
       let m = h.marks in
       let f = h.fits id v at in
       let views = set s.views id l in
-      let right : Fits allows m r = record {
+      let right : FitsRule allows m r = record {
         seen = f.seen;
         told = (m.log, refl);
         less = none_less m;
@@ -40,7 +40,7 @@ module _ (allows : List Item → Type 0) (found : List Item) where
         idle = λ _. (refl, refl, refl);
         within = λ k d lt. absurd (omega arith);
       } in
-      let left : Fits allows m l = record {
+      let left : FitsRule allows m l = record {
         seen = f.seen;
         told = f.told;
         less = f.less;
@@ -61,7 +61,7 @@ module _ (allows : List Item → Type 0) (found : List Item) where
         ordered = h.ordered;
         fits = λ k u e. ⊎_elim
             (λ was. every_set allows m s.views id l (λ j y apart e'. h.fits j y e') left k u was)
-            (λ (same : r ≡ u). subst (Fits allows m) same right)
+            (λ (same : r ≡ u). subst (FitsRule allows m) same right)
             (at_snoc views r u k e);
         sums = λ t. omega (arith, sum_set (share t) s.views id v l at, sum_snoc (share t) views r, h.sums t, counts t);
       }
@@ -76,7 +76,7 @@ module _ (allows : List Item → Type 0) (found : List Item) where
       counts (owns n) = omega arith
 
   -- one takes in another
-  pub joins : (id : ℕ) (v : View) (other : ℕ) (u : View) → allows [] → Joins (Keeps allows found) id v other u (together v u) spent
+  pub joins : (id : ℕ) (v : View) (other : ℕ) (u : View) → allows [] → Joins (HoldsRule allows found) id v other u (together v u) spent
   joins id v other u none s h at apart there =
       let w = together v u in
       let m = h.marks in
@@ -87,9 +87,9 @@ module _ (allows : List Item → Type 0) (found : List Item) where
       let g = h.fits other u at' in
       let two = λ (t : Tally). sum_two (share t) s.views id other v u spent (none_spent t) (λ e. apart (sym e)) at at' in
       let long = chosen_length m.log v.roles.book u.roles.book v.seen u.seen f.seen g.seen f.book g.book in
-      let both : Fits allows m w = record {
-        seen = chosen_one (λ (l : List Item). IsPrefix l m.log) v.roles.book u.roles.book v.seen u.seen f.seen g.seen;
-        told = other_one (λ (l : List Item). IsPrefix l m.log) v.roles.book u.roles.book v.seen u.seen f.seen g.seen;
+      let both : FitsRule allows m w = record {
+        seen = chosen_one (λ (l : List LogItem). IsPrefix l m.log) v.roles.book u.roles.book v.seen u.seen f.seen g.seen;
+        told = other_one (λ (l : List LogItem). IsPrefix l m.log) v.roles.book u.roles.book v.seen u.seen f.seen g.seen;
         lawful = chosen_one allows v.roles.book u.roles.book v.seen u.seen f.lawful g.lawful;
         less = record { durable = rest_one (λ (n : ℕ). n ≤ m.durable) v.roles.journal u.roles.journal v.least.durable u.least.durable f.durable g.durable (omega (arith, f.durable)); linked = rest_one (λ (n : ℕ). n ≤ m.linked) v.roles.tree u.roles.tree v.least.linked u.least.linked f.linked g.linked (omega (arith, f.linked)); indexed = rest_one (λ (n : ℕ). n ≤ m.indexed) v.roles.index u.roles.index v.least.indexed u.least.indexed f.indexed g.indexed (omega (arith, f.indexed)); failed = rest_one (λ (n : ℕ). n ≤ m.failed) v.roles.journal u.roles.journal v.least.failed u.least.failed f.failed g.failed (omega (arith, f.failed)) };
         durable = pick_one (λ (n : ℕ). n ≤ m.durable) v.roles.journal u.roles.journal v.least.durable u.least.durable f.durable g.durable (omega (arith, f.durable, g.durable));
@@ -106,7 +106,7 @@ module _ (allows : List Item → Type 0) (found : List Item) where
             (append_nil_left v.own u.own a.0 b.0, omega (arith, a.1, b.1), omega (arith, a.2, b.2));
         within = All-append (λ (n : ℕ). n ≤ length (chosen v.roles.book u.roles.book v.seen u.seen)) v.own u.own (λ k d lt. omega (arith, f.within k d lt, long.0)) (λ k d lt. omega (arith, g.within k d lt, long.1));
       } in
-      let gone : Fits allows m spent = record {
+      let gone : FitsRule allows m spent = record {
         seen = (m.log, refl);
         told = (m.log, refl);
         less = none_less m;

@@ -7,18 +7,18 @@ use Rattle.std.specs.List.{All}
 use mathlib.Core.List.{IsPrefix}
 use Rattle.atomic_table.specs.Table.{Me, keeps, Allows}
 use Rattle.im_table.specs.declared.view.View.{View}
-use Rattle.im_table.specs.declared.items.Item.{Item}
-use Rattle.im_table.specs.Views.{added, settled, failed_once, linked_to, indexed_to}
-use Rattle.im_table.specs.Rules.{Slot, Marks, Fits, Tally, journals, indexes, books, trees, weights, leaves, owns, share, whole, Keeps}
+use Rattle.im_table.specs.declared.items.LogItem.{LogItem}
+use Rattle.im_table.specs.Views.{added, view_settled, failed_once, linked_to, indexed_to}
+use Rattle.im_table.specs.Rules.{NoSlot, Marks, FitsRule, Tally, journals, indexes, books, trees, weights, leaves, owns, share, whole, HoldsRule}
 use Rattle.im_table.proofs.FrontLemmas.{prefix_self, prefix_more, prefix_trans, prefix_length}
 use Rattle.im_table.proofs.NumberLemmas.{times_append, times_new, hit}
 use Rattle.im_table.proofs.KeepLemmas.{on, kept, alone}
 
-module _ (allows : List Item → Type 0) where
+module _ (allows : List LogItem → Type 0) where
   -- what the words gain, for those who don't hold the role of a word that changes
-  fits_more : (m m' : Marks) (u : View) → Fits allows m u → IsPrefix m.log m'.log → m.durable ≤ m'.durable → m.linked ≤ m'.linked → m.indexed ≤ m'.indexed → m.failed ≤ m'.failed
+  fits_more : (m m' : Marks) (u : View) → FitsRule allows m u → IsPrefix m.log m'.log → m.durable ≤ m'.durable → m.linked ≤ m'.linked → m.indexed ≤ m'.indexed → m.failed ≤ m'.failed
       → (u.roles.book ≡ true → m.log ≡ m'.log) → (u.roles.journal ≡ true → (m.durable ≡ m'.durable) × (m.failed ≡ m'.failed)) → (u.roles.tree ≡ true → m.linked ≡ m'.linked) → (u.roles.index ≡ true → m.indexed ≡ m'.indexed)
-      → Fits allows m' u
+      → FitsRule allows m' u
   fits_more m m' u f log d l i k book journal tree index = record {
     seen = prefix_trans u.seen m.log m'.log f.seen log;
     told = prefix_trans u.told m.log m'.log f.told log;
@@ -36,13 +36,13 @@ module _ (allows : List Item → Type 0) where
     within = f.within;
   }
 
-module _ (allows : List Item → Type 0) (found : List Item) where
+module _ (allows : List LogItem → Type 0) (found : List LogItem) where
   -- of the word durable
-  pub settles : (slots id new : ℕ) (me : Me Slot View) → me.0.roles.journal ≡ true → me.0.least.durable ≤ new → new ≤ length me.0.seen
-      → Allows (Keeps allows found) slots id me 1 (λ _. new) (λ _ w. (w.0 ≡ settled me.0 new) × (w.1 ≡ me.1))
+  pub settles : (slots id new : ℕ) (me : Me NoSlot View) → me.0.roles.journal ≡ true → me.0.least.durable ≤ new → new ≤ length me.0.seen
+      → Allows (HoldsRule allows found) slots id me 1 (λ _. new) (λ _ w. (w.0 ≡ view_settled me.0 new) × (w.1 ≡ me.1))
   settles slots id new me role more within s h homes at small =
       let v = me.0 in
-      let w = settled v new in
+      let w = view_settled v new in
       let f = h.fits id v at in
       let m = h.marks in
       let o = h.ordered in
@@ -61,7 +61,7 @@ module _ (allows : List Item → Type 0) (found : List Item) where
         (refl, refl),
       )
     where
-      counts : (t : Tally) → share t (settled me.0 new) + whole found h.marks t ≡ share t me.0 + whole found (record h.marks { durable = new }) t
+      counts : (t : Tally) → share t (view_settled me.0 new) + whole found h.marks t ≡ share t me.0 + whole found (record h.marks { durable = new }) t
       counts journals = refl
       counts indexes = refl
       counts books = refl
@@ -71,8 +71,8 @@ module _ (allows : List Item → Type 0) (found : List Item) where
       counts (owns k) = refl
 
   -- of the word linked
-  pub links : (slots id new : ℕ) (me : Me Slot View) → me.0.roles.tree ≡ true → 0 < me.0.weight → me.0.least.linked ≤ new → new ≤ me.0.least.durable
-      → Allows (Keeps allows found) slots id me 2 (λ _. new) (λ _ w. (w.0 ≡ linked_to me.0 new) × (w.1 ≡ me.1))
+  pub links : (slots id new : ℕ) (me : Me NoSlot View) → me.0.roles.tree ≡ true → 0 < me.0.weight → me.0.least.linked ≤ new → new ≤ me.0.least.durable
+      → Allows (HoldsRule allows found) slots id me 2 (λ _. new) (λ _ w. (w.0 ≡ linked_to me.0 new) × (w.1 ≡ me.1))
   links slots id new me role heavy more within s h homes at small =
       let v = me.0 in
       let w = linked_to v new in
@@ -103,8 +103,8 @@ module _ (allows : List Item → Type 0) (found : List Item) where
       counts (owns k) = refl
 
   -- of the word placed: the law holds of the list with the item, where it holds of the list before
-  pub adds : (slots id : ℕ) (me : Me Slot View) (x : Item) (new : ℕ) → me.0.roles.book ≡ true → 0 < me.0.weight → new ≡ length me.0.seen + 1 → x.found ≡ false → (allows me.0.seen → allows (me.0.seen ++ x ∷ []))
-      → Allows (Keeps allows found) slots id me 0 (λ _. new) (λ _ w. (w.0 ≡ added me.0 x) × (w.1 ≡ me.1))
+  pub adds : (slots id : ℕ) (me : Me NoSlot View) (x : LogItem) (new : ℕ) → me.0.roles.book ≡ true → 0 < me.0.weight → new ≡ length me.0.seen + 1 → x.found ≡ false → (allows me.0.seen → allows (me.0.seen ++ x ∷ []))
+      → Allows (HoldsRule allows found) slots id me 0 (λ _. new) (λ _ w. (w.0 ≡ added me.0 x) × (w.1 ≡ me.1))
   adds slots id me x new role heavy next fresh lawful s h homes at small =
       let v = me.0 in
       let w = added v x in
@@ -114,7 +114,7 @@ module _ (allows : List Item → Type 0) (found : List Item) where
       let log = m.log ++ x ∷ [] in
       let m' : Marks = record m { log = log } in
       let all : v.seen ≡ m.log = f.book role in
-      let now : v.seen ++ x ∷ [] ≡ log = ap (λ (l : List Item). l ++ x ∷ []) all in
+      let now : v.seen ++ x ∷ [] ≡ log = ap (λ (l : List LogItem). l ++ x ∷ []) all in
       let count : length v.seen ≡ length m.log = ap length all in
       let last : length (v.seen ++ x ∷ []) ≡ length v.seen + 1 = omega (arith, length-append v.seen (x ∷ [])) in
       let stays : All (λ (n : ℕ). n ≤ length (v.seen ++ x ∷ [])) v.own = λ k d lt. omega (arith, f.within k d lt, last) in
@@ -127,7 +127,7 @@ module _ (allows : List Item → Type 0) (found : List Item) where
             (record { begins = prefix_more found m.log (x ∷ []) o.begins; linked = o.linked; indexed = o.indexed; durable = omega (arith, o.durable); old = o.old })
             (λ k u apart e. fits_more allows m m' u (h.fits k u e) (x ∷ [], refl) (omega arith) (omega arith) (omega arith) (omega arith) (λ b. absurd (alone allows found s h books refl k id u v apart e at (on _ role) (on _ b))) (λ _. (refl, refl)) (λ _. refl) (λ _. refl))
             (record {
-              seen = ([], ap (λ (l : List Item). l ++ []) now ∙ append-nil log);
+              seen = ([], ap (λ (l : List LogItem). l ++ []) now ∙ append-nil log);
               told = prefix_more v.told m.log (x ∷ []) f.told;
               less = record { durable = f.less.durable; linked = f.less.linked; indexed = f.less.indexed; failed = f.less.failed };
               lawful = lawful f.lawful;
@@ -159,8 +159,8 @@ module _ (allows : List Item → Type 0) (found : List Item) where
           omega (arith, times_append n me.0.own ((length me.0.seen + 1) ∷ []), times_new n 1 h.marks.log x fresh, one)
 
   -- of the word failed
-  pub fails : (slots id new : ℕ) (me : Me Slot View) → me.0.roles.journal ≡ true → 0 < me.0.weight → new ≡ me.0.least.failed + 1
-      → Allows (Keeps allows found) slots id me 4 (λ _. new) (λ _ w. (w.0 ≡ failed_once me.0) × (w.1 ≡ me.1))
+  pub fails : (slots id new : ℕ) (me : Me NoSlot View) → me.0.roles.journal ≡ true → 0 < me.0.weight → new ≡ me.0.least.failed + 1
+      → Allows (HoldsRule allows found) slots id me 4 (λ _. new) (λ _ w. (w.0 ≡ failed_once me.0) × (w.1 ≡ me.1))
   fails slots id new me role heavy next s h homes at small =
       let v = me.0 in
       let w = failed_once v in
@@ -191,8 +191,8 @@ module _ (allows : List Item → Type 0) (found : List Item) where
       counts (owns k) = refl
 
   -- of the word indexed
-  pub takes : (slots id new : ℕ) (me : Me Slot View) → me.0.roles.index ≡ true → me.0.least.indexed ≤ new → new ≤ me.0.least.durable
-      → Allows (Keeps allows found) slots id me 3 (λ _. new) (λ _ w. (w.0 ≡ indexed_to me.0 new) × (w.1 ≡ me.1))
+  pub takes : (slots id new : ℕ) (me : Me NoSlot View) → me.0.roles.index ≡ true → me.0.least.indexed ≤ new → new ≤ me.0.least.durable
+      → Allows (HoldsRule allows found) slots id me 3 (λ _. new) (λ _ w. (w.0 ≡ indexed_to me.0 new) × (w.1 ≡ me.1))
   takes slots id new me role more within s h homes at small =
       let v = me.0 in
       let w = indexed_to v new in

@@ -7,16 +7,16 @@ use lib.ListN.{get_elem?}
 use Rattle.atomic_table.specs.Table.{State}
 use Rattle.im_table.specs.declared.view.View.{View}
 use Rattle.im_table.specs.declared.view.Least.{Least}
-use Rattle.im_table.specs.declared.items.Item.{Item}
+use Rattle.im_table.specs.declared.items.LogItem.{LogItem}
 use Rattle.im_table.specs.Views.{times, placed_by, untold, looked_placed}
 
 -- no slot of the table is used
-abbrev pub Slot : Type 0
-Slot = Unit {0}
+abbrev pub NoSlot : Type 0
+NoSlot = Unit {0}
 
 -- the one list, and what the other words say
 pub record Marks : Type 0 where
-  pub log : List Item
+  pub log : List LogItem
   pub durable : ℕ
   pub linked : ℕ
   pub indexed : ℕ
@@ -27,7 +27,7 @@ abbrev pub words_of : Marks → List ℕ
 words_of m = length m.log ∷ m.durable ∷ m.linked ∷ m.indexed ∷ m.failed ∷ []
 
 -- the list begins with what was found, and no word goes past another
-pub record Ordered (found : List Item) (m : Marks) : Type 0 where
+pub record Ordered (found : List LogItem) (m : Marks) : Type 0 where
   pub begins : IsPrefix found m.log
   pub linked : m.linked ≤ m.durable
   pub indexed : m.indexed ≤ m.durable
@@ -42,7 +42,7 @@ pub record AtMost (a : Least) (m : Marks) : Type 0 where
   pub failed : a.failed ≤ m.failed
 
 -- what the rule says of one view
-pub record Fits (allows : List Item → Type 0) (m : Marks) (v : View) : Type 0 where
+pub record FitsRule (allows : List LogItem → Type 0) (m : Marks) (v : View) : Type 0 where
   pub seen : IsPrefix v.seen m.log
   pub told : IsPrefix v.told m.log
   pub less : AtMost v.told_least m
@@ -79,7 +79,7 @@ share leaves v = v.leaves
 share (owns n) v = times n v.own
 
 -- how much of it there is in all
-abbrev pub whole : List Item → Marks → Tally → ℕ
+abbrev pub whole : List LogItem → Marks → Tally → ℕ
 whole found m journals = 1
 whole found m indexes = 1
 whole found m books = 1
@@ -89,15 +89,15 @@ whole found m leaves = m.linked - length found
 whole found m (owns n) = times n (placed_by m.log)
 
 -- the rule: one list and words, which each view fits, and of which the views have their shares
-pub record Keeps (allows : List Item → Type 0) (found : List Item) (s : State Slot View) : Type 0 where
+pub record HoldsRule (allows : List LogItem → Type 0) (found : List LogItem) (s : State NoSlot View) : Type 0 where
   pub marks : Marks
   pub words : s.words ≡ words_of marks
   pub ordered : Ordered found marks
-  pub fits : (k : ℕ) (v : View) → get_elem? s.views k ≡ some v → Fits allows marks v
+  pub fits : (k : ℕ) (v : View) → get_elem? s.views k ≡ some v → FitsRule allows marks v
   pub sums : (t : Tally) → sum_by (share t) s.views ≡ whole found marks t
 
 -- what a load of `placed` tells
-pub record SeesPlaced (allows : List Item → Type 0) (v : View) (n : ℕ) (w : View) : Type 0 where
+pub record SeesPlaced (allows : List LogItem → Type 0) (v : View) (n : ℕ) (w : View) : Type 0 where
   pub view : w ≡ looked_placed v n
   pub lawful : allows v.seen
   pub least : length v.seen ≤ n
@@ -107,7 +107,7 @@ pub record SeesPlaced (allows : List Item → Type 0) (v : View) (n : ℕ) (w : 
   pub whole : v.roles.book ≡ true → n ≡ length v.seen
 
 -- a load gives no less than was known, and just that to the one who holds the word's role
-pub record Finds (role : Bool) (known n : ℕ) : Type 0 where
+pub record Loads (role : Bool) (known n : ℕ) : Type 0 where
   pub least : known ≤ n
   pub exact : role ≡ true → n ≡ known
 
@@ -123,7 +123,7 @@ pub record Compares (v : View) (n : ℕ) (w : View) : Type 0 where
   pub whole : v.roles.book ≡ true → n ≡ length v.seen
 
 -- what a load by the holder of the book's role tells: with the whole weight all numbers and leaves are its own
-pub record Closes (found : List Item) (v : View) (n : ℕ) (w : View) : Type 0 where
+pub record Closes (found : List LogItem) (v : View) (n : ℕ) (w : View) : Type 0 where
   pub view : w ≡ v
   pub begins : IsPrefix found v.seen
   pub whole : n ≡ length v.seen

@@ -1,7 +1,7 @@
 -- What each step makes of a view, and the numbers of a list's items.
 use Rattle.std.specs.Prelude.{◌≡◌, ℕ, suc, ◌+◌, ◌-◌, ◌==◌, ◌||◌, ◌&&◌, not, max, min, List, [], ◌∷◌, ◌++◌, length, Bool, true, false, cond, ltb}
 use Rattle.im_table.specs.declared.view.View.{View}
-use Rattle.im_table.specs.declared.items.Item.{Item}
+use Rattle.im_table.specs.declared.items.LogItem.{LogItem}
 use Rattle.im_table.specs.declared.view.Looks.{Looks}
 use Rattle.im_table.specs.declared.view.AllLooks.{AllLooks}
 use Rattle.im_table.specs.declared.roles.Roles.{Roles}
@@ -13,12 +13,12 @@ times n [] = 0
 times n (x ∷ xs) = cond (x == n) 1 0 + times n xs
 
 -- the numbers, from k on, of the items that were not found
-abbrev pub numbers : ℕ → List Item → List ℕ
+abbrev pub numbers : ℕ → List LogItem → List ℕ
 numbers k [] = []
 numbers k (x ∷ xs) = cond x.found (numbers (suc k) xs) (k ∷ numbers (suc k) xs)
 
 -- the numbers of the items of a whole list that were not found
-abbrev pub placed_by : List Item → List ℕ
+abbrev pub placed_by : List LogItem → List ℕ
 placed_by log = numbers 1 log
 
 -- no load was made
@@ -49,12 +49,12 @@ abbrev pub looked_failed : View → ℕ → View
 looked_failed v n = record v { least = record v.least { failed = n }; looks = record v.looks { failed = once_more v.looks.failed n } }
 
 -- behind the store that places an item
-abbrev pub added : View → Item → View
+abbrev pub added : View → LogItem → View
 added v x = record v { seen = v.seen ++ x ∷ []; own = v.own ++ (length v.seen + 1) ∷ [] }
 
 -- behind the store of the word durable
-abbrev pub settled : View → ℕ → View
-settled v n = record v { least = record v.least { durable = n } }
+abbrev pub view_settled : View → ℕ → View
+view_settled v n = record v { least = record v.least { durable = n } }
 
 -- behind the store of one failure more
 abbrev pub failed_once : View → View
@@ -99,17 +99,17 @@ abbrev pub right_of : Roles → ℕ → View → View
 right_of roles weight v = record { seen = v.seen; told = []; told_least = zeros; own = []; least = v.least; roles = roles; weight = weight; leaves = 0; faults = 0; looks = no_looks }
 
 -- of two front parts of one list the longer, and the shorter
-abbrev pub longer : List Item → List Item → List Item
+abbrev pub longer : List LogItem → List LogItem → List LogItem
 longer xs ys = cond (ltb (length xs) (length ys)) ys xs
 
-abbrev pub shorter : List Item → List Item → List Item
+abbrev pub shorter : List LogItem → List LogItem → List LogItem
 shorter xs ys = cond (ltb (length xs) (length ys)) xs ys
 
 -- of two lists that of the pass that has the role of the book, else the longer; and the other one
-abbrev pub chosen : Bool → Bool → List Item → List Item → List Item
+abbrev pub chosen : Bool → Bool → List LogItem → List LogItem → List LogItem
 chosen b c xs ys = cond b xs (cond c ys (longer xs ys))
 
-abbrev pub other_of : Bool → Bool → List Item → List Item → List Item
+abbrev pub other_of : Bool → Bool → List LogItem → List LogItem → List LogItem
 other_of b c xs ys = cond b ys (cond c xs (shorter xs ys))
 
 -- of two known numbers that of the pass that has the role, else the greater; and the other one
@@ -145,15 +145,15 @@ abbrev pub untold : View → View
 untold v = record v { told = []; told_least = zeros }
 
 -- behind a join: the list, numbers and roles of both, and the sums
-abbrev pub joined : View → View → View
-joined v w = untold (together v w)
+abbrev pub view_joined : View → View → View
+view_joined v w = untold (together v w)
 
 -- the view of a pass that was taken in
 abbrev pub spent : View
 spent = record { seen = []; told = []; told_least = zeros; own = []; least = zeros; roles = no_roles; weight = 0; leaves = 0; faults = 0; looks = no_looks }
 
 -- the view of the first pass, where this was found
-abbrev pub opener : List Item → View
+abbrev pub opener : List LogItem → View
 opener found = record {
   seen = found;
   told = [];

@@ -3,7 +3,7 @@ use im_model::transactions::Transaction;
 
 /// A transaction of the list that threads share, with what is known of it besides.
 #[derive(Drop)]
-pub struct Item {
+pub struct LogItem {
     /// Whether it was found when the store was opened.
     pub found: bool,
     /// What it says.
@@ -16,7 +16,7 @@ pub struct Item {
 #[derive(Drop)]
 pub struct Opening {
     /// The transactions that were found, in order, each marked so.
-    pub found: Vec<Item>,
+    pub found: Vec<LogItem>,
     /// The number of value logs, 1 to 4, to which the values of further transactions go.
     pub logs: u8,
 }

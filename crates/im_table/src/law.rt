@@ -2,13 +2,13 @@
 pub trait Law {
     ghost use Rattle.std.specs.Prelude.{◌≡◌, List, true};
     ghost use Rattle.std.specs.List.{All};
-    ghost use Rattle.im_table.specs.declared.items.Item.{Item};
+    ghost use Rattle.im_table.specs.declared.items.LogItem.{LogItem};
 
     // The lists that may be.
-    ghost allows: { List Item → Type 0 };
+    ghost allows: { List LogItem → Type 0 };
 
     // A list that was found when the store was opened may be, whatever it says.
-    ghost allows_found: { (xs : List Item) → All (λ x. x.found ≡ true) xs → allows xs };
+    ghost allows_found: { (xs : List LogItem) → All (λ x. x.found ≡ true) xs → allows xs };
 }
 
 /// The law that allows each list.

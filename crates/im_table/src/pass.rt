@@ -12,7 +12,7 @@ use std::marker::Model;
 ///
 /// # Invariants
 ///
-/// What a view says of the words and of the other passes is the rule of the tip (`Keeps`): it holds between any two
+/// What a view says of the words and of the other passes is the rule of the tip (`HoldsRule`): it holds between any two
 /// steps of any threads. A pass that is dropped keeps its roles and its weight, so no other pass gets them again.
 #[derive(Drop)]
 pub struct Pass {
@@ -21,9 +21,9 @@ pub struct Pass {
 
 impl Model for Pass {
     ghost use Rattle.std.specs.Prelude.{◌≡◌, []};
-    ghost use Rattle.im_table.specs.Known.{Known};
+    ghost use Rattle.im_table.specs.Known.{KnownPass};
 
-    ghost Value = { Known };
+    ghost Value = { KnownPass };
 
     ghost view = { λ p. record { table = p.seat.table_id; view = p.seat.me.0 } };
 

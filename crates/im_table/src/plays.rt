@@ -11,11 +11,11 @@ pub struct Ruled<L: Law> {
 }
 
 impl<L: Law> TableRule<(), View, Opening> for Ruled<L> {
-    ghost use Rattle.im_table.specs.References.{Meets};
-    ghost use Rattle.im_table.specs.Rules.{Keeps};
+    ghost use Rattle.im_table.specs.References.{IsLawful};
+    ghost use Rattle.im_table.specs.Rules.{HoldsRule};
     ghost use Rattle.im_table.specs.Views.{opener};
 
-    ghost holds = { λ key. Keeps (Meets L.allows key.logs) key.found.items };
+    ghost holds = { λ key. HoldsRule (IsLawful L.allows key.logs) key.found.items };
 
     ghost first = { λ key. opener key.found.items };
 }
@@ -23,10 +23,10 @@ impl<L: Law> TableRule<(), View, Opening> for Ruled<L> {
 /// What a tip was opened with, for a step that tells of it. Each call picks it.
 pub trait Origin {
     ghost use Rattle.std.specs.Prelude.{ℕ, List};
-    ghost use Rattle.im_table.specs.declared.items.Item.{Item};
+    ghost use Rattle.im_table.specs.declared.items.LogItem.{LogItem};
 
     // What was found.
-    ghost found: { List Item };
+    ghost found: { List LogItem };
 
     // The number of value logs.
     ghost logs: { ℕ };
@@ -48,10 +48,10 @@ pub struct SeePlaced<L: Law, O: Origin> {
 
 impl<L: Law, O: Origin> Play<(), View> for SeePlaced<L, O> {
     ghost use Rattle.std.specs.Prelude.{◌≡◌};
-    ghost use Rattle.im_table.specs.References.{Meets};
+    ghost use Rattle.im_table.specs.References.{IsLawful};
     ghost use Rattle.im_table.specs.Rules.{SeesPlaced};
 
-    ghost then = { λ s v n w. SeesPlaced (Meets L.allows O.logs) v.0 n w.0 × (w.1 ≡ v.1) };
+    ghost then = { λ s v n w. SeesPlaced (IsLawful L.allows O.logs) v.0 n w.0 × (w.1 ≡ v.1) };
 }
 
 /// A load of the word durable.
@@ -59,10 +59,10 @@ pub struct SeeDurable;
 
 impl Play<(), View> for SeeDurable {
     ghost use Rattle.std.specs.Prelude.{◌≡◌};
-    ghost use Rattle.im_table.specs.Rules.{Finds};
+    ghost use Rattle.im_table.specs.Rules.{Loads};
     ghost use Rattle.im_table.specs.Views.{looked_durable};
 
-    ghost then = { λ s v n w. ((w.0 ≡ looked_durable v.0 n) × Finds v.0.roles.journal v.0.least.durable n) × (w.1 ≡ v.1) };
+    ghost then = { λ s v n w. ((w.0 ≡ looked_durable v.0 n) × Loads v.0.roles.journal v.0.least.durable n) × (w.1 ≡ v.1) };
 }
 
 /// A load of the word linked.
@@ -70,10 +70,10 @@ pub struct SeeLinked;
 
 impl Play<(), View> for SeeLinked {
     ghost use Rattle.std.specs.Prelude.{◌≡◌};
-    ghost use Rattle.im_table.specs.Rules.{Finds};
+    ghost use Rattle.im_table.specs.Rules.{Loads};
     ghost use Rattle.im_table.specs.Views.{looked_linked};
 
-    ghost then = { λ s v n w. ((w.0 ≡ looked_linked v.0 n) × Finds v.0.roles.tree v.0.least.linked n) × (w.1 ≡ v.1) };
+    ghost then = { λ s v n w. ((w.0 ≡ looked_linked v.0 n) × Loads v.0.roles.tree v.0.least.linked n) × (w.1 ≡ v.1) };
 }
 
 /// A load of the word indexed.
@@ -81,10 +81,10 @@ pub struct SeeIndexed;
 
 impl Play<(), View> for SeeIndexed {
     ghost use Rattle.std.specs.Prelude.{◌≡◌};
-    ghost use Rattle.im_table.specs.Rules.{Finds};
+    ghost use Rattle.im_table.specs.Rules.{Loads};
     ghost use Rattle.im_table.specs.Views.{looked_indexed};
 
-    ghost then = { λ s v n w. ((w.0 ≡ looked_indexed v.0 n) × Finds v.0.roles.index v.0.least.indexed n) × (w.1 ≡ v.1) };
+    ghost then = { λ s v n w. ((w.0 ≡ looked_indexed v.0 n) × Loads v.0.roles.index v.0.least.indexed n) × (w.1 ≡ v.1) };
 }
 
 /// A load of the word failed.
@@ -92,10 +92,10 @@ pub struct SeeFailed;
 
 impl Play<(), View> for SeeFailed {
     ghost use Rattle.std.specs.Prelude.{◌≡◌};
-    ghost use Rattle.im_table.specs.Rules.{Finds};
+    ghost use Rattle.im_table.specs.Rules.{Loads};
     ghost use Rattle.im_table.specs.Views.{looked_failed};
 
-    ghost then = { λ s v n w. ((w.0 ≡ looked_failed v.0 n) × Finds v.0.roles.journal v.0.least.failed n) × (w.1 ≡ v.1) };
+    ghost then = { λ s v n w. ((w.0 ≡ looked_failed v.0 n) × Loads v.0.roles.journal v.0.least.failed n) × (w.1 ≡ v.1) };
 }
 
 /// A load of the word placed, behind a join: it compares the two front parts and the numbers of the view.
@@ -110,9 +110,9 @@ impl Play<(), View> for Comparing {
 
 /// Which transaction is placed. Each call picks it.
 pub trait Added {
-    ghost use Rattle.im_table.specs.declared.items.Item.{Item};
+    ghost use Rattle.im_table.specs.declared.items.LogItem.{LogItem};
 
-    ghost item: { Item };
+    ghost item: { LogItem };
 }
 
 impl Added for Brand {
@@ -138,9 +138,9 @@ pub struct Settling;
 
 impl Play<(), View> for Settling {
     ghost use Rattle.std.specs.Prelude.{◌≡◌};
-    ghost use Rattle.im_table.specs.Views.{settled};
+    ghost use Rattle.im_table.specs.Views.{view_settled};
 
-    ghost then = { λ s v n w. (w.0 ≡ settled v.0 n) × (w.1 ≡ v.1) };
+    ghost then = { λ s v n w. (w.0 ≡ view_settled v.0 n) × (w.1 ≡ v.1) };
 }
 
 /// A store of the word linked.

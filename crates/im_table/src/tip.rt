@@ -2,11 +2,11 @@ ghost use Rattle.std.specs.Prelude.{◌≡◌, ℕ, ◌<◌, ◌≤◌, ◌+◌,
 ghost use Rattle.std.specs.List.{All};
 ghost use mathlib.Core.List.{IsPrefix};
 ghost use Rattle.im_format.specs.Places.{AreAppended};
-ghost use Rattle.im_table.specs.References.{references_of, Meets};
-ghost use Rattle.im_table.specs.Views.{times, placed_by, looked_durable, looked_linked, looked_indexed, looked_failed, added, settled, linked_to, indexed_to, failed_once, AreHeld, left_of, right_of, joined, opener};
-ghost use Rattle.im_table.specs.Rules.{SeesPlaced, Finds};
+ghost use Rattle.im_table.specs.References.{references_of, HaveLengths, IsLawful};
+ghost use Rattle.im_table.specs.Views.{times, placed_by, looked_durable, looked_linked, looked_indexed, looked_failed, added, view_settled, linked_to, indexed_to, failed_once, AreHeld, left_of, right_of, view_joined, opener};
+ghost use Rattle.im_table.specs.Rules.{SeesPlaced, Loads};
 
-use crate::items::{Item, Opening};
+use crate::items::{LogItem, Opening};
 use crate::law::Law;
 use crate::pass::Pass;
 use crate::plays::{
@@ -31,7 +31,7 @@ use std::marker::{Brand, Model};
 ///
 /// # Invariants
 ///
-/// The rule (`Keeps`) holds between any two steps. There is one list, as long as the word placed. It begins with what
+/// The rule (`HoldsRule`) holds between any two steps. There is one list, as long as the word placed. It begins with what
 /// was found, and with the list of each pass, and the law holds of the list of each pass. A number that a pass knows is
 /// at most its word, and the holder of a role knows the role's words exactly, or has seen the whole list. Weights,
 /// leaves and own numbers are counted over all passes.
@@ -41,21 +41,22 @@ pub struct Tip<L: Law> {
 }
 
 impl<L: Law> Model for Tip<L> {
-    ghost use Rattle.std.specs.Prelude.{◌≡◌};
+    ghost use Rattle.std.specs.Prelude.{◌≡◌, ◌≤◌};
     ghost use Rattle.im_table.specs.Known.{Place};
 
     ghost Value = { Place };
 
     ghost view = { λ t. record { table = t.table.shared.table_id; found = t.table.shared.key.found.items; logs = t.table.shared.key.logs } };
 
-    ghost invariant = { λ t. t.table.shared.table_id.words ≡ 5 };
+    ghost invariant = { λ t. (t.table.shared.table_id.words ≡ 5) × (1 ≤ t.table.shared.key.logs) × (t.table.shared.key.logs ≤ 4) };
 }
 
 impl<L: Law> Tip<L> {
     /// A tip whose list is what was found, all of it durable, linked and indexed, with the pass that has each role and
     /// the whole weight. Its only error is want of memory.
     pub fn open(alloc: Global, opening: &Opening) -> Result<(Tip<L>, Pass), AllocError>
-        requires { All (λ x. x.found ≡ true) opening.now.found.items }
+        requires found { All (λ x. x.found ≡ true) opening.now.found.items }
+        requires logs { (1 ≤ opening.now.logs) × (opening.now.logs ≤ 4) }
         ensures { IfOk result (λ r. (r.0.found ≡ opening.now.found.items) × (r.0.logs ≡ opening.now.logs) × (r.1.table ≡ r.0.table) × (r.1.view ≡ opener opening.now.found.items)) }
     {
         let placed = opening.found.len() as u64;
@@ -67,18 +68,20 @@ impl<L: Law> Tip<L> {
         requires picked { O.logs ≡ self.now.logs }
         requires table { pass.old.table ≡ self.now.table }
         ensures table { pass.new.table ≡ pass.old.table }
-        ensures sees { SeesPlaced (Meets L.allows O.logs) pass.old.view result pass.new.view }
+        ensures sees { SeesPlaced (IsLawful L.allows O.logs) pass.old.view result pass.new.view }
+        ensures logs { (1 ≤ self.now.logs) × (self.now.logs ≤ 4) }
     {
         self.table.shared.load::<SeePlaced<L, O>>(&mut pass.seat, 0)
     }
 
     /// How many transactions are placed: no fewer than the pass has seen or knows of, and just those that it has seen
-    /// where it has the role of the book. The law holds of what it has seen, and the references of that lie by the rule
-    /// of the value logs.
+    /// where it has the role of the book. The law holds of what it has seen, whose references lie by the rule of the
+    /// value logs, 1 to 4 of them.
     pub fn load_placed(&self, pass: &mut Pass) -> u64
         requires table { pass.old.table ≡ self.now.table }
         ensures table { pass.new.table ≡ pass.old.table }
-        ensures sees { SeesPlaced (Meets L.allows self.now.logs) pass.old.view result pass.new.view }
+        ensures sees { SeesPlaced (IsLawful L.allows self.now.logs) pass.old.view result pass.new.view }
+        ensures logs { (1 ≤ self.now.logs) × (self.now.logs ≤ 4) }
     {
         self.load_placed_as::<Brand>(pass)
     }
@@ -88,7 +91,7 @@ impl<L: Law> Tip<L> {
         requires { pass.old.table ≡ self.now.table }
         ensures table { pass.new.table ≡ pass.old.table }
         ensures view { pass.new.view ≡ looked_durable pass.old.view result }
-        ensures finds { Finds pass.old.view.roles.journal pass.old.view.least.durable result }
+        ensures finds { Loads pass.old.view.roles.journal pass.old.view.least.durable result }
     {
         self.table.shared.load::<SeeDurable>(&mut pass.seat, 1)
     }
@@ -98,7 +101,7 @@ impl<L: Law> Tip<L> {
         requires { pass.old.table ≡ self.now.table }
         ensures table { pass.new.table ≡ pass.old.table }
         ensures view { pass.new.view ≡ looked_linked pass.old.view result }
-        ensures finds { Finds pass.old.view.roles.tree pass.old.view.least.linked result }
+        ensures finds { Loads pass.old.view.roles.tree pass.old.view.least.linked result }
     {
         self.table.shared.load::<SeeLinked>(&mut pass.seat, 2)
     }
@@ -108,7 +111,7 @@ impl<L: Law> Tip<L> {
         requires { pass.old.table ≡ self.now.table }
         ensures table { pass.new.table ≡ pass.old.table }
         ensures view { pass.new.view ≡ looked_indexed pass.old.view result }
-        ensures finds { Finds pass.old.view.roles.index pass.old.view.least.indexed result }
+        ensures finds { Loads pass.old.view.roles.index pass.old.view.least.indexed result }
     {
         self.table.shared.load::<SeeIndexed>(&mut pass.seat, 3)
     }
@@ -118,12 +121,12 @@ impl<L: Law> Tip<L> {
         requires { pass.old.table ≡ self.now.table }
         ensures table { pass.new.table ≡ pass.old.table }
         ensures view { pass.new.view ≡ looked_failed pass.old.view result }
-        ensures finds { Finds pass.old.view.roles.journal pass.old.view.least.failed result }
+        ensures finds { Loads pass.old.view.roles.journal pass.old.view.least.failed result }
     {
         self.table.shared.load::<SeeFailed>(&mut pass.seat, 4)
     }
 
-    fn store_as<J: Added>(&self, pass: &mut Pass, item: &Item, new: u64)
+    fn store_as<J: Added>(&self, pass: &mut Pass, item: &LogItem, new: u64)
         requires picked { J.item ≡ item.now }
         requires table { pass.old.table ≡ self.now.table }
         requires role { pass.old.view.roles.book ≡ true }
@@ -132,6 +135,7 @@ impl<L: Law> Tip<L> {
         requires fresh { item.now.found ≡ false }
         requires lawful { L.allows (pass.old.view.seen ++ item.now ∷ []) }
         requires laid { AreAppended self.now.logs (length pass.old.view.seen + 1) 0 (references_of pass.old.view.seen) item.now.refs }
+        requires sized { HaveLengths item.now.tx.entries item.now.refs }
         ensures table { pass.new.table ≡ pass.old.table }
         ensures view { pass.new.view ≡ added pass.old.view item.now }
     {
@@ -140,8 +144,9 @@ impl<L: Law> Tip<L> {
     }
 
     /// Places a transaction behind all that was placed. Its number, `new`, is the last of the pass's own numbers then.
-    /// The law holds of the list with it, and its values lie where the rule of the value logs puts them.
-    pub fn store_placed(&self, pass: &mut Pass, item: &Item, new: u64)
+    /// The law holds of the list with it, its values lie where the rule of the value logs puts them, and there is a
+    /// reference for each entry, with its value's length.
+    pub fn store_placed(&self, pass: &mut Pass, item: &LogItem, new: u64)
         requires table { pass.old.table ≡ self.now.table }
         requires role { pass.old.view.roles.book ≡ true }
         requires weight { 0 < pass.old.view.weight }
@@ -149,6 +154,7 @@ impl<L: Law> Tip<L> {
         requires fresh { item.now.found ≡ false }
         requires lawful { L.allows (pass.old.view.seen ++ item.now ∷ []) }
         requires laid { AreAppended self.now.logs (length pass.old.view.seen + 1) 0 (references_of pass.old.view.seen) item.now.refs }
+        requires sized { HaveLengths item.now.tx.entries item.now.refs }
         ensures table { pass.new.table ≡ pass.old.table }
         ensures view { pass.new.view ≡ added pass.old.view item.now }
     {
@@ -162,7 +168,7 @@ impl<L: Law> Tip<L> {
         requires more { pass.old.view.least.durable ≤ new }
         requires within { new ≤ length pass.old.view.seen }
         ensures table { pass.new.table ≡ pass.old.table }
-        ensures view { pass.new.view ≡ settled pass.old.view new }
+        ensures view { pass.new.view ≡ view_settled pass.old.view new }
     {
         self.table.shared.store::<Settling>(&mut pass.seat, 1, new);
     }
@@ -238,7 +244,7 @@ impl<L: Law> Tip<L> {
         requires table { pass.old.table ≡ self.now.table }
         requires other { other.table ≡ self.now.table }
         ensures table { pass.new.table ≡ pass.old.table }
-        ensures view { pass.new.view ≡ joined pass.old.view other.view }
+        ensures view { pass.new.view ≡ view_joined pass.old.view other.view }
         ensures mine { IsPrefix pass.old.view.seen pass.new.view.seen }
         ensures theirs { IsPrefix other.view.seen pass.new.view.seen }
         ensures durable { (pass.old.view.least.durable ≤ pass.new.view.least.durable) × (other.view.least.durable ≤ pass.new.view.least.durable) }

@@ -1,4 +1,4 @@
-use crate::items::Item;
+use crate::items::LogItem;
 use crate::roles::Roles;
 use std::collections::LinkedList;
 
@@ -39,9 +39,9 @@ pub struct Least {
 /// What a pass knows and has done. It exists in contracts alone: no value of it is made.
 pub struct View {
     /// The front part of the list that it has seen.
-    pub seen: LinkedList<Item>,
+    pub seen: LinkedList<LogItem>,
     /// Another front part, which `join` has taken over and not compared yet. It is empty between calls.
-    pub told: LinkedList<Item>,
+    pub told: LinkedList<LogItem>,
     /// Numbers which `join` has taken over and not compared yet. They are 0 between calls.
     pub told_least: Least,
     /// The numbers of the transactions that it placed, and that passes joined into it had placed.

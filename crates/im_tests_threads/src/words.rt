@@ -7,14 +7,12 @@ ghost use Rattle.im_table.specs.Passes.{journal_role, index_role, book_role, tre
 use im_format::references::Refs;
 use im_model::entries::Entries;
 use im_model::transactions::Transaction;
-use im_table::items::{Item, Opening};
+use im_table::items::{LogItem, Opening};
 use im_table::law::Free;
 use im_table::pass::Pass;
 use im_table::roles::Roles;
-use im_table::room::Room;
 use im_table::tip::Tip;
 use std::alloc::{AllocError, Global};
-use std::marker::Brand;
 use std::test::Fail;
 use std::thread::{Threads, join};
 
@@ -43,15 +41,15 @@ fn showing() -> Roles
 }
 
 // A transaction with no entries, and so with no values.
-fn empty_item(alloc: Global) -> Item
-    ensures { (result.found ≡ false) × (result.refs ≡ []) }
+fn empty_item(alloc: Global) -> LogItem
+    ensures { (result.found ≡ false) × (result.tx.entries ≡ []) × (result.refs ≡ []) }
 {
     let tx = Transaction {
         ts: 0,
         entries: Entries::from_vec(Vec::new(alloc)),
         bl: 0,
     };
-    Item {
+    LogItem {
         found: false,
         tx,
         refs: Refs::from_vec(Vec::new(alloc)),
@@ -59,10 +57,10 @@ fn empty_item(alloc: Global) -> Item
 }
 
 // Places the first transaction, and tells that it is durable.
-fn place_first(tip: &Tip<Free>, mut pass: Pass, item: Item) -> Pass
+fn place_first(tip: &Tip<Free>, mut pass: Pass, item: LogItem) -> Pass
     requires table { pass.table ≡ tip.now.table }
     requires view { pass.view ≡ right_of (either_of journal_role book_role) 1 (opener []) }
-    requires item { (item.found ≡ false) × (item.refs ≡ []) }
+    requires item { (item.found ≡ false) × (item.tx.entries ≡ []) × (item.refs ≡ []) }
     ensures table { result.table ≡ tip.now.table }
     ensures roles { result.view.roles ≡ either_of journal_role book_role }
 {
@@ -119,15 +117,14 @@ fn gather(tip: &Tip<Free>, pass: &mut Pass, one: Pass, two: Pass) -> [u64; 4]
 }
 
 // One thread places, and makes durable; beside it another links and indexes what it finds durable.
-fn run_as<N: Room + Send + Sync, R: Threads + Sync>(
+fn run_over<R: Threads + Sync>(
     rt: &R,
     tip: Tip<Free>,
     mut pass: Pass,
-    item: Item,
+    item: LogItem,
 ) -> [u64; 4]
-    requires tip { tip.table ≡ N.table }
-    requires pass { (pass.table ≡ N.table) × (pass.view ≡ opener []) }
-    requires item { (item.found ≡ false) × (item.refs ≡ []) }
+    requires pass { (pass.table ≡ tip.table) × (pass.view ≡ opener []) }
+    requires item { (item.found ≡ false) × (item.tx.entries ≡ []) × (item.refs ≡ []) }
 {
     let one = tip.split(&mut pass, writing(), 1);
     let two = tip.split(&mut pass, showing(), 1);
@@ -135,12 +132,12 @@ fn run_as<N: Room + Send + Sync, R: Threads + Sync>(
     let (one, two) = join(
         rt,
         move || -> Pass
-            requires { (shared.now.table ≡ N.table) × (one.table ≡ N.table) × (one.view ≡ right_of (either_of journal_role book_role) 1 (opener [])) × (item.found ≡ false) × (item.refs ≡ []) }
-            ensures { (result.table ≡ N.table) × (result.view.roles ≡ either_of journal_role book_role) }
+            requires { (one.table ≡ shared.now.table) × (one.view ≡ right_of (either_of journal_role book_role) 1 (opener [])) × (item.found ≡ false) × (item.tx.entries ≡ []) × (item.refs ≡ []) }
+            ensures { (result.table ≡ shared.now.table) × (result.view.roles ≡ either_of journal_role book_role) }
         { place_first(shared, one, item) },
         move || -> Pass
-            requires { (shared.now.table ≡ N.table) × (two.table ≡ N.table) × (two.view.roles ≡ either_of index_role tree_role) × (0 < two.view.weight) }
-            ensures { (result.table ≡ N.table) × (result.view.roles ≡ either_of index_role tree_role) }
+            requires { (two.table ≡ shared.now.table) × (two.view.roles ≡ either_of index_role tree_role) × (0 < two.view.weight) }
+            ensures { (result.table ≡ shared.now.table) × (result.view.roles ≡ either_of index_role tree_role) }
         { show_first(shared, two) },
     );
     gather(&tip, &mut pass, one, two)
@@ -154,7 +151,7 @@ fn run<R: Threads + Sync>(rt: &R, alloc: Global) -> Result<[u64; 4], AllocError>
     let opened = Tip::<Free>::open(alloc, &opening);
     drop(opening);
     let (tip, pass) = opened?;
-    Ok(run_as::<Brand, R>(rt, tip, pass, empty_item(alloc)))
+    Ok(run_over(rt, tip, pass, empty_item(alloc)))
 }
 
 #[test]

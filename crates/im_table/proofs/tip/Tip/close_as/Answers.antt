@@ -1,9 +1,9 @@
 use Rattle.std.proofs.Common.{rules, ◌≡◌, List, true, ap, sym, subst, ◌∙◌}
 use Rattle.atomic_table.specs.Table.{Allows}
-use Rattle.im_table.specs.declared.items.Item.{Item}
+use Rattle.im_table.specs.declared.items.LogItem.{LogItem}
 use Rattle.im_table.specs.declared.view.View.{View}
-use Rattle.im_table.specs.References.{Meets}
-use Rattle.im_table.specs.Rules.{Closes, Keeps}
+use Rattle.im_table.specs.References.{IsLawful}
+use Rattle.im_table.specs.Rules.{Closes, HoldsRule}
 use Rattle.im_table.proofs.EndLemmas.{closes}
 use Rattle.im_table.proofs.tip.Tip.close_as.Goals as goal
 
@@ -11,11 +11,11 @@ pub load-requires : goal.load-requires
 load-requires g c =
     let v = sym (ap (λ k. k.view) c.pass.view_is) in
     let t = c.self.inside.table.shared in
-    let allows = Meets g.L.Law.allows t.key.logs in
+    let allows = IsLawful g.L.Law.allows t.key.logs in
     let same = ap (λ k. k.found) c.self.view_is ∙ sym c.requires.picked in
     let me = c.pass.inside.seat.me in (
       search rules,
       search rules,
-      subst (λ (l : List Item). Allows (Keeps allows t.key.found.items) t.table_id.slots c.pass.inside.seat.id me 0 (λ n. n) (λ n w. Closes l me.0 n w.0 × (w.1 ≡ me.1))) same
+      subst (λ (l : List LogItem). Allows (HoldsRule allows t.key.found.items) t.table_id.slots c.pass.inside.seat.id me 0 (λ n. n) (λ n w. Closes l me.0 n w.0 × (w.1 ≡ me.1))) same
           (closes allows t.key.found.items t.table_id.slots c.pass.inside.seat.id me (subst (λ (u : View). u.roles.book ≡ true) v c.requires.role)),
     )

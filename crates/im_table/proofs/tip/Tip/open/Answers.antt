@@ -1,9 +1,9 @@
 use Rattle.std.proofs.Common.{subst, sym, ◌∷◌, [], ℕ, ◌∙◌}
 use Rattle.atomic_table.specs.Table.{opening}
-use Rattle.im_table.specs.References.{Meets}
-use Rattle.im_table.specs.Rules.{Keeps, Slot}
+use Rattle.im_table.specs.References.{IsLawful}
+use Rattle.im_table.specs.Rules.{HoldsRule, NoSlot}
 use Rattle.im_table.specs.Views.{opener}
-use Rattle.im_table.proofs.ReferenceLemmas.{found_meets}
+use Rattle.im_table.proofs.ReferenceLemmas.{found_lawful}
 use Rattle.im_table.proofs.EndLemmas.{opens}
 use Rattle.im_table.proofs.tip.Tip.open.Goals as goal
 
@@ -13,5 +13,5 @@ of_words-requires g c =
     let found = c.args.opening.now.found.items in
     let logs = c.args.opening.now.logs in
     let same = c.len-placed.ensures ∙ c.args.opening.now.found.ok.0 in
-    subst (λ (k : ℕ). Keeps (Meets g.L.Law.allows logs) found (opening {S = Slot} (k ∷ k ∷ k ∷ k ∷ 0 ∷ []) [] (opener found))) (sym same)
-    (opens (Meets g.L.Law.allows logs) found (found_meets g.L.Law.allows logs g.L.Law.allows_found found c.requires) c.requires)
+    subst (λ (k : ℕ). HoldsRule (IsLawful g.L.Law.allows logs) found (opening {S = NoSlot} (k ∷ k ∷ k ∷ k ∷ 0 ∷ []) [] (opener found))) (sym same)
+    (opens (IsLawful g.L.Law.allows logs) found (found_lawful g.L.Law.allows logs g.L.Law.allows_found found c.requires.found) c.requires.found)
