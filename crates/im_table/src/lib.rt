@@ -11,6 +11,6 @@ pub mod law;
 pub mod pass;
 pub mod plays;
 pub mod roles;
-pub mod tip_name;
 pub mod tip;
+pub mod tip_name;
 pub mod view;

@@ -117,12 +117,7 @@ fn gather(tip: &Tip<Free>, pass: &mut Pass, one: Pass, two: Pass) -> [u64; 4]
 }
 
 // One thread places, and makes durable; beside it another links and indexes what it finds durable.
-fn run_over<R: Threads + Sync>(
-    rt: &R,
-    tip: Tip<Free>,
-    mut pass: Pass,
-    item: LogItem,
-) -> [u64; 4]
+fn run_over<R: Threads + Sync>(rt: &R, tip: Tip<Free>, mut pass: Pass, item: LogItem) -> [u64; 4]
     requires pass { (pass.table ≡ tip.table) × (pass.view ≡ opener []) }
     requires item { (item.found ≡ false) × (item.tx.entries ≡ []) × (item.refs ≡ []) }
 {
