@@ -57,6 +57,7 @@ impl Nodes {
         requires inside { whole (tree.at + tree.width) ≤ length self.now }
         ensures value { (hash : Hash) (leaves : List (List ℕ)) → tree.at + tree.width ≤ length leaves
             → AreStored hash leaves self.now → result ≡ root hash (leaves_of leaves tree.at tree.width) }
+        ensures fits { tree.at + tree.width < 2 ^ 64 }
         ensures cost { steps.new ≡ steps.old + 1 }
     {
         steps.tick();

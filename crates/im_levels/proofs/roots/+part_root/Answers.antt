@@ -1,8 +1,7 @@
-use Rattle.std.proofs.Common.{◌≡◌, ◌≤◌, ◌+◌, ◌-◌, arith, ap, ◌∙◌, count_ones}
+use Rattle.std.proofs.Common.{◌≡◌, ◌≤◌, ◌-◌, arith, ap, ◌∙◌, count_ones}
 use Rattle.im_levels.specs.Leveled.{leaves_of}
 use Rattle.im_model.specs.Trees.{root}
 use Rattle.im_model.proofs.Lengths.{ones-none}
-use Rattle.im_levels.proofs.CountLemmas.{whole-most}
 use Rattle.im_levels.proofs.ReadLemmas.{node-made}
 use Rattle.im_levels.proofs.roots.+part_root.Goals as goal
 
@@ -19,8 +18,7 @@ returns-then-k-part-clause-cost g t c =
     omega (arith, c.front-k.ensures.digits, c.read-left.ensures.cost)
 
 pub overflow_add-rest : goal.overflow_add-rest
-overflow_add-rest g t c =
-    omega (arith, c.requires.inside, c.front-k.ensures.inside, whole-most (c.args.part.at + c.front-k.result))
+overflow_add-rest g t c = omega (arith, c.read-left.ensures.fits)
 
 pub returns-clause-value : goal.returns-clause-value
 returns-clause-value g t c leaves inside stored =

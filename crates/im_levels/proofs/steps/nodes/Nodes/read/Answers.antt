@@ -1,5 +1,6 @@
 use Rattle.std.proofs.Common.{◌≡◌, ◌<◌, ◌+◌, ◌-◌, ◌*◌, ◌^◌, length, arith, rules, ap, subst, sym, ◌∙◌}
 use Rattle.im_levels.specs.Leveled.{AreStored}
+use Rattle.im_levels.proofs.CountLemmas.{whole-most}
 use Rattle.im_levels.proofs.ReadLemmas.{tree-some, tree-place, tree-read}
 use Rattle.im_levels.proofs.steps.nodes.Nodes.read.Goals as goal
 
@@ -39,3 +40,8 @@ returns-clause-value g c hash leaves inside stored =
     let same : c.as_slice-digests.result.now ≡ c.args.self.now = c.as_slice-digests.ensures.value ∙ c.self.view_is in
     tree-read hash leaves c.as_slice-digests.result.now c.args.tree.at c.args.tree.width c.whole-before.result c.whole-before.ensures c.requires.aligned inside
     (subst (λ d. AreStored hash leaves d) (sym same) stored)
+
+pub returns-clause-fits : goal.returns-clause-fits
+returns-clause-fits g c =
+    let same : length c.as_slice-digests.result.now ≡ length c.args.self.now = ap (λ l. length l) (c.as_slice-digests.ensures.value ∙ c.self.view_is) in
+    omega (arith, c.requires.inside, whole-most (c.args.tree.at + c.args.tree.width))
