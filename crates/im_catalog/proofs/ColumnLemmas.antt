@@ -4,7 +4,7 @@ use Rattle.std.specs.List.{flat_map}
 use Rattle.im_octet.specs.Fields.{field2}
 use Rattle.im_sqltype.specs.declared.columns.ColumnType.{ColumnType}
 use Rattle.im_sqlparse.specs.Formed.{IsName}
-use Rattle.im_sqlmodel.specs.Tables.{IsHeld, column_text, numbers_text}
+use Rattle.im_sqlmodel.specs.Tables.{IsTyped, column_text, numbers_text}
 use Rattle.im_sqlmodel.specs.declared.tables.Column.{Column}
 use Rattle.im_catalog.specs.Fronts.{StandsFirst, NoneStandsFirst, AreMany}
 use Rattle.im_catalog.specs.Parts.{IsFlag, flag_text, FitsTwo, AreColumnNumbers, name_text, held_text, IsColumn, fields_text}
@@ -29,24 +29,24 @@ behind-name : (text name more rest : List ℕ) (c : Column) → StandsFirst IsNa
 behind-name text name more rest c stands p e =
     name-cut name c.name more (held_text c.holds ++ (flag_text c.not_null ++ rest)) stands.is p.0 (sym stands.split ∙ e ∙ column-parts c rest)
 
-pub column-none_without_type : (text name more : List ℕ) → StandsFirst IsName name_text text name more → NoneStandsFirst IsHeld held_text more
+pub column-none_without_type : (text name more : List ℕ) → StandsFirst IsName name_text text name more → NoneStandsFirst IsTyped held_text more
     → NoneStandsFirst IsColumn column_text text
 column-none_without_type text name more stands absent = record {
   none = λ c rest p e. absent.none c.holds (flag_text c.not_null ++ rest) p.1 (behind-name text name more rest c stands p e).1;
 }
 
-behind-type : (text name more others rest : List ℕ) (holds : ColumnType) (c : Column) → StandsFirst IsName name_text text name more → StandsFirst IsHeld held_text more holds others
+behind-type : (text name more others rest : List ℕ) (holds : ColumnType) (c : Column) → StandsFirst IsName name_text text name more → StandsFirst IsTyped held_text more holds others
     → IsColumn c → text ≡ column_text c ++ rest → (holds ≡ c.holds) × (others ≡ flag_text c.not_null ++ rest)
 behind-type text name more others rest holds c stands held p e =
     held-cut holds c.holds others (flag_text c.not_null ++ rest) held.is p.1 (sym held.split ∙ (behind-name text name more rest c stands p e).1)
 
-pub column-none_without_flag : (text name more others : List ℕ) (holds : ColumnType) → StandsFirst IsName name_text text name more → StandsFirst IsHeld held_text more holds others
+pub column-none_without_flag : (text name more others : List ℕ) (holds : ColumnType) → StandsFirst IsName name_text text name more → StandsFirst IsTyped held_text more holds others
     → NoneStandsFirst IsFlag flag_text others → NoneStandsFirst IsColumn column_text text
 column-none_without_flag text name more others holds stands held absent = record {
   none = λ c rest p e. absent.none c.not_null rest tt (behind-type text name more others rest holds c stands held p e).1;
 }
 
-pub column-stands : (text name more others rest : List ℕ) (holds : ColumnType) (flag : Bool) → StandsFirst IsName name_text text name more → StandsFirst IsHeld held_text more holds others
+pub column-stands : (text name more others rest : List ℕ) (holds : ColumnType) (flag : Bool) → StandsFirst IsName name_text text name more → StandsFirst IsTyped held_text more holds others
     → StandsFirst IsFlag flag_text others flag rest → StandsFirst IsColumn column_text text (record { name = name; holds = holds; not_null = flag }) rest
 column-stands text name more others rest holds flag stands held last = record {
   is = (stands.is, held.is);
@@ -58,7 +58,7 @@ column-stands text name more others rest holds flag stands held last = record {
 pub column-cut : Cuts IsColumn column_text
 column-cut c d a b p q e =
     let stands : StandsFirst IsName name_text (column_text c ++ a) c.name (held_text c.holds ++ (flag_text c.not_null ++ a)) = record { is = p.0; split = column-parts c a } in
-    let held : StandsFirst IsHeld held_text (held_text c.holds ++ (flag_text c.not_null ++ a)) c.holds (flag_text c.not_null ++ a) = record { is = p.1; split = refl } in
+    let held : StandsFirst IsTyped held_text (held_text c.holds ++ (flag_text c.not_null ++ a)) c.holds (flag_text c.not_null ++ a) = record { is = p.1; split = refl } in
     let name = behind-name (column_text c ++ a) c.name (held_text c.holds ++ (flag_text c.not_null ++ a)) b d stands q e in
     let type = behind-type (column_text c ++ a) c.name (held_text c.holds ++ (flag_text c.not_null ++ a)) (flag_text c.not_null ++ a) b c.holds d stands held q e in
     let flag = flag-cut c.not_null d.not_null a b tt tt type.1 in

@@ -12,10 +12,10 @@ use Rattle.im_versions.specs.Versions.{last_version, is_live, is_written, begins
 use Rattle.im_versions.specs.declared.versions.Version.{Version}
 use Rattle.im_sqltype.specs.declared.values.Value.{Value}
 use Rattle.im_sqlmodel.specs.Keys.{tables_key, table_key, index_prefix, index_key, mark_key}
-use Rattle.im_sqlmodel.specs.Tables.{IsTable, table_text, IsIndex, index_text}
-use Rattle.im_sqlmodel.specs.Rows.{HasValue, CountIs, TableIs, key_of}
+use Rattle.im_sqlmodel.specs.Tables.{IsTable, table_text, IsTableIndex, index_text}
+use Rattle.im_sqlmodel.specs.Rows.{IsLiveAs, CountIs, TableIs, key_of}
 use Rattle.im_sqlmodel.specs.Writes.{entry_written}
-use Rattle.im_sqlmodel.specs.Kept.{IsTableOf, IsText, IsCountText, IsTableText, IsIndexText, IsMarkText, IsRowText, IsEntryText, IsSound}
+use Rattle.im_sqlmodel.specs.Kept.{IsTableOf, IsText, IsCountText, IsTableText, IsIndexText, IsMarkText, IsRowText, IsEntryText, IsSqlSound}
 use Rattle.im_sqlmodel.specs.declared.tables.SqlIndex.{SqlIndex}
 use Rattle.im_sqlmodel.specs.declared.tables.Table.{Table}
 use Rattle.im_sqlmodel.specs.declared.written.Written.{Written}
@@ -55,10 +55,10 @@ count-of-text history value (inr (inr (inr (inl is)))) = absurd (other-second 0 
 count-of-text history value (inr (inr (inr (inr (inl is))))) = absurd (other-second 0 4 tables_key (key_of is.0 is.1) (λ same. omega (arith, same)) refl refl is.4)
 count-of-text history value (inr (inr (inr (inr (inr is))))) = absurd (entry-is 0 tables_key is.0 is.2 is.1 (omega arith) refl is.5)
 
-value-found : (history : List Transaction) (key : List ℕ) (v : Version) → Some v ≡ last_version history key → v.deleted ≡ false → HasValue history key v.value
+value-found : (history : List Transaction) (key : List ℕ) (v : Version) → Some v ≡ last_version history key → v.deleted ≡ false → IsLiveAs history key v.value
 value-found history key v last live = (v, sym last, live, refl)
 
-pub count-there : (history : List Transaction) (v : Version) → IsSound history → Some v ≡ last_version history tables_key → v.deleted ≡ false → HasCountText v.value
+pub count-there : (history : List Transaction) (v : Version) → IsSqlSound history → Some v ≡ last_version history tables_key → v.deleted ≡ false → HasCountText v.value
 count-there history v sound last live =
     count-of-text history v.value (sound.texts (0 ∷ []) v.value (value-found history tables_key v last live))
 
@@ -94,7 +94,7 @@ table-of-text history name value (inr (inr (inr (inl is)))) = absurd (other-seco
 table-of-text history name value (inr (inr (inr (inr (inl is))))) = absurd (other-second 1 4 (table_key name) (key_of is.0 is.1) (λ same. omega (arith, same)) refl refl is.4)
 table-of-text history name value (inr (inr (inr (inr (inr is))))) = absurd (entry-is 1 (table_key name) is.0 is.2 is.1 (omega arith) refl is.5)
 
-pub table-there : (history : List Transaction) (name : List ℕ) (v : Version) → IsSound history → Some v ≡ last_version history (table_key name) → v.deleted ≡ false → HasTableText name v.value
+pub table-there : (history : List Transaction) (name : List ℕ) (v : Version) → IsSqlSound history → Some v ≡ last_version history (table_key name) → v.deleted ≡ false → HasTableText name v.value
 table-there history name v sound last live =
     table-of-text history name v.value (sound.texts (1 ∷ name) v.value (value-found history (table_key name) v last live))
 
@@ -107,7 +107,7 @@ table-found history name v (Some t) last says = (says.1, says.2, (v, sym last, s
 
 -- ---- indexes
 
-index-of-text : (history : List Transaction) (t : Table) (v : Version) (rest : List ℕ) → IsSound history → IsTableOf history t → v.key ≡ 0 ∷ 2 ∷ field4 t.tid ++ rest
+index-of-text : (history : List Transaction) (t : Table) (v : Version) (rest : List ℕ) → IsSqlSound history → IsTableOf history t → v.key ≡ 0 ∷ 2 ∷ field4 t.tid ++ rest
     → IsText history v.key v.value → HasIndexText t v
 index-of-text history t v rest sound of e (inl is) = absurd (other-second 2 0 v.key tables_key (λ same. omega (arith, same)) (second v.key (0 ∷ 2 ∷ field4 t.tid ++ rest) e) refl is.2)
 index-of-text history t v rest sound of e (inr (inl is)) =
@@ -118,7 +118,7 @@ index-of-text history t v rest sound of e (inr (inr (inl is))) =
     let behind : field4 t.tid ++ rest ≡ field4 u.tid ++ field4 i.iid = ap (λ k. drop 2 k) (sym e ∙ is.4) in
     let tid = tid-cut t.tid u.tid rest (field4 i.iid) of.0.tid.1 is.2.0.tid.1 behind in
     let same : u ≡ t = sound.once u t is.2 of (sym tid.0) in
-    (i, subst (λ (w : Table). IsIndex w i) same is.3, subst (λ (w : Table). v.key ≡ index_key w.tid i.iid) same is.4, is.5)
+    (i, subst (λ (w : Table). IsTableIndex w i) same is.3, subst (λ (w : Table). v.key ≡ index_key w.tid i.iid) same is.4, is.5)
 index-of-text history t v rest sound of e (inr (inr (inr (inl is)))) =
     absurd (other-second 2 3 v.key (mark_key is.0.tid) (λ same. omega (arith, same)) (second v.key (0 ∷ 2 ∷ field4 t.tid ++ rest) e) refl is.2)
 index-of-text history t v rest sound of e (inr (inr (inr (inr (inl is))))) =
@@ -129,16 +129,16 @@ index-of-text history t v rest sound of e (inr (inr (inr (inr (inr is))))) =
 begins-is : (prefix key : List ℕ) → begins_with prefix key ≡ true → key ≡ prefix ++ drop (length prefix) key
 begins-is prefix key h = (starts_is Decides-eqb key prefix (begins_with prefix key) refl).0 h
 
-index-there : (history : List Transaction) (t : Table) (v : Version) → IsSound history → IsTableOf history t → last_version history v.key ≡ Some v → v.deleted ≡ false
+index-there : (history : List Transaction) (t : Table) (v : Version) → IsSqlSound history → IsTableOf history t → last_version history v.key ≡ Some v → v.deleted ≡ false
     → begins_with (index_prefix t.tid) v.key ≡ true → HasIndexText t v
 index-there history t v sound of last live begins =
     let prefix : List ℕ = index_prefix t.tid in
     let rest : List ℕ = drop (length prefix) v.key in
     let key : v.key ≡ 0 ∷ 2 ∷ field4 t.tid ++ rest = begins-is prefix v.key begins in
-    let value : HasValue history (0 ∷ 2 ∷ field4 t.tid ++ rest) v.value = subst (λ k. HasValue history k v.value) key (v, last, live, refl) in
+    let value : IsLiveAs history (0 ∷ 2 ∷ field4 t.tid ++ rest) v.value = subst (λ k. IsLiveAs history k v.value) key (v, last, live, refl) in
     index-of-text history t v rest sound of key
     (subst (λ k. IsText history k v.value) (sym key) (sound.texts (2 ∷ field4 t.tid ++ rest) v.value value))
 
-pub indexes-there : (history : List Transaction) (t : Table) (shown : List Version) → IsSound history → IsTableOf history t → IsScan history (index_prefix t.tid) shown → All (HasIndexText t) shown
+pub indexes-there : (history : List Transaction) (t : Table) (shown : List Version) → IsSqlSound history → IsTableOf history t → IsScan history (index_prefix t.tid) shown → All (HasIndexText t) shown
 indexes-there history t shown sound of scan = λ k d l.
     index-there history t (get_or shown k d) sound of (scan.live k d l).0 (scan.live k d l).1 (scan.begin k d l)

@@ -4,3 +4,4 @@ pub mod ColumnLemmas
 pub mod TestLemmas
 pub mod TableLemmas
 pub mod FoundLemmas
+pub mod OneLemmas

@@ -6,7 +6,7 @@ use Rattle.im_octet.proofs.FieldLemmas.{length-field2, same-field2}
 use Rattle.im_sqltype.specs.declared.columns.ColumnType.{ColumnType}
 use Rattle.im_sqltype.specs.declared.columns.ColumnType.TheVariants as types
 use Rattle.im_sqlparse.specs.Formed.{IsName}
-use Rattle.im_sqlmodel.specs.Tables.{IsHeld, type_code, limit_of}
+use Rattle.im_sqlmodel.specs.Tables.{IsTyped, type_code, limit_of}
 use Rattle.im_catalog.specs.Fronts.{StandsFirst, NoneStandsFirst}
 use Rattle.im_catalog.specs.Parts.{IsFlag, flag_text, FitsTwo, name_text, held_text, MayNotLimit, IsHeldBy, NoneIsHeldBy}
 use Rattle.im_catalog.proofs.CutLemmas.{Cuts, same-fronts}
@@ -153,18 +153,18 @@ none-code code n a b c d = record { none = other }
     other (types.Varchar limit) is = c is.says_code
     other (types.Blob limit) is = d is.says_code
 
-pub held-by : (code n : ℕ) (holds : ColumnType) → IsHeld holds → code ≡ type_code holds → n ≡ limit_of holds → IsHeldBy code n holds
+pub held-by : (code n : ℕ) (holds : ColumnType) → IsTyped holds → code ≡ type_code holds → n ≡ limit_of holds → IsHeldBy code n holds
 held-by code n holds is c l = record { is = is; says_code = c; says_limit = l }
 
 pub ruleset kinds = (none-integer, none-boolean, none-varchar, none-blob, none-code, held-by)
 
-limit-number : (holds : ColumnType) → IsHeld holds → FitsTwo (limit_of holds)
+limit-number : (holds : ColumnType) → IsTyped holds → FitsTwo (limit_of holds)
 limit-number types.Integer is = omega arith
 limit-number types.Boolean is = omega arith
 limit-number (types.Varchar limit) is = let l : limit ≤ 1024 = is.1 in omega (arith, l)
 limit-number (types.Blob limit) is = let l : limit ≤ 1024 = is.1 in omega (arith, l)
 
-same-held : (x y : ColumnType) → IsHeld x → IsHeld y → type_code x ≡ type_code y → limit_of x ≡ limit_of y → x ≡ y
+same-held : (x y : ColumnType) → IsTyped x → IsTyped y → type_code x ≡ type_code y → limit_of x ≡ limit_of y → x ≡ y
 same-held types.Integer types.Integer p q c l = refl
 same-held types.Boolean types.Boolean p q c l = refl
 same-held (types.Varchar m) (types.Varchar n) p q c l = ap types.Varchar l
@@ -182,22 +182,22 @@ same-held (types.Blob m) types.Integer p q c l = absurd (let no : 4 ≡ 1 = c in
 same-held (types.Blob m) types.Boolean p q c l = absurd (let no : 4 ≡ 2 = c in omega (arith, no))
 same-held (types.Blob m) (types.Varchar n) p q c l = absurd (let no : 4 ≡ 3 = c in omega (arith, no))
 
-pub held-cut : Cuts IsHeld held_text
+pub held-cut : Cuts IsTyped held_text
 held-cut x y a b p q e =
     let more = number-cut (limit_of x) (limit_of y) a b (limit-number x p) (limit-number y q)
     (behind (type_code x) (type_code y) (field2 (limit_of x) ++ a) (field2 (limit_of y) ++ b) e) in
     (same-held x y p q (first (type_code x) (type_code y) (field2 (limit_of x) ++ a) (field2 (limit_of y) ++ b) e) more.0, more.1)
 
-pub held-none_in_nothing : (text : List ℕ) → length text < 1 → NoneStandsFirst IsHeld held_text text
+pub held-none_in_nothing : (text : List ℕ) → length text < 1 → NoneStandsFirst IsTyped held_text text
 held-none_in_nothing text short = record { none = λ holds rest p e. no-octet (type_code holds) (field2 (limit_of holds) ++ rest) text e short }
 
-pub held-none_without_number : (text more : List ℕ) (code : ℕ) → text ≡ code ∷ more → NoneStandsFirst FitsTwo field2 more → NoneStandsFirst IsHeld held_text text
+pub held-none_without_number : (text more : List ℕ) (code : ℕ) → text ≡ code ∷ more → NoneStandsFirst FitsTwo field2 more → NoneStandsFirst IsTyped held_text text
 held-none_without_number text more code e absent = record {
   none = λ holds rest p f.
       absent.none (limit_of holds) rest (limit-number holds p) (behind code (type_code holds) more (field2 (limit_of holds) ++ rest) (sym e ∙ f));
 }
 
-pub held-none_at_other : (text more others : List ℕ) (code n : ℕ) → text ≡ code ∷ more → StandsFirst FitsTwo field2 more n others → NoneIsHeldBy code n → NoneStandsFirst IsHeld held_text text
+pub held-none_at_other : (text more others : List ℕ) (code n : ℕ) → text ≡ code ∷ more → StandsFirst FitsTwo field2 more n others → NoneIsHeldBy code n → NoneStandsFirst IsTyped held_text text
 held-none_at_other text more others code n e number absent = record {
   none = λ holds rest p f.
       let same = number-cut n (limit_of holds) others rest number.is (limit-number holds p)
@@ -206,7 +206,7 @@ held-none_at_other text more others code n e number absent = record {
 }
 
 pub held-stands : (text more rest : List ℕ) (code n : ℕ) (holds : ColumnType) → text ≡ code ∷ more → StandsFirst FitsTwo field2 more n rest → IsHeldBy code n holds
-    → StandsFirst IsHeld held_text text holds rest
+    → StandsFirst IsTyped held_text text holds rest
 held-stands text more rest code n holds e number is = record {
   is = is.is;
   split = e ∙ ap (λ s. code ∷ s) number.split ∙ (λ i. is.says_code i ∷ field2 (is.says_limit i) ++ rest);

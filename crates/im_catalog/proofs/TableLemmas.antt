@@ -8,7 +8,7 @@ use Rattle.std.proofs.lemmas.Map.Made.{IsDistinct-from_AllPairs}
 use Rattle.std.proofs.lemmas.Bool.Decides.{Decides-eqb, eqb_tells}
 use Rattle.im_octet.specs.Fields.{field2, field4}
 use Rattle.im_octet.proofs.FieldLemmas.{length-field4, same-field4}
-use Rattle.im_sqlmodel.specs.Tables.{AreColumns, IsTable, IsIndex, column_text, numbers_text, table_text, index_text}
+use Rattle.im_sqlmodel.specs.Tables.{AreColumns, IsTable, IsTableIndex, column_text, numbers_text, table_text, index_text}
 use Rattle.im_sqlmodel.specs.declared.tables.Column.{Column}
 use Rattle.im_sqlmodel.specs.declared.tables.SqlIndex.{SqlIndex}
 use Rattle.im_sqlmodel.specs.declared.tables.Table.{Table}

@@ -3,7 +3,7 @@ use Rattle.std.specs.Prelude.{◌≡◌, ◌<◌, ◌^◌, ◌⊎◌, ℕ, true,
 use Rattle.im_octet.specs.Fields.{field4}
 use Rattle.im_versions.specs.declared.versions.Version.{Version}
 use Rattle.im_sqlmodel.specs.Keys.{index_key}
-use Rattle.im_sqlmodel.specs.Tables.{IsTable, IsIndex, table_text, index_text}
+use Rattle.im_sqlmodel.specs.Tables.{IsTable, IsTableIndex, table_text, index_text}
 use Rattle.im_sqlmodel.specs.declared.tables.SqlIndex.{SqlIndex}
 use Rattle.im_sqlmodel.specs.declared.tables.Table.{Table}
 
@@ -26,4 +26,4 @@ SaysTable name v (Some t) = (v.deleted ≡ false) × IsTable t × (t.name ≡ na
 
 -- the version is an index of the table
 abbrev pub HasIndexText : Table → Version → Type 0
-HasIndexText t v = (i : SqlIndex) × IsIndex t i × (v.key ≡ index_key t.tid i.iid) × (v.value ≡ index_text i)
+HasIndexText t v = (i : SqlIndex) × IsTableIndex t i × (v.key ≡ index_key t.tid i.iid) × (v.value ≡ index_text i)

@@ -4,7 +4,7 @@ use Rattle.std.specs.List.{flat_map}
 use Rattle.im_octet.specs.Fields.{field2}
 use Rattle.im_sqltype.specs.declared.columns.ColumnType.{ColumnType}
 use Rattle.im_sqlparse.specs.Formed.{IsName}
-use Rattle.im_sqlmodel.specs.Tables.{IsHeld, type_code, limit_of, column_text, numbers_text, table_text, index_text}
+use Rattle.im_sqlmodel.specs.Tables.{IsTyped, type_code, limit_of, column_text, numbers_text, table_text, index_text}
 use Rattle.im_sqlmodel.specs.declared.tables.Column.{Column}
 use Rattle.im_sqlmodel.specs.declared.tables.SqlIndex.{SqlIndex}
 use Rattle.im_sqlmodel.specs.declared.tables.Table.{Table}
@@ -37,7 +37,7 @@ MayNotLimit n = 1 ≤ n → n ≤ 1024 → ⊥
 
 -- a code and an n say this type
 pub record IsHeldBy (code n : ℕ) (holds : ColumnType) : Type 0 where
-  pub is : IsHeld holds
+  pub is : IsTyped holds
   pub says_code : code ≡ type_code holds
   pub says_limit : n ≡ limit_of holds
 
@@ -46,7 +46,7 @@ pub record NoneIsHeldBy (code n : ℕ) : Type 0 where
   pub none : (holds : ColumnType) → IsHeldBy code n holds → ⊥
 
 abbrev pub IsColumn : Column → Type 0
-IsColumn c = IsName c.name × IsHeld c.holds
+IsColumn c = IsName c.name × IsTyped c.holds
 
 abbrev pub columns_text : List Column → List ℕ
 columns_text columns = flat_map column_text columns

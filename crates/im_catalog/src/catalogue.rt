@@ -4,7 +4,7 @@
 ghost use Rattle.std.specs.Prelude.{◌≡◌, ◌≤◌, ℕ, ◌<◌, ◌^◌, List, length, take, false, All, IfOk};
 ghost use Rattle.std.specs.List.{AllZip};
 ghost use Rattle.im_model.specs.declared.transactions.Transaction.{Transaction};
-ghost use Rattle.im_sqlmodel.specs.Kept.{IsSound, IsTableOf};
+ghost use Rattle.im_sqlmodel.specs.Kept.{IsSqlSound, IsTableOf};
 ghost use Rattle.im_sqlmodel.specs.Rows.{TableIs, CountIs, IndexesAre, IsIndexVersion};
 ghost use Rattle.im_sqlmodel.specs.Keys.{index_key};
 ghost use Rattle.im_sqlmodel.specs.Tables.{IsTable};
@@ -23,8 +23,8 @@ use std::alloc::Global;
 
 /// How many tables there are after the first `n` transactions.
 pub fn count<V: KvView>(alloc: Global, view: &V, n: u64) -> Result<u32, ViewError>
-    requires { (history : List Transaction) × V.stands view.now history × (n ≤ length history) × IsSound (take n history) }
-    ensures { (history : List Transaction) → V.stands view.now history → n ≤ length history → IsSound (take n history)
+    requires { (history : List Transaction) × V.stands view.now history × (n ≤ length history) × IsSqlSound (take n history) }
+    ensures { (history : List Transaction) → V.stands view.now history → n ≤ length history → IsSqlSound (take n history)
         → IfOk result (CountIs (take n history)) }
 {
     match view.get(alloc, &tables_key(), n)? {
@@ -55,8 +55,8 @@ pub fn table<V: KvView>(
     name: &[u8],
     n: u64,
 ) -> Result<Option<Table>, ViewError>
-    requires { (history : List Transaction) × V.stands view.now history × (n ≤ length history) × IsSound (take n history) }
-    ensures { (history : List Transaction) → V.stands view.now history → n ≤ length history → IsSound (take n history)
+    requires { (history : List Transaction) × V.stands view.now history × (n ≤ length history) × IsSqlSound (take n history) }
+    ensures { (history : List Transaction) → V.stands view.now history → n ≤ length history → IsSqlSound (take n history)
         → IfOk result (TableIs (take n history) name.now) }
 {
     let key = table_key(alloc, name)?;
@@ -88,9 +88,9 @@ pub fn indexes<V: KvView>(
     table: &Table,
     n: u64,
 ) -> Result<Items<SqlIndex>, ViewError>
-    requires { (history : List Transaction) × V.stands view.now history × (n ≤ length history) × IsSound (take n history)
+    requires { (history : List Transaction) × V.stands view.now history × (n ≤ length history) × IsSqlSound (take n history)
         × IsTableOf (take n history) table.now }
-    ensures { (history : List Transaction) → V.stands view.now history → n ≤ length history → IsSound (take n history)
+    ensures { (history : List Transaction) → V.stands view.now history → n ≤ length history → IsSqlSound (take n history)
         → IsTableOf (take n history) table.now → IfOk result (IndexesAre (take n history) table.now) }
 {
     let prefix = index_prefix(alloc, table.tid)?;

@@ -3,7 +3,7 @@
 ghost use Rattle.std.specs.Prelude.{◌≡◌, ◌≢◌, ◌≤◌, IfOk, MatchOption};
 ghost use Rattle.im_octet.specs.Fields.{field2};
 ghost use Rattle.im_sqlparse.specs.Formed.{IsName};
-ghost use Rattle.im_sqlmodel.specs.Tables.{IsHeld, type_code, limit_of, column_text, numbers_text};
+ghost use Rattle.im_sqlmodel.specs.Tables.{IsTyped, type_code, limit_of, column_text, numbers_text};
 ghost use Rattle.im_catalog.specs.Fronts.{StandsFirst, NoneStandsFirst, AreMany};
 ghost use Rattle.im_catalog.specs.Parts.{IsFlag, flag_text, FitsTwo, AreColumnNumbers, name_text, held_text, MayNotLimit, IsHeldBy, NoneIsHeldBy, IsColumn, columns_text, fields_text};
 
@@ -98,7 +98,7 @@ fn held_of(code: u8, n: u16) -> Option<ColumnType>
 // The type that comes first, and what is behind it.
 #[tactic(auto, using(crate::proofs::PartLemmas::held))]
 fn read_held(text: &[u8]) -> Option<(ColumnType, &[u8])>
-    ensures { MatchOption result (NoneStandsFirst IsHeld held_text text.now) (λ front. StandsFirst IsHeld held_text text.now front.0 front.1.now) }
+    ensures { MatchOption result (NoneStandsFirst IsTyped held_text text.now) (λ front. StandsFirst IsTyped held_text text.now front.0 front.1.now) }
 {
     let Some((code, behind)) = text.split_first() else {
         return None;

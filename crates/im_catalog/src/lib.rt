@@ -4,7 +4,8 @@
 
 pub mod catalogue;
 mod fields;
+mod judged;
 pub mod keys;
+pub mod laws;
 pub mod reading;
-mod tests;
 pub mod texts;

@@ -9,7 +9,7 @@ ghost use Rattle.im_catalog.specs.Fronts.{StandsFirst, NoneStandsFirst};
 ghost use Rattle.im_catalog.specs.Parts.{FitsFour, AreColumnNumbers, HasNoNumbers, HasParts, HasNoParts, HasIndexParts, HasNoIndexParts};
 
 use crate::fields::{read_columns, read_flag, read_number, read_numbers};
-use crate::tests::{are_columns, is_table};
+use crate::judged::{are_columns, is_table};
 use im_octet::octets::Octets;
 use im_octet::reader::Reader;
 use im_sqlmodel::tables::{SqlIndex, Table};
@@ -125,8 +125,8 @@ pub fn read_index(
     text: &[u8],
 ) -> Result<SqlIndex, ReadError>
     requires { spec.IsTable table.now }
-    ensures index { IfOk result (λ index. spec.IsIndex table.now index × (index.iid ≡ iid) × (text.now ≡ spec.index_text index)) }
-    ensures none { result ≡ Err ReadError.NotText → (index : DescribedIndex) → spec.IsIndex table.now index → index.iid ≡ iid → text.now ≢ spec.index_text index }
+    ensures index { IfOk result (λ index. spec.IsTableIndex table.now index × (index.iid ≡ iid) × (text.now ≡ spec.index_text index)) }
+    ensures none { result ≡ Err ReadError.NotText → (index : DescribedIndex) → spec.IsTableIndex table.now index → index.iid ≡ iid → text.now ≢ spec.index_text index }
 {
     match read_index_parts(alloc, iid, text)? {
         Some(index) => {

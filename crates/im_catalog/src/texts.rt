@@ -95,7 +95,7 @@ pub fn table_text(alloc: Global, table: &Table) -> Result<Octets, AllocError>
 /// The text of an index of a table. Its only error is want of memory.
 pub fn index_text(alloc: Global, table: &Table, index: &SqlIndex) -> Result<Octets, AllocError>
     requires table { spec.IsTable table.now }
-    requires index { spec.IsIndex table.now index.now }
+    requires index { spec.IsTableIndex table.now index.now }
     ensures { IfOk result (λ text. text ≡ spec.index_text index.now) }
 {
     let mut out = Writer::new(alloc);

@@ -9,7 +9,7 @@ use crate::levels::MOST_LEVELS;
 use crate::scopes::{kind_at, place_of};
 use im_octet::octets::Octets;
 use im_sqlmodel::answers::SqlError;
-use im_sqlmodel::tables::Named;
+use im_sqlmodel::tables::Nameable;
 use im_sqlparse::statements::{Condition, Operand};
 use im_sqltype::kinds::ValueKind;
 use sqlite_items::Boxed;
@@ -18,7 +18,7 @@ use std::alloc::{AllocError, Global};
 /// What is wrong with a name: that it is no column's. Its only error is want of memory.
 pub fn name_fault(
     alloc: Global,
-    scope: &[Named],
+    scope: &[Nameable],
     name: &[u8],
 ) -> Result<Option<SqlError>, AllocError>
     ensures { IfOk result (λ fault. fault ≡ spec.name_fault scope.now name.now) }
@@ -34,7 +34,7 @@ pub fn name_fault(
 
 fn operand_fault(
     alloc: Global,
-    scope: &[Named],
+    scope: &[Nameable],
     operand: &Operand,
 ) -> Result<Option<SqlError>, AllocError>
     ensures { IfOk result (λ fault. fault ≡ spec.operand_fault scope.now operand.now) }
@@ -46,7 +46,7 @@ fn operand_fault(
 }
 
 // The kind of a side; none of NULL and of a column that isn't there.
-fn operand_kind(scope: &[Named], operand: &Operand) -> Option<ValueKind>
+fn operand_kind(scope: &[Nameable], operand: &Operand) -> Option<ValueKind>
     ensures { result ≡ spec.operand_kind scope.now operand.now }
 {
     match operand {
@@ -77,7 +77,7 @@ fn kinds_differ(a: Option<ValueKind>, b: Option<ValueKind>) -> bool
 
 fn comparison_fault(
     alloc: Global,
-    scope: &[Named],
+    scope: &[Nameable],
     left: &Operand,
     at: usize,
     right: &Operand,
@@ -100,7 +100,7 @@ fn comparison_fault(
 #[cycle(fault)]
 fn first_fault(
     alloc: Global,
-    scope: &[Named],
+    scope: &[Nameable],
     conditions: &[Condition],
     levels: usize,
 ) -> Result<Option<SqlError>, AllocError>
@@ -118,7 +118,7 @@ fn first_fault(
 #[cycle(fault)]
 fn fault_by(
     alloc: Global,
-    scope: &[Named],
+    scope: &[Nameable],
     condition: &Condition,
     levels: usize,
 ) -> Result<Option<SqlError>, AllocError>
@@ -142,7 +142,7 @@ fn fault_by(
 #[cycle(fault)]
 fn fault_to(
     alloc: Global,
-    scope: &[Named],
+    scope: &[Nameable],
     condition: &Condition,
     levels: usize,
 ) -> Result<Option<SqlError>, AllocError>
@@ -158,7 +158,7 @@ fn fault_to(
 /// comparison of two types. Its only error is want of memory.
 pub fn filter_fault(
     alloc: Global,
-    scope: &[Named],
+    scope: &[Nameable],
     filter: &Option<Boxed<Condition>>,
 ) -> Result<Option<SqlError>, AllocError>
     ensures { IfOk result (λ fault. fault ≡ spec.filter_fault scope.now filter.now) }

@@ -8,14 +8,14 @@ ghost use Rattle.im_expr.specs.Lent.{lent_value};
 use crate::lent::{Lent, compare, is_null, of_literal};
 use crate::levels::MOST_LEVELS;
 use crate::scopes::value_named;
-use im_sqlmodel::tables::Named;
+use im_sqlmodel::tables::Nameable;
 use im_sqlparse::statements::{Condition, Operand, Operator};
 use im_sqltype::values::Value;
 use sqlite_items::Boxed;
 use std::cmp::Ordering;
 
 // The value of a side.
-fn operand_value<'v>(scope: &[Named], row: &'v [Value], operand: &'v Operand) -> Lent<'v>
+fn operand_value<'v>(scope: &[Nameable], row: &'v [Value], operand: &'v Operand) -> Lent<'v>
     ensures { lent_value result ≡ spec.operand_value scope.now row.now operand.now }
 {
     match operand {
@@ -39,7 +39,7 @@ fn compares(operator: Operator, ordering: Ordering) -> bool
 
 // Whether one of these conditions, of at most so many levels, holds.
 #[cycle(met)]
-fn any_met(scope: &[Named], row: &[Value], conditions: &[Condition], levels: usize) -> bool
+fn any_met(scope: &[Nameable], row: &[Value], conditions: &[Condition], levels: usize) -> bool
     ensures { result ≡ list_any (spec.meets_to levels scope.now row.now) conditions.now }
 {
     for condition in conditions {
@@ -52,7 +52,7 @@ fn any_met(scope: &[Named], row: &[Value], conditions: &[Condition], levels: usi
 
 // Whether all of these conditions, of at most so many levels, hold.
 #[cycle(met)]
-fn all_met(scope: &[Named], row: &[Value], conditions: &[Condition], levels: usize) -> bool
+fn all_met(scope: &[Nameable], row: &[Value], conditions: &[Condition], levels: usize) -> bool
     ensures { result ≡ list_all (spec.meets_to levels scope.now row.now) conditions.now }
 {
     for condition in conditions {
@@ -65,7 +65,7 @@ fn all_met(scope: &[Named], row: &[Value], conditions: &[Condition], levels: usi
 
 // Whether a condition holds in which others of at most so many levels stand.
 #[cycle(met)]
-fn meets_by(scope: &[Named], row: &[Value], condition: &Condition, levels: usize) -> bool
+fn meets_by(scope: &[Nameable], row: &[Value], condition: &Condition, levels: usize) -> bool
     ensures { result ≡ spec.meets_by (spec.meets_to levels scope.now row.now) scope.now row.now condition.now }
 {
     match condition {
@@ -91,7 +91,7 @@ fn meets_by(scope: &[Named], row: &[Value], condition: &Condition, levels: usize
 
 // Whether a condition of at most so many levels holds.
 #[cycle(met)]
-fn meets_to(scope: &[Named], row: &[Value], condition: &Condition, levels: usize) -> bool
+fn meets_to(scope: &[Nameable], row: &[Value], condition: &Condition, levels: usize) -> bool
     ensures { result ≡ spec.meets_to levels scope.now row.now condition.now }
 {
     if levels == 0 {
@@ -101,7 +101,7 @@ fn meets_to(scope: &[Named], row: &[Value], condition: &Condition, levels: usize
 }
 
 /// Whether a row is one of those that are meant: that it meets the condition, if there is one. It takes no memory.
-pub fn meets(scope: &[Named], filter: &Option<Boxed<Condition>>, row: &[Value]) -> bool
+pub fn meets(scope: &[Nameable], filter: &Option<Boxed<Condition>>, row: &[Value]) -> bool
     ensures { result ≡ spec.meets scope.now filter.now row.now }
 {
     match filter {

@@ -5,13 +5,13 @@ use Rattle.im_versions.specs.Versions.{last_version}
 use Rattle.im_versions.specs.declared.versions.Version.{Version}
 use Rattle.im_sqlmodel.specs.Keys.{table_key}
 use Rattle.im_sqlmodel.specs.Tables.{table_text}
-use Rattle.im_sqlmodel.specs.Rows.{HasValue}
-use Rattle.im_sqlmodel.specs.Kept.{IsSound, IsKept}
+use Rattle.im_sqlmodel.specs.Rows.{IsLiveAs}
+use Rattle.im_sqlmodel.specs.Kept.{IsSqlSound, IsSqlKept}
 
 no_version : (key : List ℕ) (v : Version) → last_version [] key ≡ Some v → ⊥
 no_version key v is = true≢false (sym (ap is_some is))
 
-no_value : (key value : List ℕ) → HasValue [] key value → ⊥
+no_value : (key value : List ℕ) → IsLiveAs [] key value → ⊥
 no_value key value h = no_version key h.0 h.1
 
 abbrev no_transactions : List Transaction
@@ -21,7 +21,7 @@ none_taken : (n : ℕ) → take n no_transactions ≡ no_transactions
 none_taken zero = refl
 none_taken (suc n) = refl
 
-nothing_is_sound : IsSound []
+nothing_is_sound : IsSqlSound []
 nothing_is_sound = record {
   texts = λ rest value h. absurd (no_value (0 ∷ rest) value h);
   count = 0;
@@ -35,5 +35,5 @@ nothing_is_sound = record {
   settled = λ n key v prefix last live. absurd (no_version key v (subst (λ (h : List Transaction). last_version h key ≡ Some v) (none_taken n) last));
 }
 
-pub nothing_kept : IsKept []
-nothing_kept n within = subst IsSound (sym (none_taken n)) nothing_is_sound
+pub nothing_kept : IsSqlKept []
+nothing_kept n within = subst IsSqlSound (sym (none_taken n)) nothing_is_sound

@@ -10,13 +10,13 @@ use Rattle.im_sqlparse.specs.declared.statements.Condition.TheOpen.{Condition-F}
 use Rattle.im_sqlparse.specs.Conditions.{most_depth}
 use Rattle.im_sqlparse.specs.Formed.{Level, IsComparisonAt, IsConjunctionAt, IsConjunction, IsDisjunctionAt, IsDisjunction, IsOpenedAt, IsOpened, IsFactor, IsFilter}
 use Rattle.im_sqlmodel.specs.Options.{first_found}
-use Rattle.im_sqlmodel.specs.Conditions.{most_levels, fault_at, fault_to, meets_at, meets_to}
-use Rattle.im_sqlmodel.specs.declared.tables.Named.{Named}
+use Rattle.im_sqlmodel.specs.Conditions.{most_levels, fault_at_level, fault_to, meets_at, meets_to}
+use Rattle.im_sqlmodel.specs.declared.tables.Nameable.{Nameable}
 
 -- from so many levels on its faults are the same, and the rows that meet it
 pub record Settles (n : ℕ) (c : Condition) : Type 0 where
-  pub faults : (m : ℕ) (scope : List Named) → n ≤ m → fault_to m scope c ≡ fault_to n scope c
-  pub rows : (m : ℕ) (scope : List Named) (row : List Value) → n ≤ m → meets_to m scope row c ≡ meets_to n scope row c
+  pub faults : (m : ℕ) (scope : List Nameable) → n ≤ m → fault_to m scope c ≡ fault_to n scope c
+  pub rows : (m : ℕ) (scope : List Nameable) (row : List Value) → n ≤ m → meets_to m scope row c ≡ meets_to n scope row c
 
 later : (n k : ℕ) (c : Condition) → n ≤ k → Settles n c → Settles k c
 later n k c more s = record {
@@ -26,21 +26,21 @@ later n k c more s = record {
 
 -- ---- lists
 
-same_first : (n m : ℕ) (scope : List Named) (cs : List Condition) → n ≤ m → AllByRecursion (Settles n) cs
+same_first : (n m : ℕ) (scope : List Nameable) (cs : List Condition) → n ≤ m → AllByRecursion (Settles n) cs
     → first_found (fault_to m scope) cs ≡ first_found (fault_to n scope) cs
 same_first n m scope [] h all = refl
 same_first n m scope (c ∷ cs) h all =
     ap (λ f. option_or f (first_found (fault_to m scope) cs)) (all.0.faults m scope h)
     ∙ ap (option_or (fault_to n scope c)) (same_first n m scope cs h all.1)
 
-same_any : (n m : ℕ) (scope : List Named) (row : List Value) (cs : List Condition) → n ≤ m → AllByRecursion (Settles n) cs
+same_any : (n m : ℕ) (scope : List Nameable) (row : List Value) (cs : List Condition) → n ≤ m → AllByRecursion (Settles n) cs
     → list_any (meets_to m scope row) cs ≡ list_any (meets_to n scope row) cs
 same_any n m scope row [] h all = refl
 same_any n m scope row (c ∷ cs) h all =
     ap (λ (b : Bool). b || list_any (meets_to m scope row) cs) (all.0.rows m scope row h)
     ∙ ap (λ (b : Bool). meets_to n scope row c || b) (same_any n m scope row cs h all.1)
 
-same_all : (n m : ℕ) (scope : List Named) (row : List Value) (cs : List Condition) → n ≤ m → AllByRecursion (Settles n) cs
+same_all : (n m : ℕ) (scope : List Nameable) (row : List Value) (cs : List Condition) → n ≤ m → AllByRecursion (Settles n) cs
     → list_all (meets_to m scope row) cs ≡ list_all (meets_to n scope row) cs
 same_all n m scope row [] h all = refl
 same_all n m scope row (c ∷ cs) h all =
@@ -61,14 +61,14 @@ SettlesAt n (Condition-F.All cs) = AllByRecursion (Settles n) cs
 SettlesAt n (Condition-F.Not c) = Settles n c
 SettlesAt n other = ⊤
 
-level-faults : (n m : ℕ) (scope : List Named) (l : Level) → n ≤ m → SettlesAt n l → fault_at (fault_to m scope) scope l ≡ fault_at (fault_to n scope) scope l
+level-faults : (n m : ℕ) (scope : List Nameable) (l : Level) → n ≤ m → SettlesAt n l → fault_at_level (fault_to m scope) scope l ≡ fault_at_level (fault_to n scope) scope l
 level-faults n m scope (Condition-F.Any cs) h all = same_first n m scope cs h all
 level-faults n m scope (Condition-F.All cs) h all = same_first n m scope cs h all
 level-faults n m scope (Condition-F.Not c) h s = s.faults m scope h
 level-faults n m scope (Condition-F.Compare left o at right) h s = refl
 level-faults n m scope (Condition-F.Nullness name negated) h s = refl
 
-level-rows : (n m : ℕ) (scope : List Named) (row : List Value) (l : Level) → n ≤ m → SettlesAt n l
+level-rows : (n m : ℕ) (scope : List Nameable) (row : List Value) (l : Level) → n ≤ m → SettlesAt n l
     → meets_at (meets_to m scope row) scope row l ≡ meets_at (meets_to n scope row) scope row l
 level-rows n m scope row (Condition-F.Any cs) h all = same_any n m scope row cs h all
 level-rows n m scope row (Condition-F.All cs) h all = same_all n m scope row cs h all
@@ -76,11 +76,11 @@ level-rows n m scope row (Condition-F.Not c) h s = ap not (s.rows m scope row h)
 level-rows n m scope row (Condition-F.Compare left o at right) h s = refl
 level-rows n m scope row (Condition-F.Nullness name negated) h s = refl
 
-more-faults : (n : ℕ) (c : Condition) → SettlesAt n (out-Condition c) → (m : ℕ) (scope : List Named) → suc n ≤ m → fault_to m scope c ≡ fault_to (suc n) scope c
+more-faults : (n : ℕ) (c : Condition) → SettlesAt n (out-Condition c) → (m : ℕ) (scope : List Nameable) → suc n ≤ m → fault_to m scope c ≡ fault_to (suc n) scope c
 more-faults n c s zero scope h = absurd (let no : ⊥ = omega (arith, h) in no)
 more-faults n c s (suc m) scope h = level-faults n m scope (out-Condition c) (let l : n ≤ m = omega (arith, h) in l) s
 
-more-rows : (n : ℕ) (c : Condition) → SettlesAt n (out-Condition c) → (m : ℕ) (scope : List Named) (row : List Value) → suc n ≤ m
+more-rows : (n : ℕ) (c : Condition) → SettlesAt n (out-Condition c) → (m : ℕ) (scope : List Nameable) (row : List Value) → suc n ≤ m
     → meets_to m scope row c ≡ meets_to (suc n) scope row c
 more-rows n c s zero scope row h = absurd (let no : ⊥ = omega (arith, h) in no)
 more-rows n c s (suc m) scope row h = level-rows n m scope row (out-Condition c) (let l : n ≤ m = omega (arith, h) in l) s

@@ -25,7 +25,7 @@ use Rattle.im_sqlmodel.specs.Options.{first_found}
 use Rattle.im_sqlmodel.specs.declared.answers.SqlError.{SqlError}
 use Rattle.im_sqlmodel.specs.declared.answers.SqlError.TheVariants as error
 use Rattle.im_sqlmodel.specs.declared.tables.Column.{Column}
-use Rattle.im_sqlmodel.specs.declared.tables.Named.{Named}
+use Rattle.im_sqlmodel.specs.declared.tables.Nameable.{Nameable}
 use Rattle.im_sqlmodel.specs.declared.tables.Table.{Table}
 
 -- ---- values
@@ -55,32 +55,32 @@ same_value_kind = sameb the_type
 
 -- ---- columns that may be named
 
-abbrev pub named_of : Column → Named
+abbrev pub named_of : Column → Nameable
 named_of c = record { name = c.name; kind = kind_of c.holds }
 
 -- the number of a version in a history
-abbrev pub rev_column : Named
+abbrev pub rev_column : Nameable
 rev_column = record { name = codes "_rev"; kind = kinds.Integer }
 
 -- the columns of a table, and of its history `_rev` behind them
-abbrev pub scope_of : Table → Bool → List Named
+abbrev pub scope_of : Table → Bool → List Nameable
 scope_of t history =
     map named_of t.columns ++ (if history then rev_column ∷ [] else [])
 
 -- stands where there is none
-abbrev pub no_column : Named
+abbrev pub no_column : Nameable
 no_column = record { name = []; kind = kinds.Integer }
 
-abbrev pub place_of : List Named → List ℕ → Option ℕ
+abbrev pub place_of : List Nameable → List ℕ → Option ℕ
 place_of scope name = position (λ n. bytes_eq n.name name) scope
 
-abbrev pub value_at : List Value → Option ℕ → Value
-value_at row None = Null
-value_at row (Some at) = slice_index_or row at Null
+abbrev pub cell_at : List Value → Option ℕ → Value
+cell_at row None = Null
+cell_at row (Some at) = slice_index_or row at Null
 
 -- the value of a column by its name
-abbrev pub value_named : List Named → List Value → List ℕ → Value
-value_named scope row name = value_at row (place_of scope name)
+abbrev pub value_named : List Nameable → List Value → List ℕ → Value
+value_named scope row name = cell_at row (place_of scope name)
 
 -- An OR-list, an AND-list and a comparison are three levels; each of 64 parentheses is two more, and a NOT one.
 abbrev pub most_levels : ℕ
@@ -88,15 +88,15 @@ most_levels = 131
 
 -- ---- what is wrong
 
-abbrev pub name_fault : List Named → List ℕ → Option SqlError
+abbrev pub name_fault : List Nameable → List ℕ → Option SqlError
 name_fault scope name = if is_none (place_of scope name) then Some (error.NoColumn name) else None
 
-abbrev pub operand_fault : List Named → Operand → Option SqlError
+abbrev pub operand_fault : List Nameable → Operand → Option SqlError
 operand_fault scope (operand.Column name) = name_fault scope name
 operand_fault scope (operand.Literal found) = None
 
 -- the kind of a side; none of NULL and of a column that isn't there
-abbrev pub operand_kind : List Named → Operand → Option ValueKind
+abbrev pub operand_kind : List Nameable → Operand → Option ValueKind
 operand_kind scope (operand.Column name) = option_map (λ at. (slice_index_or scope at no_column).kind) (place_of scope name)
 operand_kind scope (operand.Literal found) = kind_in (literal_value found)
 
@@ -107,33 +107,33 @@ kinds_differ (Some a) None = false
 kinds_differ None b = false
 
 -- the columns from the left, and then the types
-abbrev pub comparison_fault : List Named → Operand → ℕ → Operand → Option SqlError
+abbrev pub comparison_fault : List Nameable → Operand → ℕ → Operand → Option SqlError
 comparison_fault scope left at right =
     option_or (operand_fault scope left) (option_or (operand_fault scope right)
     (if kinds_differ (operand_kind scope left) (operand_kind scope right) then Some (error.Compare at) else None))
 
 -- of one level, where `inner` says what is wrong with the conditions in it
-abbrev pub fault_at : (Condition → Option SqlError) → List Named → Level → Option SqlError
-fault_at inner scope (Condition-F.Any cs) = first_found inner cs
-fault_at inner scope (Condition-F.All cs) = first_found inner cs
-fault_at inner scope (Condition-F.Not c) = inner c
-fault_at inner scope (Condition-F.Compare left o at right) = comparison_fault scope left at right
-fault_at inner scope (Condition-F.Nullness name negated) = name_fault scope name
+abbrev pub fault_at_level : (Condition → Option SqlError) → List Nameable → Level → Option SqlError
+fault_at_level inner scope (Condition-F.Any cs) = first_found inner cs
+fault_at_level inner scope (Condition-F.All cs) = first_found inner cs
+fault_at_level inner scope (Condition-F.Not c) = inner c
+fault_at_level inner scope (Condition-F.Compare left o at right) = comparison_fault scope left at right
+fault_at_level inner scope (Condition-F.Nullness name negated) = name_fault scope name
 
-abbrev pub fault_by : (Condition → Option SqlError) → List Named → Condition → Option SqlError
-fault_by inner scope c = fault_at inner scope (out-Condition c)
+abbrev pub fault_by : (Condition → Option SqlError) → List Nameable → Condition → Option SqlError
+fault_by inner scope c = fault_at_level inner scope (out-Condition c)
 
-abbrev pub fault_to : ℕ → List Named → Condition → Option SqlError
+abbrev pub fault_to : ℕ → List Nameable → Condition → Option SqlError
 fault_to zero scope c = None
 fault_to (suc levels) scope c = fault_by (fault_to levels scope) scope c
 
-abbrev pub filter_fault : List Named → Option Condition → Option SqlError
+abbrev pub filter_fault : List Nameable → Option Condition → Option SqlError
 filter_fault scope None = None
 filter_fault scope (Some c) = fault_to most_levels scope c
 
 -- ---- what it means: it holds or it doesn't; NULL is a value, and the least
 
-abbrev pub operand_value : List Named → List Value → Operand → Value
+abbrev pub operand_value : List Nameable → List Value → Operand → Value
 operand_value scope row (operand.Column name) = value_named scope row name
 operand_value scope row (operand.Literal found) = literal_value found
 
@@ -145,7 +145,7 @@ compares operator.AtMost o = not (is_gt o)
 compares operator.Greater o = is_gt o
 compares operator.AtLeast o = not (is_lt o)
 
-abbrev pub meets_at : (Condition → Bool) → List Named → List Value → Level → Bool
+abbrev pub meets_at : (Condition → Bool) → List Nameable → List Value → Level → Bool
 meets_at inner scope row (Condition-F.Any cs) = list_any inner cs
 meets_at inner scope row (Condition-F.All cs) = list_all inner cs
 meets_at inner scope row (Condition-F.Not c) = not (inner c)
@@ -154,14 +154,14 @@ meets_at inner scope row (Condition-F.Compare left o at right) =
 meets_at inner scope row (Condition-F.Nullness name negated) =
     if negated then not (is_null (value_named scope row name)) else is_null (value_named scope row name)
 
-abbrev pub meets_by : (Condition → Bool) → List Named → List Value → Condition → Bool
+abbrev pub meets_by : (Condition → Bool) → List Nameable → List Value → Condition → Bool
 meets_by inner scope row c = meets_at inner scope row (out-Condition c)
 
-abbrev pub meets_to : ℕ → List Named → List Value → Condition → Bool
+abbrev pub meets_to : ℕ → List Nameable → List Value → Condition → Bool
 meets_to zero scope row c = false
 meets_to (suc levels) scope row c = meets_by (meets_to levels scope row) scope row c
 
 -- the row is one of those that are meant
-abbrev pub meets : List Named → Option Condition → List Value → Bool
+abbrev pub meets : List Nameable → Option Condition → List Value → Bool
 meets scope None row = true
 meets scope (Some c) row = meets_to most_levels scope row c

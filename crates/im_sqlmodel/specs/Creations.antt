@@ -23,7 +23,7 @@ use Rattle.im_sqlmodel.specs.declared.answers.SqlError.{SqlError}
 use Rattle.im_sqlmodel.specs.declared.answers.SqlError.TheVariants as error
 use Rattle.im_sqlmodel.specs.declared.answers.SqlOut.{SqlOut}
 use Rattle.im_sqlmodel.specs.declared.answers.SqlOut.TheVariants as out
-use Rattle.im_sqlmodel.specs.declared.rows.Stored.{Stored}
+use Rattle.im_sqlmodel.specs.declared.rows.StoredRow.{StoredRow}
 use Rattle.im_sqlmodel.specs.declared.tables.Column.{Column}
 use Rattle.im_sqlmodel.specs.declared.tables.SqlIndex.{SqlIndex}
 use Rattle.im_sqlmodel.specs.declared.tables.Table.{Table}
@@ -65,8 +65,8 @@ type_of holds.Boolean = types.Boolean
 type_of (holds.Varchar n) = types.Varchar n
 type_of (holds.Blob n) = types.Blob n
 
-abbrev pub number_in : List (List ℕ) → List ℕ → ℕ
-number_in columns name = unwrap_or (position (bytes_eq name) columns) 0
+abbrev pub column_number : List (List ℕ) → List ℕ → ℕ
+column_number columns name = unwrap_or (position (bytes_eq name) columns) 0
 
 abbrev pub names_in : List ColumnDefinition → List (List ℕ)
 names_in definitions = map (λ d. d.name) definitions
@@ -75,12 +75,12 @@ abbrev pub column_of : ColumnDefinition → Column
 column_of d = record { name = d.name; holds = type_of d.holds; not_null = d.not_null }
 
 -- the table behind so many others
-abbrev pub table_of : ℕ → CreateTable → Table
-table_of count c = record {
+abbrev pub table_made : ℕ → CreateTable → Table
+table_made count c = record {
   tid = count + 1;
   name = c.table;
   columns = map column_of c.columns;
-  key = map (number_in (names_in c.columns)) c.key;
+  key = map (column_number (names_in c.columns)) c.key;
 }
 
 -- a name twice in the columns; in the key one that is no column, then one twice
@@ -91,7 +91,7 @@ create_fault c =
 abbrev pub table_written : ℕ → CreateTable → List Written
 table_written count c =
     record { key = tables_key; value = Some (field4 (count + 1)) }
-    ∷ record { key = table_key c.table; value = Some (table_text (table_of count c)) } ∷ []
+    ∷ record { key = table_key c.table; value = Some (table_text (table_made count c)) } ∷ []
 
 abbrev pub CreateTableOf : List Transaction → CreateTable → Result SqlOut SqlError → Type 0
 CreateTableOf history c answer = MatchOption (create_fault c)
@@ -109,22 +109,22 @@ CreateTableIs history c answer =
 -- ---- CREATE INDEX
 
 -- the index behind so many others
-abbrev pub index_of : ℕ → Table → CreateIndex → SqlIndex
-index_of count t c = record { iid = count + 1; unique = c.unique; columns = map (number_in (table_names t)) c.columns }
+abbrev pub index_made : ℕ → Table → CreateIndex → SqlIndex
+index_made count t c = record { iid = count + 1; unique = c.unique; columns = map (column_number (table_names t)) c.columns }
 
 abbrev pub index_written : Table → SqlIndex → List Written
 index_written t i = record { key = index_key t.tid i.iid; value = Some (index_text i) } ∷ []
 
 -- the answer where the table has so many indexes and these rows
-abbrev pub index_answer : List Transaction → CreateIndex → Table → ℕ → List Stored → Result SqlOut SqlError
+abbrev pub index_answer : List Transaction → CreateIndex → Table → ℕ → List StoredRow → Result SqlOut SqlError
 index_answer history c t count rows =
     if nat_eq (length rows) 0
-    then Ok (out.Write (asked_since (length history) (index_written t (index_of count t c)) (index_key t.tid (count + 1) ∷ mark_key t.tid ∷ [])))
+    then Ok (out.Write (asked_since (length history) (index_written t (index_made count t c)) (index_key t.tid (count + 1) ∷ mark_key t.tid ∷ [])))
     else Err (error.HasRows c.table)
 
 abbrev pub CreateIndexOf : List Transaction → CreateIndex → Table → Result SqlOut SqlError → Type 0
 CreateIndexOf history c t answer = MatchOption (option_or (column_fault (table_names t) c.columns) (twice_fault c.columns))
-    ((rows : List Stored) × RowsAre history t rows × ((indexes : List SqlIndex) × IndexesAre history t indexes
+    ((rows : List StoredRow) × RowsAre history t rows × ((indexes : List SqlIndex) × IndexesAre history t indexes
     × (answer ≡ index_answer history c t (length indexes) rows)))
     (λ fault. answer ≡ Err fault)
 

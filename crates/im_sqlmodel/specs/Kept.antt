@@ -9,20 +9,20 @@ use Rattle.im_sqltype.specs.Kinds.{AreOfKinds}
 use Rattle.im_sqltype.specs.Texts.{row_text}
 use Rattle.im_sqltype.specs.declared.values.Value.{Value}
 use Rattle.im_sqlmodel.specs.Keys.{tables_key, table_prefix, table_key, indexes_prefix, index_key, mark_key}
-use Rattle.im_sqlmodel.specs.Tables.{IsTable, IsIndex, table_text, index_text, kinds_of}
-use Rattle.im_sqlmodel.specs.Rows.{HasValue, CountIs, key_of}
+use Rattle.im_sqlmodel.specs.Tables.{IsTable, IsTableIndex, table_text, index_text, kinds_of}
+use Rattle.im_sqlmodel.specs.Rows.{IsLiveAs, CountIs, key_of}
 use Rattle.im_sqlmodel.specs.Writes.{entry_written}
 use Rattle.im_sqlmodel.specs.declared.tables.Table.{Table}
 use Rattle.im_sqlmodel.specs.declared.tables.SqlIndex.{SqlIndex}
 
 abbrev pub IsTableOf : List Transaction → Table → Type 0
-IsTableOf history t = IsTable t × HasValue history (table_key t.name) (table_text t)
+IsTableOf history t = IsTable t × IsLiveAs history (table_key t.name) (table_text t)
 
 abbrev pub IsSqlIndexOf : List Transaction → Table → SqlIndex → Type 0
-IsSqlIndexOf history t i = IsTableOf history t × IsIndex t i × HasValue history (index_key t.tid i.iid) (index_text i)
+IsSqlIndexOf history t i = IsTableOf history t × IsTableIndex t i × IsLiveAs history (index_key t.tid i.iid) (index_text i)
 
 abbrev pub IsRowOf : List Transaction → Table → List Value → Type 0
-IsRowOf history t row = IsTableOf history t × AreOfKinds (kinds_of t) row × HasValue history (key_of t row) (row_text row)
+IsRowOf history t row = IsTableOf history t × AreOfKinds (kinds_of t) row × IsLiveAs history (key_of t row) (row_text row)
 
 -- ---- what a live key that begins with 00, and its value, may be
 
@@ -34,7 +34,7 @@ IsTableText key value = (t : Table) × IsTable t × (key ≡ table_key t.name) �
 
 abbrev pub IsIndexText : List Transaction → List ℕ → List ℕ → Type 0
 IsIndexText history key value =
-    (t : Table) × (i : SqlIndex) × IsTableOf history t × IsIndex t i × (key ≡ index_key t.tid i.iid) × (value ≡ index_text i)
+    (t : Table) × (i : SqlIndex) × IsTableOf history t × IsTableIndex t i × (key ≡ index_key t.tid i.iid) × (value ≡ index_text i)
 
 abbrev pub IsMarkText : List Transaction → List ℕ → List ℕ → Type 0
 IsMarkText history key value = (t : Table) × IsTableOf history t × (key ≡ mark_key t.tid) × (value ≡ [])
@@ -56,8 +56,8 @@ IsText history key value =
 
 -- ---- after all transactions of a history the keys are SQL's
 
-pub record IsSound (history : List Transaction) : Type 0 where
-  pub texts : (rest value : List ℕ) → HasValue history (0 ∷ rest) value → IsText history (0 ∷ rest) value
+pub record IsSqlSound (history : List Transaction) : Type 0 where
+  pub texts : (rest value : List ℕ) → IsLiveAs history (0 ∷ rest) value → IsText history (0 ∷ rest) value
   -- the numbers of tables are 1 to the one under 00 00, each once
   pub count : ℕ
   pub counted : CountIs history count
@@ -72,22 +72,22 @@ pub record IsSound (history : List Transaction) : Type 0 where
       → (v : Version) × IsAmong (versions_of history (mark_key t.tid)) v × (v.tx ≡ last_number history (key_of t row))
   -- each entry that a live row gives stands, with its value; so two rows never give one key of a unique index
   pub entries : (t : Table) (i : SqlIndex) (row : List Value) (value : List ℕ) → IsSqlIndexOf history t i → IsRowOf history t row
-      → (entry_written t row i).value ≡ Some value → HasValue history (entry_written t row i).key value
+      → (entry_written t row i).value ≡ Some value → IsLiveAs history (entry_written t row i).key value
   -- the key of a table or an index that was live once has that last version still
   pub settled : (n : ℕ) (key : List ℕ) (v : Version) → (begins_with table_prefix key || begins_with indexes_prefix key) ≡ true
       → last_version (take n history) key ≡ Some v → v.deleted ≡ false → last_version history key ≡ Some v
 
 -- after each transaction
-abbrev pub IsKept : List Transaction → Type 0
-IsKept history = (n : ℕ) → n ≤ length history → IsSound (take n history)
+abbrev pub IsSqlKept : List Transaction → Type 0
+IsSqlKept history = (n : ℕ) → n ≤ length history → IsSqlSound (take n history)
 
 -- the first transaction after which they aren't SQL's
 pub record IsFirstUnsound (history : List Transaction) (tx : ℕ) : Type 0 where
   pub some : 1 ≤ tx
   pub within : tx ≤ length history
-  pub before : (n : ℕ) → n < tx → IsSound (take n history)
-  pub unsound : IsSound (take tx history) → ⊥
+  pub before : (n : ℕ) → n < tx → IsSqlSound (take n history)
+  pub unsound : IsSqlSound (take tx history) → ⊥
 
 -- The law of a store that found so many of its transactions as it was opened.
 abbrev pub SqlKept : ℕ → List Transaction → Type 0
-SqlKept found history = IsKept (take found history) → IsKept history
+SqlKept found history = IsSqlKept (take found history) → IsSqlKept history

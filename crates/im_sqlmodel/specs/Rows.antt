@@ -13,14 +13,14 @@ use Rattle.im_sqltype.specs.declared.values.Value.{Value}
 use Rattle.im_sqltype.specs.declared.values.Value.TheVariants.{Null, Integer}
 use Rattle.im_sqlmodel.specs.Keys.{tables_key, table_key, index_prefix, index_key, rows_prefix, row_key}
 use Rattle.im_sqlmodel.specs.Sorts.{sorted}
-use Rattle.im_sqlmodel.specs.Tables.{IsTable, IsIndex, table_text, index_text, kinds_of}
-use Rattle.im_sqlmodel.specs.declared.rows.Stored.{Stored}
+use Rattle.im_sqlmodel.specs.Tables.{IsTable, IsTableIndex, table_text, index_text, kinds_of}
+use Rattle.im_sqlmodel.specs.declared.rows.StoredRow.{StoredRow}
 use Rattle.im_sqlmodel.specs.declared.tables.Table.{Table}
 use Rattle.im_sqlmodel.specs.declared.tables.SqlIndex.{SqlIndex}
 
 -- the key is live, with this value
-abbrev pub HasValue : List Transaction → List ℕ → List ℕ → Type 0
-HasValue history key value =
+abbrev pub IsLiveAs : List Transaction → List ℕ → List ℕ → Type 0
+IsLiveAs history key value =
     (v : Version) × (last_version history key ≡ Some v) × (v.deleted ≡ false) × (v.value ≡ value)
 
 -- ---- the catalogue
@@ -28,16 +28,16 @@ HasValue history key value =
 -- so many tables there are: the number under 00 00, or 0 where that isn't live
 abbrev pub CountIs : List Transaction → ℕ → Type 0
 CountIs history count =
-    ((is_live history tables_key ≡ false) × (count ≡ 0)) ⊎ ((count < 2 ^ 32) × HasValue history tables_key (field4 count))
+    ((is_live history tables_key ≡ false) × (count ≡ 0)) ⊎ ((count < 2 ^ 32) × IsLiveAs history tables_key (field4 count))
 
 -- the table of a name, or none
 abbrev pub TableIs : List Transaction → List ℕ → Option Table → Type 0
 TableIs history name None = is_live history (table_key name) ≡ false
-TableIs history name (Some t) = IsTable t × (t.name ≡ name) × HasValue history (table_key name) (table_text t)
+TableIs history name (Some t) = IsTable t × (t.name ≡ name) × IsLiveAs history (table_key name) (table_text t)
 
 -- this version is an index of the table
 abbrev pub IsIndexVersion : Table → Version → SqlIndex → Type 0
-IsIndexVersion t v i = IsIndex t i × (v.key ≡ index_key t.tid i.iid) × (v.value ≡ index_text i)
+IsIndexVersion t v i = IsTableIndex t i × (v.key ≡ index_key t.tid i.iid) × (v.value ≡ index_text i)
 
 -- the indexes of a table, by rising number
 abbrev pub IndexesAre : List Transaction → Table → List SqlIndex → Type 0
@@ -57,13 +57,13 @@ key_of t row = row_key t.tid (columns_of row t.key)
 abbrev pub IsRowVersion : Table → Version → List Value → Type 0
 IsRowVersion t v row = AreOfKinds (kinds_of t) row × (v.key ≡ key_of t row) × (v.value ≡ row_text row)
 
-abbrev pub IsStored : Table → Version → Stored → Type 0
-IsStored t v s = IsRowVersion t v s.row × (s.tx ≡ v.tx)
+abbrev pub IsStoredRow : Table → Version → StoredRow → Type 0
+IsStoredRow t v s = IsRowVersion t v s.row × (s.tx ≡ v.tx)
 
 -- the rows of a table, by rising primary key
-abbrev pub RowsAre : List Transaction → Table → List Stored → Type 0
+abbrev pub RowsAre : List Transaction → Table → List StoredRow → Type 0
 RowsAre history t rows =
-    (shown : List Version) × IsScan history (rows_prefix t.tid) shown × AllZip (IsStored t) shown rows
+    (shown : List Version) × IsScan history (rows_prefix t.tid) shown × AllZip (IsStoredRow t) shown rows
 
 -- ---- the history of rows
 
@@ -76,7 +76,7 @@ numbered before (v ∷ vs) = (count_by (is_of v.key) before + 1, v) ∷ numbered
 abbrev pub row_versions : List Transaction → Table → List Version
 row_versions history t = filter (λ v. begins_with (rows_prefix t.tid) v.key) (all_versions history)
 
--- these numbered, without the deletions, by rising primary key and number
+-- These numbered, without the deletions, by rising primary key and number: the sort is stable, so versions of a key stay oldest first.
 abbrev pub revisions : List Transaction → Table → List (ℕ × Version)
 revisions history t =
     sorted (λ a b. octets_cmp a.1.key b.1.key) (filter (λ p. not p.1.deleted) (numbered [] (row_versions history t)))

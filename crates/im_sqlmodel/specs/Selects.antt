@@ -19,8 +19,8 @@ use Rattle.im_sqlmodel.specs.declared.answers.SqlError.{SqlError}
 use Rattle.im_sqlmodel.specs.declared.answers.SqlError.TheVariants as error
 use Rattle.im_sqlmodel.specs.declared.answers.SqlOut.{SqlOut}
 use Rattle.im_sqlmodel.specs.declared.answers.SqlOut.TheVariants as out
-use Rattle.im_sqlmodel.specs.declared.rows.Stored.{Stored}
-use Rattle.im_sqlmodel.specs.declared.tables.Named.{Named}
+use Rattle.im_sqlmodel.specs.declared.rows.StoredRow.{StoredRow}
+use Rattle.im_sqlmodel.specs.declared.tables.Nameable.{Nameable}
 use Rattle.im_sqlmodel.specs.declared.tables.Table.{Table}
 
 -- how many transactions it reads after, where a line counts n
@@ -33,12 +33,12 @@ number_read n (period.Until k) = k
 abbrev pub number_named : ℕ → Period → ℕ
 number_named n at = min (number_read n at) n
 
-abbrev pub shown_fault : List Named → Option (List (List ℕ)) → Option SqlError
+abbrev pub shown_fault : List Nameable → Option (List (List ℕ)) → Option SqlError
 shown_fault scope None = None
 shown_fault scope (Some names) = first_found (name_fault scope) names
 
 -- from the left: the columns shown, the condition, the order
-abbrev pub select_fault : List Named → Select → Option SqlError
+abbrev pub select_fault : List Nameable → Select → Option SqlError
 select_fault scope s =
     option_or (shown_fault scope s.columns)
     (option_or (filter_fault scope s.filter) (first_found (λ t. name_fault scope t.column) s.order))
@@ -47,7 +47,7 @@ abbrev pub directed : Bool → Ordering → Ordering
 directed descending o = if descending then reversed o else o
 
 -- the first term in which two rows differ decides
-abbrev pub terms_cmp : List Named → List OrderTerm → List Value → List Value → Ordering
+abbrev pub terms_cmp : List Nameable → List OrderTerm → List Value → List Value → Ordering
 terms_cmp scope [] a b = Equal
 terms_cmp scope (t ∷ ts) a b =
     ordering_then (directed t.descending (value_cmp (value_named scope a t.column) (value_named scope b t.column)))
@@ -58,19 +58,19 @@ at_most None xs = xs
 at_most (Some n) xs = take n xs
 
 -- all columns of a row, or those of these names
-abbrev pub shown_of : List Named → Option (List (List ℕ)) → List Value → List Value
-shown_of scope None row = row
-shown_of scope (Some names) row = map (value_named scope row) names
+abbrev pub columns_shown : List Nameable → Option (List (List ℕ)) → List Value → List Value
+columns_shown scope None row = row
+columns_shown scope (Some names) row = map (value_named scope row) names
 
 -- The answer over rows that stand by rising primary key, and by rising number in a history: ties stay so. OFFSET comes before LIMIT.
-abbrev pub selected : List Named → Select → List (List Value) → List (List Value)
+abbrev pub selected : List Nameable → Select → List (List Value) → List (List Value)
 selected scope s rows =
-    map (shown_of scope s.columns)
+    map (columns_shown scope s.columns)
     (at_most s.limit (drop (unwrap_or s.offset 0) (sorted (terms_cmp scope s.order) (filter (meets scope s.filter) rows))))
 
 -- the rows that are read
 abbrev pub SourceIs : List Transaction → Table → Bool → List (List Value) → Type 0
-SourceIs history t false rows = (stored : List Stored) × RowsAre history t stored × (rows ≡ map (λ s. s.row) stored)
+SourceIs history t false rows = (stored : List StoredRow) × RowsAre history t stored × (rows ≡ map (λ s. s.row) stored)
 SourceIs history t true rows = HistoryIs history t rows
 
 -- the answer after so many transactions, of a table that is there

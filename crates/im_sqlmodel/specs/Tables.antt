@@ -13,10 +13,10 @@ use Rattle.im_sqlmodel.specs.declared.tables.SqlIndex.{SqlIndex}
 
 -- ---- what they may be
 
-abbrev pub IsHeld : ColumnType → Type 0
-IsHeld (types.Varchar n) = (1 ≤ n) × (n ≤ 1024)
-IsHeld (types.Blob n) = (1 ≤ n) × (n ≤ 1024)
-IsHeld other = ⊤
+abbrev pub IsTyped : ColumnType → Type 0
+IsTyped (types.Varchar n) = (1 ≤ n) × (n ≤ 1024)
+IsTyped (types.Blob n) = (1 ≤ n) × (n ≤ 1024)
+IsTyped other = ⊤
 
 -- numbers of some of so many columns, each once
 pub record AreColumns (count : ℕ) (numbers : List ℕ) : Type 0 where
@@ -29,12 +29,12 @@ pub record IsTable (t : Table) : Type 0 where
   pub name : IsName t.name
   pub some : 1 ≤ length t.columns
   pub few : length t.columns ≤ 64
-  pub columns : All (λ c. IsName c.name × IsHeld c.holds) t.columns
+  pub columns : All (λ c. IsName c.name × IsTyped c.holds) t.columns
   pub distinct : AllPairs (λ a b. a.name ≢ b.name) t.columns
   pub key : AreColumns (length t.columns) t.key
 
 -- of this table
-pub record IsIndex (t : Table) (i : SqlIndex) : Type 0 where
+pub record IsTableIndex (t : Table) (i : SqlIndex) : Type 0 where
   pub iid : (1 ≤ i.iid) × (i.iid < 2 ^ 32)
   pub columns : AreColumns (length t.columns) i.columns
 

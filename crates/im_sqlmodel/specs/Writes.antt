@@ -20,13 +20,13 @@ use Rattle.im_sqlmodel.specs.Sorts.{put_sorted}
 use Rattle.im_sqlmodel.specs.Keys.{index_key, mark_key, plain_key, unique_key}
 use Rattle.im_sqlmodel.specs.Tables.{table_names}
 use Rattle.im_sqlmodel.specs.Rows.{TableIs, IndexesAre, RowsAre, columns_of, key_of}
-use Rattle.im_sqlmodel.specs.Conditions.{literal_value, value_at, scope_of, filter_fault, meets}
+use Rattle.im_sqlmodel.specs.Conditions.{literal_value, cell_at, scope_of, filter_fault, meets}
 use Rattle.im_sqlmodel.specs.Creations.{asked_since, column_fault, twice_fault}
 use Rattle.im_sqlmodel.specs.declared.answers.SqlError.{SqlError}
 use Rattle.im_sqlmodel.specs.declared.answers.SqlError.TheVariants as error
 use Rattle.im_sqlmodel.specs.declared.answers.SqlOut.{SqlOut}
 use Rattle.im_sqlmodel.specs.declared.answers.SqlOut.TheVariants as out
-use Rattle.im_sqlmodel.specs.declared.rows.Stored.{Stored}
+use Rattle.im_sqlmodel.specs.declared.rows.StoredRow.{StoredRow}
 use Rattle.im_sqlmodel.specs.declared.tables.Column.{Column}
 use Rattle.im_sqlmodel.specs.declared.tables.SqlIndex.{SqlIndex}
 use Rattle.im_sqlmodel.specs.declared.tables.Table.{Table}
@@ -36,7 +36,7 @@ use Rattle.im_sqlmodel.specs.declared.written.Written.{Written}
 
 -- what a column is given: the value at its name's place, or NULL where its name isn't there
 abbrev pub value_given : List (List ℕ) → List Value → List ℕ → Value
-value_given names values name = value_at values (position (bytes_eq name) names)
+value_given names values name = cell_at values (position (bytes_eq name) names)
 
 abbrev pub row_given : Table → List (List ℕ) → List Literal → List Value
 row_given t names literals = map (λ c. value_given names (map literal_value literals) c.name) t.columns
@@ -113,24 +113,24 @@ put_all (w ∷ ws) written = put_all ws (put_written w written)
 
 pub record Work : Type 0 where
   -- its rows, by rising primary key
-  pub rows : List Stored
+  pub rows : List StoredRow
   -- what is written so far, by rising key
   pub written : List Written
 
 -- the row of a key
-abbrev pub stored_at : Table → List Stored → List ℕ → Option Stored
+abbrev pub stored_at : Table → List StoredRow → List ℕ → Option StoredRow
 stored_at t rows key = find (λ s. bytes_eq (key_of t s.row) key) rows
 
 -- without the row of a key
-abbrev pub rows_without : Table → List ℕ → List Stored → List Stored
+abbrev pub rows_without : Table → List ℕ → List StoredRow → List StoredRow
 rows_without t key rows = filter (λ s. not (bytes_eq (key_of t s.row) key)) rows
 
 -- with this row, in the place of one of its key
-abbrev pub rows_with : Table → Stored → List Stored → List Stored
+abbrev pub rows_with : Table → StoredRow → List StoredRow → List StoredRow
 rows_with t s rows = put_sorted (λ a b. octets_cmp (key_of t a.row) (key_of t b.row)) s (rows_without t (key_of t s.row) rows)
 
 -- the entries that a row had, as deleted
-abbrev pub dropped : Table → List SqlIndex → Option Stored → List Written
+abbrev pub dropped : Table → List SqlIndex → Option StoredRow → List Written
 dropped t indexes None = []
 dropped t indexes (Some s) = map (λ i. deleted (entry_written t s.row i)) indexes
 
@@ -154,25 +154,25 @@ abbrev pub length_fault : ℕ → List Value → Option SqlError
 length_fault i row = if nat_lt 4096 (length (row_text row)) then Some (error.RowLong i) else None
 
 -- INSERT alone: a row of this key is there
-abbrev pub duplicate_fault : Bool → Table → ℕ → List Value → List Stored → Option SqlError
+abbrev pub duplicate_fault : Bool → Table → ℕ → List Value → List StoredRow → Option SqlError
 duplicate_fault false t i row rows = None
 duplicate_fault true t i row rows = option_map (λ s. error.Duplicate i s.tx) (stored_at t rows (key_of t row))
 
 -- another row that has the same entry in a unique index
-abbrev pub row_met : Table → SqlIndex → List Value → List Stored → Option Stored
+abbrev pub row_met : Table → SqlIndex → List Value → List StoredRow → Option StoredRow
 row_met t index row rows =
     find (λ s. bytes_eq (entry_written t s.row index).key (entry_written t row index).key && not (bytes_eq (key_of t s.row) (key_of t row))) rows
 
 -- 0 where a row of the statement has the entry, else the transaction that wrote the entry last
-abbrev pub entry_number : List Transaction → Table → SqlIndex → Stored → ℕ
+abbrev pub entry_number : List Transaction → Table → SqlIndex → StoredRow → ℕ
 entry_number history t index s = if nat_eq s.tx 0 then 0 else last_number history (entry_written t s.row index).key
 
-abbrev pub unique_fault : List Transaction → Table → ℕ → List Value → List Stored → SqlIndex → Option SqlError
+abbrev pub unique_fault : List Transaction → Table → ℕ → List Value → List StoredRow → SqlIndex → Option SqlError
 unique_fault history t i row rows index =
     if index.unique then option_map (λ s. error.Unique i index.iid (entry_number history t index s)) (row_met t index row rows) else None
 
 -- of row i, in this order: its values, by column; its keys; its text; INSERT's duplicate; the lowest unique index
-abbrev pub row_fault : List Transaction → Bool → Table → List SqlIndex → ℕ → List Value → List Stored → Option SqlError
+abbrev pub row_fault : List Transaction → Bool → Table → List SqlIndex → ℕ → List Value → List StoredRow → Option SqlError
 row_fault history fresh t indexes i row rows =
     option_or (cells_fault t i 0 t.columns row)
     (option_or (key_fault t indexes i row)
@@ -210,29 +210,29 @@ placed n t indexes written =
     else Ok (out.Write (asked_since n (marked t written) (guarded t indexes written)))
 
 -- `fresh` says that it is INSERT
-abbrev pub inserted : List Transaction → Bool → Insertion → Table → List SqlIndex → List Stored → Result SqlOut SqlError
+abbrev pub inserted : List Transaction → Bool → Insertion → Table → List SqlIndex → List StoredRow → Result SqlOut SqlError
 inserted history fresh s t indexes rows = by_option (insertion_fault t s)
     (ok_then (write_rows history fresh t indexes 0 (map (row_given t s.columns) s.rows) (record { rows = rows; written = [] }))
     (λ work. placed (length history) t indexes work.written))
     (λ fault. Err fault)
 
 -- the rows that are meant
-abbrev pub rows_met : Table → Delete → List Stored → List Stored
+abbrev pub rows_met : Table → Delete → List StoredRow → List StoredRow
 rows_met t s rows = filter (λ r. meets (scope_of t false) s.filter r.row) rows
 
 -- the rows' keys and entries, as deleted
-abbrev pub rows_dropped : Table → List SqlIndex → List Stored → List Written
+abbrev pub rows_dropped : Table → List SqlIndex → List StoredRow → List Written
 rows_dropped t indexes rows = put_all (flat_map (λ r. map deleted (all_written t indexes r.row)) rows) []
 
-abbrev pub erased : List Transaction → Delete → Table → List SqlIndex → List Stored → Result SqlOut SqlError
+abbrev pub erased : List Transaction → Delete → Table → List SqlIndex → List StoredRow → Result SqlOut SqlError
 erased history s t indexes rows = by_option (filter_fault (scope_of t false) s.filter)
     (if nat_eq (length (rows_met t s rows)) 0 then Ok out.Nothing
     else placed (length history) t indexes (rows_dropped t indexes (rows_met t s rows)))
     (λ fault. Err fault)
 
 -- the answer of a statement that writes rows, by its answer of a table that is there, the table's indexes and its rows
-abbrev pub WriteIs : List Transaction → List ℕ → (Table → List SqlIndex → List Stored → Result SqlOut SqlError) → Result SqlOut SqlError → Type 0
+abbrev pub WriteIs : List Transaction → List ℕ → (Table → List SqlIndex → List StoredRow → Result SqlOut SqlError) → Result SqlOut SqlError → Type 0
 WriteIs history table answered answer =
     (found : Option Table) × TableIs history table found
     × MatchOption found (answer ≡ Err (error.NoTable table))
-    (λ t. (indexes : List SqlIndex) × IndexesAre history t indexes × ((rows : List Stored) × RowsAre history t rows × (answer ≡ answered t indexes rows)))
+    (λ t. (indexes : List SqlIndex) × IndexesAre history t indexes × ((rows : List StoredRow) × RowsAre history t rows × (answer ≡ answered t indexes rows)))

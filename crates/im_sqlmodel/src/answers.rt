@@ -3,11 +3,14 @@ use im_sqltype::rows::Row;
 use im_tx::prepared::Prepared;
 use sqlite_items::Items;
 
+/// The rows of a SELECT, in order, each with the values shown.
+pub type SqlRows = Items<Row>;
+
 /// What a statement answers.
 #[derive(Drop)]
 pub enum SqlOut {
     /// The rows of a SELECT, in order.
-    Rows(Items<Row>),
+    Rows(SqlRows),
     /// What is to be placed, and under which preconditions.
     Write(Prepared),
     /// There is nothing to write.

@@ -40,7 +40,7 @@ pub struct SqlIndex {
 
 /// A column that a statement may name.
 #[derive(Drop)]
-pub struct Named {
+pub struct Nameable {
     /// Its name.
     pub name: Octets,
     /// The kind of its values, which may be NULL too.

@@ -1,9 +1,9 @@
 use Rattle.std.proofs.Common.{rules, tests, bytes_eq}
 use Rattle.std.proofs.lemmas.Iterator.{YieldsList-from_slice}
 use Rattle.std.proofs.lemmas.Iterator.Search.{position_from_yields_List}
-use Rattle.im_sqlmodel.specs.declared.tables.Named.{Named}
+use Rattle.im_sqlmodel.specs.declared.tables.Nameable.{Nameable}
 use Rattle.im_expr.proofs.scopes.place_of.Goals as goal
 
 pub returns : goal.returns
 returns c =
-    position_from_yields_List (λ (n : Named). bytes_eq n.name c.args.name.now) _ _ c.position.result c.position.ensures.ran (YieldsList-from_slice _ c.iter.ensures.rest) (λ x b q k. search (rules, tests))
+    position_from_yields_List (λ (n : Nameable). bytes_eq n.name c.args.name.now) _ _ c.position.result c.position.ensures.ran (YieldsList-from_slice _ c.iter.ensures.rest) (λ x b q k. search (rules, tests))

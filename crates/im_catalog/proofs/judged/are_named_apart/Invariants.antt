@@ -1,5 +1,5 @@
 use Rattle.std.proofs.Common.{◌≢◌, AllPairs, take}
-use Rattle.im_catalog.proofs.tests.are_named_apart.Given as goal
+use Rattle.im_catalog.proofs.judged.are_named_apart.Given as goal
 
 abbrev pub invariant-loop-at : goal.invariant-loop-at
 invariant-loop-at l = AllPairs (λ a b. a.name ≢ b.name) (take l.at l.columns)

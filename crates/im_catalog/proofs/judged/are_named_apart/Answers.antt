@@ -3,7 +3,7 @@ use Rattle.std.specs.List.{list_any}
 use Rattle.std.proofs.lemmas.List.{take_all}
 use Rattle.im_sqlmodel.specs.declared.tables.Column.{Column}
 use Rattle.im_catalog.proofs.TestLemmas.{names-more, names-not}
-use Rattle.im_catalog.proofs.tests.are_named_apart.Goals as goal
+use Rattle.im_catalog.proofs.judged.are_named_apart.Goals as goal
 
 -- the test of the name that is lent, and of the column's
 lent-name : (columns : List Column) (at : ℕ) (column : Column) (name : List ℕ) (found wanted : Bool) → found ≡ list_any (λ c. bytes_eq c.name name) (take at columns) → found ≡ wanted

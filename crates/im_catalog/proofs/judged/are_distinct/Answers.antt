@@ -1,7 +1,7 @@
 use Rattle.std.proofs.Common.{◌≢◌, true≢false, AllPairs, refl, subst, sym, ◌∙◌, arith}
 use Rattle.std.proofs.lemmas.List.{take_all}
 use Rattle.im_catalog.proofs.TestLemmas.{numbers-more, numbers-not}
-use Rattle.im_catalog.proofs.tests.are_distinct.Goals as goal
+use Rattle.im_catalog.proofs.judged.are_distinct.Goals as goal
 
 pub returns-then-has_number : goal.returns-then-has_number
 returns-then-has_number c =

@@ -1,5 +1,5 @@
 use Rattle.std.proofs.Common.{◌<◌, All, take}
-use Rattle.im_catalog.proofs.tests.are_below.Given as goal
+use Rattle.im_catalog.proofs.judged.are_below.Given as goal
 
 abbrev pub invariant-loop-number : goal.invariant-loop-number
 invariant-loop-number l = All (λ n. n < l.count) (take l.number-index l.numbers)
