@@ -1,5 +1,6 @@
 -- The keys of the empty history are SQL's.
-use Rattle.std.proofs.Common.{◌≡◌, ℕ, zero, suc, List, [], ◌∷◌, take, is_some, Some, refl, sym, ap, subst, inl, true≢false, arith}
+use Rattle.std.proofs.Common.{◌≡◌, ◌≤◌, ℕ, zero, suc, List, [], ◌∷◌, length, take, is_some, Some, refl, sym, ap, subst, inl, true≢false, arith}
+use Rattle.std.proofs.lemmas.List.{take_all, take-take, length-take-le}
 use Rattle.im_model.specs.declared.transactions.Transaction.{Transaction}
 use Rattle.im_versions.specs.Versions.{last_version}
 use Rattle.im_versions.specs.declared.versions.Version.{Version}
@@ -37,3 +38,22 @@ nothing_is_sound = record {
 
 pub nothing_kept : IsSqlKept []
 nothing_kept n within = subst IsSqlSound (sym (none_taken n)) nothing_is_sound
+
+-- where they are SQL's after each transaction they are after all, and after each of the first
+pub kept-sound : (history : List Transaction) → IsSqlKept history → IsSqlSound history
+kept-sound history kept =
+    let within : length history ≤ length history = omega arith in
+    subst IsSqlSound (take_all (length history) history within) (kept (length history) within)
+
+length-taken : (n : ℕ) (history : List Transaction) → n ≤ length history → length (take n history) ≡ n
+length-taken n history h = length-take-le n history h
+
+pub kept-at : (m n : ℕ) (history : List Transaction) → m ≤ n → n ≤ length history → IsSqlKept (take n history) → IsSqlSound (take m history)
+kept-at m n history h within kept =
+    subst IsSqlSound (take-take m n history h) (kept m (let few : length (take n history) ≡ n = length-taken n history within in omega (arith, few, h)))
+
+-- and so after each of fewer
+pub kept-up : (m n : ℕ) (history : List Transaction) → m ≤ n → n ≤ length history → IsSqlKept (take n history) → IsSqlKept (take m history)
+kept-up m n history h within kept k few =
+    let long : length (take m history) ≡ m = length-taken m history (omega (arith, h, within)) in
+    subst IsSqlSound (sym (take-take k m history (omega (arith, few, long)))) (kept-at k n history (omega (arith, few, long, h)) within kept)

@@ -1,3 +1,4 @@
 pub mod LevelLemmas
 pub mod KeptLemmas
 pub mod OnceLemmas
+pub mod SortLemmas

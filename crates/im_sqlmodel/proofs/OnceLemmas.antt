@@ -52,7 +52,7 @@ zip-same R f (x ∷ xs) (y ∷ ys) (z ∷ zs) h k = ap₂ (λ a b. a ∷ b) (f x
 one-row : (t : Table) (v : Version) (a b : List Value) → IsRowVersion t v a → IsRowVersion t v b → a ≡ b
 one-row t v a b x y = (row-front (kinds_of t) a b [] [] x.0 y.0 (ap (λ (r : List ℕ). r ++ []) (sym x.2 ∙ y.2))).0
 
-one-stored : (t : Table) (v : Version) (a b : StoredRow) → IsStoredRow t v a → IsStoredRow t v b → a ≡ b
+pub one-stored : (t : Table) (v : Version) (a b : StoredRow) → IsStoredRow t v a → IsStoredRow t v b → a ≡ b
 one-stored t v a b x y =
     ap₂ (λ (r : List Value) (n : ℕ). record { row = r; tx = n }) (one-row t v a.row b.row x.0 y.0) (x.1 ∙ sym y.1)
 

@@ -46,12 +46,13 @@ select_fault scope s =
 abbrev pub directed : Bool → Ordering → Ordering
 directed descending o = if descending then reversed o else o
 
+abbrev pub term_cmp : List Nameable → OrderTerm → List Value → List Value → Ordering
+term_cmp scope t a b = directed t.descending (value_cmp (value_named scope a t.column) (value_named scope b t.column))
+
 -- the first term in which two rows differ decides
 abbrev pub terms_cmp : List Nameable → List OrderTerm → List Value → List Value → Ordering
 terms_cmp scope [] a b = Equal
-terms_cmp scope (t ∷ ts) a b =
-    ordering_then (directed t.descending (value_cmp (value_named scope a t.column) (value_named scope b t.column)))
-    (terms_cmp scope ts a b)
+terms_cmp scope (t ∷ ts) a b = ordering_then (term_cmp scope t a b) (terms_cmp scope ts a b)
 
 abbrev pub at_most : {A : Type 0} → Option ℕ → List A → List A
 at_most None xs = xs

@@ -1,7 +1,9 @@
 use im_octet::octets::Octets;
 use im_sqltype::rows::Row;
 use im_tx::prepared::Prepared;
+use im_view::errors::ViewError;
 use sqlite_items::Items;
+use std::alloc::AllocError;
 
 /// The rows of a SELECT, in order, each with the values shown.
 pub type SqlRows = Items<Row>;
@@ -57,6 +59,30 @@ pub enum SqlError {
     Beyond { n: u64 },
 }
 
+impl From<AllocError> for SqlError {
+    ghost use Rattle.std.specs.Prelude.{◌≡◌};
+    ghost use Rattle.im_sqlmodel.specs.declared.answers.SqlError.TheVariants.{Memory};
+
+    ghost from_gives = { λ _ error. error ≡ Memory };
+
+    fn from(_: AllocError) -> Self {
+        SqlError::Memory
+    }
+}
+
+impl From<ViewError> for SqlError {
+    ghost use Rattle.std.specs.Prelude.{◌≡◌};
+    ghost use Rattle.im_sqlmodel.specs.declared.answers.SqlError.TheVariants.{Memory};
+
+    ghost from_gives = { λ _ error. error ≡ Memory };
+
+    fn from(error: ViewError) -> Self {
+        match error {
+            ViewError::Memory => SqlError::Memory,
+        }
+    }
+}
+
 /// Why the keys of a view that begin with octet 00 aren't SQL's.
 #[derive(Clone, Copy, Debug, PartialEq, Eq)]
 pub enum KeptError {
@@ -64,4 +90,28 @@ pub enum KeptError {
     Memory,
     /// After transaction `tx` they aren't, and after each earlier one they are.
     NotKept { tx: u64 },
+}
+
+impl From<AllocError> for KeptError {
+    ghost use Rattle.std.specs.Prelude.{◌≡◌};
+    ghost use Rattle.im_sqlmodel.specs.declared.answers.KeptError.TheVariants.{Memory};
+
+    ghost from_gives = { λ _ error. error ≡ Memory };
+
+    fn from(_: AllocError) -> Self {
+        KeptError::Memory
+    }
+}
+
+impl From<ViewError> for KeptError {
+    ghost use Rattle.std.specs.Prelude.{◌≡◌};
+    ghost use Rattle.im_sqlmodel.specs.declared.answers.KeptError.TheVariants.{Memory};
+
+    ghost from_gives = { λ _ error. error ≡ Memory };
+
+    fn from(error: ViewError) -> Self {
+        match error {
+            ViewError::Memory => KeptError::Memory,
+        }
+    }
 }
