@@ -164,6 +164,11 @@ module _ {A : Type 0} (cmp : A → A → Ordering) where
       one-order below o ys (sorted cmp xs) (rises below ys (sorted_far below o ys up)) (sorted-rises o xs)
       (λ t. stable t ∙ sym (sorted-stable o t xs))
 
+  -- lists in which those of one rank stand in the same order are sorted alike
+  pub same-sorted : IsStrictWeakOrder below → (xs ys : List A) → SameTies below xs ys → sorted cmp xs ≡ sorted cmp ys
+  same-sorted o xs ys same =
+      one-order below o (sorted cmp xs) (sorted cmp ys) (sorted-rises o xs) (sorted-rises o ys) (λ t. sorted-stable o t xs ∙ same t ∙ sym (sorted-stable o t ys))
+
 -- ---- what the items are sorted by may be read off them
 
 put-map : {A B : Type 0} (f : A → B) (cmp : B → B → Ordering) (x : A) (ys : List A) → map f (put_sorted (λ a b. cmp (f a) (f b)) x ys) ≡ put_sorted cmp (f x) (map f ys)
