@@ -25,9 +25,9 @@ tails {A} x y xs ys e = ap (λ (zs : List A). drop 1 zs) e
 member : {A : Type 0} (p : A → Bool) (P : A → Type 0) (zs : List A) (y : A) (rest : List A) → filter p zs ≡ y ∷ rest → AllByRecursion P zs → P y
 member p P [] y rest e all = absurd (nil-cons y rest e)
 member {A} p P (w ∷ ws) y rest e all = elim (p w) as (λ (b : Bool). cond b (w ∷ filter p ws) (filter p ws) ≡ y ∷ rest → P y) [
-    | true ↦ λ h. subst P (heads w y (filter p ws) rest h) all.0
-    | false ↦ λ h. member p P ws y rest h all.1
-  ] e
+  | true ↦ λ h. subst P (heads w y (filter p ws) rest h) all.0
+  | false ↦ λ h. member p P ws y rest h all.1
+] e
 
 -- without a first that is one, the filters of the rest are one
 cancel : {A : Type 0} (b : Bool) (x : A) (xs ys : List A) → cond b (x ∷ xs) xs ≡ cond b (x ∷ ys) ys → xs ≡ ys
@@ -44,9 +44,9 @@ module _ {A : Type 0} (lt : A → A → Bool) where
 
   irreflexive : IsStrictWeakOrder lt → (x : A) → lt x x ≡ false
   irreflexive o x = elim (lt x x) as (λ (b : Bool). lt x x ≡ b → b ≡ false) [
-      | true ↦ λ e. absurd (true≢false (sym e ∙ o.one_way x x e))
-      | false ↦ λ e. refl
-    ] refl
+    | true ↦ λ e. absurd (true≢false (sym e ∙ o.one_way x x e))
+    | false ↦ λ e. refl
+  ] refl
 
   ties-self : IsStrictWeakOrder lt → (x : A) → ties lt x x ≡ true
   ties-self o x = ap (λ (b : Bool). not b && not b) (irreflexive o x)
@@ -121,9 +121,9 @@ module _ {A : Type 0} (cmp : A → A → Ordering) where
   put-rises : IsStrictWeakOrder below → (x : A) (ys : List A) → Rises below ys → Rises below (put_sorted cmp x ys)
   put-rises o x [] rises = (tt, tt)
   put-rises o x (y ∷ ys) rises = elim (below y x) as (λ (b : Bool). below y x ≡ b → Rises below (if b then y ∷ put_sorted cmp x ys else x ∷ y ∷ ys)) [
-      | true ↦ λ e. (put-all (λ w. below w y ≡ false) x ys (o.one_way y x e) rises.0, put-rises o x ys rises.1)
-      | false ↦ λ e. ((e, all-chain o x y ys e rises.0), rises)
-    ] refl
+    | true ↦ λ e. (put-all (λ w. below w y ≡ false) x ys (o.one_way y x e) rises.0, put-rises o x ys rises.1)
+    | false ↦ λ e. ((e, all-chain o x y ys e rises.0), rises)
+  ] refl
 
   sorted-rises : IsStrictWeakOrder below → (xs : List A) → Rises below (sorted cmp xs)
   sorted-rises o [] = tt
@@ -147,11 +147,11 @@ module _ {A : Type 0} (cmp : A → A → Ordering) where
   put-stable o t x [] = refl
   put-stable o t x (y ∷ ys) = elim (below y x) as (λ (b : Bool). below y x ≡ b
       → filter (ties below t) (if b then y ∷ put_sorted cmp x ys else x ∷ y ∷ ys) ≡ filter (ties below t) (x ∷ y ∷ ys)) [
-      | true ↦ λ e.
-          ap (λ (zs : List A). cond (ties below t y) (y ∷ zs) zs) (put-stable o t x ys)
-          ∙ swap-step o t x y (filter (ties below t) ys) (ties below t x) (ties below t y) refl refl e
-      | false ↦ λ e. refl
-    ] refl
+        | true ↦ λ e.
+            ap (λ (zs : List A). cond (ties below t y) (y ∷ zs) zs) (put-stable o t x ys)
+            ∙ swap-step o t x y (filter (ties below t) ys) (ties below t x) (ties below t y) refl refl e
+        | false ↦ λ e. refl
+      ] refl
 
   sorted-stable : IsStrictWeakOrder below → (t : A) (xs : List A) → filter (ties below t) (sorted cmp xs) ≡ filter (ties below t) xs
   sorted-stable o t [] = refl
@@ -175,9 +175,9 @@ put-map : {A B : Type 0} (f : A → B) (cmp : B → B → Ordering) (x : A) (ys 
 put-map f cmp x [] = refl
 put-map f cmp x (y ∷ ys) = elim (is_lt (cmp (f y) (f x))) as (λ (b : Bool). map f (if b then y ∷ put_sorted (λ a b. cmp (f a) (f b)) x ys else x ∷ y ∷ ys)
     ≡ (if b then f y ∷ put_sorted cmp (f x) (map f ys) else f x ∷ f y ∷ map f ys)) [
-  | true ↦ ap (λ zs. f y ∷ zs) (put-map f cmp x ys)
-  | false ↦ refl
-]
+      | true ↦ ap (λ zs. f y ∷ zs) (put-map f cmp x ys)
+      | false ↦ refl
+    ]
 
 pub sorted-map : {A B : Type 0} (f : A → B) (cmp : B → B → Ordering) (xs : List A) → map f (sorted (λ a b. cmp (f a) (f b)) xs) ≡ sorted cmp (map f xs)
 sorted-map f cmp [] = refl
