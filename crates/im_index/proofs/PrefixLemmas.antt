@@ -121,3 +121,15 @@ begun-span prefix run from count sorted some within point inside front next =
     ∙ ap (λ vs. filter p (take count behind) ++ vs) high
     ∙ append-nil (filter p (take count behind))
     ∙ mid)
+
+-- the same of a list that is the versions behind the place
+pub begun-slice : (prefix : List ℕ) (run : List Version) (from count : ℕ) (behind : List Version) → IsSorted numbered run
+    → All (λ (v : Version). 0 < v.tx) run → from ≤ length run → IsPlace prefix 0 run from → behind ≡ drop from run → count ≤ length behind
+    → AllWithin (λ (v : Version). begins_with prefix v.key ≡ true) behind 0 count
+    → ((d : Version) → count < length behind → begins_with prefix (get_or behind count d).key ≡ false)
+    → take count behind ≡ filter (λ (v : Version). begins_with prefix v.key) run
+begun-slice prefix run from count behind sorted some within point same =
+    subst (λ (vs : List Version). count ≤ length vs → AllWithin (λ (v : Version). begins_with prefix v.key ≡ true) vs 0 count
+    → ((d : Version) → count < length vs → begins_with prefix (get_or vs count d).key ≡ false)
+    → take count vs ≡ filter (λ (v : Version). begins_with prefix v.key) run)
+    (sym same) (begun-span prefix run from count sorted some within point)

@@ -6,6 +6,7 @@
 
 pub mod index;
 mod keys;
+pub mod laws;
 mod maps;
 mod merging;
 pub mod plain;

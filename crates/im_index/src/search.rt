@@ -4,7 +4,7 @@ ghost use Rattle.std.specs.Prelude.{◌≡◌, ◌≤◌, ◌<◌, ◌+◌, ◌-
 ghost use Rattle.std.specs.List.{last_or, flat_map, AllWithin};
 ghost use Rattle.std.specs.List.Sorted.{IsSorted, IsPartitionPoint};
 ghost use Rattle.std.specs.Option.{option_map};
-ghost use Rattle.im_versions.specs.Versions.{begins_with, is_of};
+ghost use Rattle.im_versions.specs.Versions.{begins_with};
 ghost use Rattle.im_versions.specs.declared.versions.Version.{Version as TheVersion};
 ghost use Rattle.im_index.specs.Marks.{numbered, is_upto, found};
 ghost use Rattle.im_index.specs.Runs.{HasDigits};
@@ -12,31 +12,13 @@ ghost use Rattle.im_index.specs.Runs.{HasDigits};
 use crate::run::Run;
 use crate::shared::Shared;
 use crate::steps::Steps;
+use crate::steps::sought::Sought;
 use im_versions::versions::Version;
-use std::cmp::Ordering;
 use std::sync::ledger::Ledger;
-
-// Whether a version stands at most at this key and number.
-fn is_upto(version: &Version, key: &[u8], n: u64) -> bool
-    ensures { result ≡ is_upto key.now n version.now }
-{
-    match version.key.as_slice().cmp(key) {
-        Ordering::Less => true,
-        Ordering::Equal => version.tx <= n,
-        Ordering::Greater => false,
-    }
-}
-
-// Whether a version is one of this key.
-fn is_of(version: &Version, key: &[u8]) -> bool
-    ensures { result ≡ is_of key.now version.now }
-{
-    version.key.as_slice() == key
-}
 
 // How many versions of a run stand at most at this key and number: those in front. It halves what is left at each
 // version that it compares, so that it takes at most as many steps as the run's length has binary digits.
-fn place<L: Ledger>(run: &[Shared], key: &[u8], n: u64, steps: &mut Steps<L>) -> usize
+fn place<L: Ledger>(run: &[Shared], key: &Sought<'_>, n: u64, steps: &mut Steps<L>) -> usize
     requires { IsSorted numbered run.now }
     ensures within { result ≤ length run.now }
     ensures parted { IsPartitionPoint (λ v. is_upto key.now n v ≡ true) (λ v. is_upto key.now n v ≡ false) run.now result }
@@ -47,8 +29,7 @@ fn place<L: Ledger>(run: &[Shared], key: &[u8], n: u64, steps: &mut Steps<L>) ->
     let mut high = run.len();
     'halving: while low < high {
         let middle = low + (high - low) / 2;
-        steps.tick();
-        if is_upto(run[middle].version(), key, n) {
+        if key.is_upto(run[middle].version(), n, steps) {
             low = middle + 1;
         } else {
             high = middle;
@@ -61,7 +42,7 @@ fn place<L: Ledger>(run: &[Shared], key: &[u8], n: u64, steps: &mut Steps<L>) ->
 // this key and number, unless that one is of another key: one more comparison.
 fn last_in<'r, L: Ledger>(
     run: &'r [Shared],
-    key: &[u8],
+    key: &Sought<'_>,
     n: u64,
     steps: &mut Steps<L>,
 ) -> Option<&'r Version>
@@ -75,17 +56,16 @@ fn last_in<'r, L: Ledger>(
     }
     let at = end - 1;
     let last = run[at].version();
-    steps.tick();
-    if is_of(last, key) {
+    if key.is_of(last, steps) {
         return Some(last);
     }
     None
 }
 
 // The last version of a key in all runs, among the first `n` transactions: in the newest run that has one.
-pub(crate) fn last<'r, L: Ledger>(
+fn last_of<'r, L: Ledger>(
     runs: &'r [Run],
-    key: &[u8],
+    key: &Sought<'_>,
     n: u64,
     steps: &mut Steps<L>,
 ) -> Option<&'r Version>
@@ -105,7 +85,7 @@ pub(crate) fn last<'r, L: Ledger>(
 
 // Where the versions of a key stand in a run that are of the first `n` transactions: behind the place of number 0, which
 // no version has, and in front of that of `n`.
-fn span<L: Ledger>(run: &[Shared], key: &[u8], n: u64, steps: &mut Steps<L>) -> (usize, usize)
+fn span<L: Ledger>(run: &[Shared], key: &Sought<'_>, n: u64, steps: &mut Steps<L>) -> (usize, usize)
     requires { IsSorted numbered run.now }
     ensures order { result.0 ≤ result.1 }
     ensures within { result.1 ≤ length run.now }
@@ -120,9 +100,9 @@ fn span<L: Ledger>(run: &[Shared], key: &[u8], n: u64, steps: &mut Steps<L>) -> 
 
 // The versions of a key in a run, among the first `n` transactions. They stand beside each other, and no version
 // has number 0.
-pub(crate) fn of_key<'r, L: Ledger>(
+fn all_of<'r, L: Ledger>(
     run: &'r [Shared],
-    key: &[u8],
+    key: &Sought<'_>,
     n: u64,
     steps: &mut Steps<L>,
 ) -> &'r [Shared]
@@ -135,23 +115,15 @@ pub(crate) fn of_key<'r, L: Ledger>(
     &run[from..to]
 }
 
-// Whether a version's key begins with a prefix.
-fn begins(version: &Version, prefix: &[u8]) -> bool
-    ensures { result ≡ begins_with prefix.now version.now.key }
-{
-    version.key.as_slice().starts_with(prefix)
-}
-
 // How many versions in front have keys that begin with a prefix. It compares each of them, and the one behind them.
-fn count_begun<L: Ledger>(versions: &[Shared], prefix: &[u8], steps: &mut Steps<L>) -> usize
+fn count_begun<L: Ledger>(versions: &[Shared], prefix: &Sought<'_>, steps: &mut Steps<L>) -> usize
     ensures within { result ≤ length versions.now }
     ensures front { AllWithin (λ v. begins_with prefix.now v.key ≡ true) versions.now 0 result }
     ensures next { (d : TheVersion) → result < length versions.now → begins_with prefix.now (slice_index_or versions.now result d).key ≡ false }
     ensures cost { steps.new ≤ steps.old + (result + 1) }
 {
     for (i, shared) in versions.iter().enumerate() {
-        steps.tick();
-        if !begins(shared.version(), prefix) {
+        if !prefix.begins(shared.version(), steps) {
             return i;
         }
     }
@@ -159,9 +131,9 @@ fn count_begun<L: Ledger>(versions: &[Shared], prefix: &[u8], steps: &mut Steps<
 }
 
 // The versions of a run whose keys begin with a prefix. They stand beside each other, and no version has number 0.
-pub(crate) fn begun<'r, L: Ledger>(
+fn begun_with<'r, L: Ledger>(
     run: &'r [Shared],
-    prefix: &[u8],
+    prefix: &Sought<'_>,
     steps: &mut Steps<L>,
 ) -> &'r [Shared]
     requires sorted { IsSorted numbered run.now }
@@ -173,4 +145,50 @@ pub(crate) fn begun<'r, L: Ledger>(
     let behind = &run[from..];
     let count = count_begun(behind, prefix, steps);
     &behind[..count]
+}
+
+// The last version of a key in all runs, among the first `n` transactions: in the newest run that has one.
+pub(crate) fn last<'r, L: Ledger>(
+    runs: &'r [Run],
+    key: &[u8],
+    n: u64,
+    steps: &mut Steps<L>,
+) -> Option<&'r Version>
+    requires { All (IsSorted numbered) runs.now }
+    ensures last { option_map (λ v. v.now) result ≡ last_or None (found key.now n (flat_map (λ r. r) runs.now)) }
+    ensures cost { (b : ℕ) → All (λ r. HasDigits b (length r)) runs.now → steps.new ≤ steps.old + length runs.now * (b + 1) }
+{
+    let sought = Sought::new(key);
+    last_of(runs, &sought, n, steps)
+}
+
+// The versions of a key in a run, among the first `n` transactions.
+pub(crate) fn of_key<'r, L: Ledger>(
+    run: &'r [Shared],
+    key: &[u8],
+    n: u64,
+    steps: &mut Steps<L>,
+) -> &'r [Shared]
+    requires sorted { IsSorted numbered run.now }
+    requires counted { All (λ v. 0 < v.tx) run.now }
+    ensures versions { result.now ≡ found key.now n run.now }
+    ensures cost { (b : ℕ) → HasDigits b (length run.now) → steps.new ≤ steps.old + 2 * b }
+{
+    let sought = Sought::new(key);
+    all_of(run, &sought, n, steps)
+}
+
+// The versions of a run whose keys begin with a prefix.
+pub(crate) fn begun<'r, L: Ledger>(
+    run: &'r [Shared],
+    prefix: &[u8],
+    steps: &mut Steps<L>,
+) -> &'r [Shared]
+    requires sorted { IsSorted numbered run.now }
+    requires counted { All (λ v. 0 < v.tx) run.now }
+    ensures versions { result.now ≡ filter (λ v. begins_with prefix.now v.key) run.now }
+    ensures cost { (b : ℕ) → HasDigits b (length run.now) → steps.new ≤ steps.old + (b + 1) + length result.now }
+{
+    let sought = Sought::new(prefix);
+    begun_with(run, &sought, steps)
 }

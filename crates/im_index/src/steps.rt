@@ -1,8 +1,10 @@
+pub(crate) mod sought;
+
 use std::marker::Model;
 use std::sync::ledger::{Blank, Book, Ledger, Share};
 
-/// How many steps were taken. A step is one comparison of keys, or of keys with their numbers. It takes no memory
-/// and no time, and only this crate adds to it. A clause sees the number.
+/// How many steps were taken. A step is one comparison of keys, or of keys with their numbers. Only the calls that compare
+/// a key which is looked for add to it. It takes no memory and no time. A clause sees the number.
 #[derive(Drop)]
 pub struct Steps<L: Ledger> {
     book: Book<L>,
@@ -33,8 +35,8 @@ impl<L: Ledger> Steps<L> {
         Steps { book, share }
     }
 
-    // One more step.
-    pub(crate) fn tick(&mut self)
+    // One more step. It is private, so only the module below this one takes steps.
+    fn tick(&mut self)
         ensures { self.new ≡ self.old + 1 }
     {
         self.book.add(&mut self.share, 1);

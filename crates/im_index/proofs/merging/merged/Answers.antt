@@ -7,7 +7,7 @@ use Rattle.im_index.proofs.merging.merged.Goals as goal
 pub returns : goal.returns
 returns c =
     let first : c.share_behind.new.versions.items ≡ c.args.older.now =
-    c.in_ok-share_behind.ensures ∙ ap (λ vs. vs ++ c.as_slice.result.now) c.new.ensures.items ∙ c.as_slice.ensures in
+    c.in_ok-share_behind.ensures ∙ ap (λ vs. vs ++ c.as_slice.result.now) c.new-versions.ensures.items ∙ c.as_slice.ensures in
     let both : c.share_behind-2.new.versions.items ≡ c.args.older.now ++ c.args.newer.now =
     c.in_ok-share_behind-2.ensures
     ∙ ap (λ vs. vs ++ c.as_slice-2.result.now) first

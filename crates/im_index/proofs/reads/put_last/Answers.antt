@@ -19,7 +19,7 @@ loop-shared-preserved c = λ before prefix has begins.
     let w : Version = c.version.result.now in
     let same : w ≡ v = c.version.ensures in
     let here : IsTrue (begins_with prefix w.key) =
-    subst (λ (x : Version). IsTrue (begins_with prefix x.key)) (c.shared-item.is ∙ sym same) (begins i v c.loop-shared-test.true) in
+    subst (λ (x : Version). IsTrue (begins_with prefix x.key)) (sym c.shared-item.is ∙ sym same) (begins i v c.loop-shared-test.true) in
     let put = c.in_ok-put_within.ensures (before ++ filter (is_within c.args.n) (take i versions)) prefix (c.loop-shared.invariant before prefix has begins) here in
     put-next before versions prefix c.args.n i w c.put_within.new.newest c.loop-shared-test.true
     (subst (λ (x : Version). x ≡ get_or versions i x) (sym same) c.shared-item.is) put

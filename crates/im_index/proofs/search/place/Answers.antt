@@ -4,10 +4,20 @@ use Rattle.im_versions.specs.declared.versions.Version.{Version}
 use Rattle.im_index.specs.Marks.{is_upto}
 use Rattle.im_index.proofs.PlaceLemmas.{search-down, search-first, search-same, search-up}
 use Rattle.im_index.proofs.search.place.Goals as goal
-use Rattle.im_index.proofs.search.place.Goals.{then-is_upto, else-is_upto}
 
 pub halving-init : goal.halving-init
-halving-init g c = search-first c.args.run.now c.args.key.now c.args.n _ _ c.len-high.ensures
+halving-init g c = search-first c.args.run.now c.args.key.now c.args.n _ _ refl
+
+pub halving-preserved-then-is_upto : goal.halving-preserved-then-is_upto
+halving-preserved-then-is_upto g c =
+    let run = c.args.run.now in
+    let key = c.args.key.now in
+    let n = c.args.n in
+    let v = c.index-run-middle.result in
+    let told = ap (is_upto key n) (sym c.version.ensures) ∙ sym c.is_upto.ensures.value in
+    search-same run key n _ _ _ _ _ _ _
+    (search-up run key n c.halving.low c.halving.high _ _ c.halving.steps v c.halving.invariant c.requires c.halving-test.true refl c.index-run-middle.is (told ∙ c.if-is_upto.true))
+    refl refl c.is_upto.ensures.cost
 
 pub halving-preserved : goal.halving-preserved
 halving-preserved g c =
@@ -15,15 +25,10 @@ halving-preserved g c =
     let key = c.args.key.now in
     let n = c.args.n in
     let v = c.index-run-middle.result in
-    let told = ap (is_upto key n) (sym c.version.ensures) ∙ sym c.is_upto.ensures in
-    elim c.if-is_upto.branch [
-      | then-is_upto w ↦ search-same run key n _ _ _ _ _ _ _
-          (search-up run key n c.halving.low c.halving.high _ _ c.halving.steps v c.halving.invariant c.requires c.halving-test.true refl c.index-run-middle.is (told ∙ w.if-is_upto.true))
-          w.low-is w.high-is c.tick.ensures
-      | else-is_upto w ↦ search-same run key n _ _ _ _ _ _ _
-          (search-down run key n c.halving.low c.halving.high _ _ c.halving.steps v c.halving.invariant c.requires c.halving-test.true refl c.index-run-middle.is (told ∙ w.if-is_upto.false))
-          w.low-is w.high-is c.tick.ensures
-    ]
+    let told = ap (is_upto key n) (sym c.version.ensures) ∙ sym c.is_upto.ensures.value in
+    search-same run key n _ _ _ _ _ _ _
+    (search-down run key n c.halving.low c.halving.high _ _ c.halving.steps v c.halving.invariant c.requires c.halving-test.true refl c.index-run-middle.is (told ∙ c.if-is_upto.false))
+    refl refl c.is_upto.ensures.cost
 
 pub returns-clause-parted : goal.returns-clause-parted
 returns-clause-parted g c =

@@ -1,4 +1,4 @@
-use Rattle.std.proofs.Common.{◌+◌, ◌∙◌, ℕ, List, sym, subst, ap}
+use Rattle.std.proofs.Common.{◌+◌, ℕ, List, sym, subst, ap}
 use Rattle.std.proofs.lemmas.List.{length-map}
 use Rattle.im_versions.specs.declared.versions.Version.{Version}
 use Rattle.im_index.specs.Indexed.{Indexed, IsIndexOf}
@@ -13,4 +13,4 @@ returns-clause-taken c = λ history is.
     index-take history (bare c.args.txs.now) _ _ c.in_ok-versions.versions.items inside c.in_ok-versions.ensures
     (λ before h. c.in_ok-runs.ensures.holds before (subst (λ (rs : List (List Version)). HoldInOrder rs before) (sym c.deref.ensures.value) h))
     (λ h. c.in_ok-runs.ensures.halving (subst AreHalving (sym c.deref.ensures.value) h))
-    (ap (λ (n : ℕ). c.self.inside.taken + n) (c.len.ensures ∙ sym (length-map c.args.txs.now bare_transaction)))
+    (ap (λ (n : ℕ). c.self.inside.taken + n) (sym (length-map c.args.txs.now bare_transaction)))

@@ -2,7 +2,7 @@ use Rattle.std.proofs.Common.{nat_le, ap, ◌∙◌}
 use Rattle.std.specs.Cmp.Lexicographic.{slice_cmp}
 use Rattle.std.specs.Ordering.{nat_cmp}
 use Rattle.im_index.specs.Marks.{upto_by}
-use Rattle.im_index.proofs.search.is_upto.Goals as goal
+use Rattle.im_index.proofs.steps.sought.stands_upto.Goals as goal
 
 pub returns-in-Less : goal.returns-in-Less
 returns-in-Less c =

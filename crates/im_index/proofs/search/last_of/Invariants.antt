@@ -1,6 +1,6 @@
 use Rattle.std.proofs.Common.{length}
 use Rattle.im_index.proofs.FoundLemmas.{IsLooked}
-use Rattle.im_index.proofs.search.last.Given as goal
+use Rattle.im_index.proofs.search.last_of.Given as goal
 
 abbrev pub invariant-loop-run : goal.invariant-loop-run
 invariant-loop-run g l = IsLooked l.runs l.older l.key l.n l.fn.steps l.steps
