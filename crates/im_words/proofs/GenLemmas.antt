@@ -5,12 +5,12 @@ use Rattle.std.specs.Fmt.{decimal}
 use Rattle.std.specs.List.{fold}
 use Rattle.std.specs.Str.{bytes_eq, chars}
 use Rattle.std.specs.Str.Parse.{IsNumeral, digits_value, starts_with_minus, without_leading_plus}
-use Rattle.std.specs.Option.{option_map, option_map_or}
+use Rattle.std.specs.Option.{option_and_then, option_map, option_map_or}
 use Rattle.std.specs.Prelude.{drop, encode_utf8, pos, slice_get, unwrap_or}
 use Rattle.clap.specs.Words.{Row, Rule, Text, fault_of, subcommand_of}
 use Rattle.clap.specs.Faults.{bundle_fault, bundle_step_fault, check_fault, defaults_fault, flag_word_fault, flags_fault, level_fault, other_fault, settle_fault, step_fault, turn_fault, use_fault, walk_fault, word_fault}
-use Rattle.clap.specs.Kinds.{or_else}
-use Rattle.clap.specs.Lexer.{long_of, short_of, without_minus}
+use Rattle.clap.specs.Kinds.{or_else, value_kinds}
+use Rattle.clap.specs.Lexer.{long_of, short_of, short_of_rest, without_minus}
 use Rattle.clap.specs.Values.{IsSignedIn, IsUnsignedIn}
 use Rattle.clap.specs.ValueTests.{accepts, is_unsigned_in}
 use Rattle.clap.specs.Walk.{Held, Outcome, Step, Waiting, Walk, after_flag, after_step, bundle, bundle_met, bundle_step, done, has_row, idle, is_pending, long_or_other, next, nothing_held, option, option_word, plain, plain_word, positional, reading_by, refused, rows_after, settled, settled_rows, short_or_plain, subcommand, subcommand_met, subcommand_or_other, takes_several, to_positional, trailing, used, used_by_id, value, waits, walk, walk_from, walked, walked_from, word_met}
@@ -233,15 +233,25 @@ pub record MeansGen (words : List Text) (n : ℕ) : Type 0 where
   pub faultless : fault_of im_command words ≡ []
   pub asked : asked_of (subcommand_of im_command words) ≡ Some (Gen n)
 
+-- a word that doesn't begin with a hyphen is no short flag
+no-short : (x : ℕ) (xs : Text) → (x == 45) ≡ false → short_of (x ∷ xs) ≡ None
+no-short x xs minus = ap (λ (b : Bool). option_and_then short_of_rest (cond b (Some xs) None)) minus
+
+no-kinds : {X : Type 0} (passes : Bool) (kinds : List X) → passes ≡ true → cond passes [] kinds ≡ []
+no-kinds true kinds e = refl
+no-kinds false kinds e = cc
+
 -- so it is where the value doesn't begin with a hyphen, passes, and says the number
 gen_word : (name : Text) (x : ℕ) (xs : Text) (n : ℕ) → (x == 45) ≡ false → accepts false (Signed (pos 0) (pos 100000)) (x ∷ xs) ≡ true
     → lines_of_text (without_minus (x ∷ xs)) ≡ Some n → MeansGen (name ∷ codes "gen" ∷ (x ∷ xs) ∷ []) n
 unfolding clap_on_literals
 gen_word name x xs n minus passes says =
-    let passed = rw minus at passes in
+    let short = no-short x xs minus in
+    let fits : value_kinds false (Signed (pos 0) (pos 100000)) (x ∷ xs) ≡ [] =
+    no-kinds (accepts false (Signed (pos 0) (pos 100000)) (x ∷ xs)) _ passes in
     record {
-      faultless = rw (minus, passed) refl;
-      asked = rw minus (ap (option_map (λ m. Gen m)) (rw minus at says));
+      faultless = rw (minus, short, fits) refl;
+      asked = rw (minus, short) (ap (option_map (λ m. Gen m)) says);
     }
 
 gen_text : (name text : Text) (n : ℕ) → 0 < length text → (slice_index text 0 == 45) ≡ false → accepts false (Signed (pos 0) (pos 100000)) text ≡ true

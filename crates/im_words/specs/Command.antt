@@ -62,10 +62,13 @@ im_top = record (new_app (codes "im")) {
   };
 }
 
--- `im` with its subcommands, where the names of links lie at these references
+-- `im` with its subcommands but for `gen`, where the names of links lie at these references
+abbrev pub im_before : Texts → App
+im_before names = with_subcommand (with_subcommand (with_subcommand im_top (run_shape names)) verify_shape) show_shape
+
+-- `im` with its subcommands
 abbrev pub im_at : Texts → App
-im_at names =
-    with_subcommand (with_subcommand (with_subcommand (with_subcommand im_top (run_shape names)) verify_shape) show_shape) gen_shape
+im_at names = with_subcommand (im_before names) gen_shape
 
 -- the names of links
 abbrev pub link_texts : List Text

@@ -2,7 +2,7 @@
 ghost use Rattle.std.specs.Prelude.{◌≡◌, IfOk, false};
 ghost use Rattle.clap.specs.Words.{app_of, rule_of, shape_of};
 ghost use Rattle.clap.specs.declared.builder.command.Command.TheViews.{out-Command};
-ghost use Rattle.im_words.specs.Command.{IsMadeOfNames, gen_shape, im_at, lines_rule, link_rule, logs_rule, run_shape, show_shape, verify_shape};
+ghost use Rattle.im_words.specs.Command.{IsMadeOfNames, gen_shape, im_at, im_before, lines_rule, link_rule, logs_rule, run_shape, show_shape, verify_shape};
 
 use clap::{Arg, Command, value_parser};
 use std::alloc::{AllocError, Global};
@@ -74,9 +74,9 @@ fn generate<'a>(alloc: Global) -> Result<Command<'a>, AllocError>
     Command::new(alloc, "gen").arg(lines(alloc))
 }
 
-// The whole command line: a subcommand is required, and there is no help and no version.
-pub(crate) fn im_command<'a>(alloc: Global) -> Result<Command<'a>, AllocError>
-    ensures { IfOk result (λ c. IsMadeOfNames im_at (app_of c)) }
+// The command line without `gen`: a subcommand is required, and there is no help and no version.
+fn without_gen<'a>(alloc: Global) -> Result<Command<'a>, AllocError>
+    ensures { IfOk result (λ c. IsMadeOfNames im_before (app_of c)) }
 {
     Command::new(alloc, "im")
         .disable_help_flag(true)
@@ -84,6 +84,13 @@ pub(crate) fn im_command<'a>(alloc: Global) -> Result<Command<'a>, AllocError>
         .subcommand_required(true)
         .subcommand(run(alloc)?)?
         .subcommand(verify(alloc))?
-        .subcommand(show(alloc))?
-        .subcommand(generate(alloc)?)
+        .subcommand(show(alloc))
+}
+
+// The whole command line.
+pub(crate) fn im_command<'a>(alloc: Global) -> Result<Command<'a>, AllocError>
+    ensures { IfOk result (λ c. IsMadeOfNames im_at (app_of c)) }
+{
+    let command = without_gen(alloc)?;
+    command.subcommand(generate(alloc)?)
 }

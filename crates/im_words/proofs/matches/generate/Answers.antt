@@ -1,4 +1,4 @@
-use Rattle.std.proofs.Common.{◌≡◌, ◌∙◌, IsSome, Option, Some, ap, subst, sym, codes, ℕ}
+use Rattle.std.proofs.Common.{◌≡◌, ◌∙◌, IsSome, None, Option, Some, ap, refl, subst, sym, codes, ℕ}
 use Rattle.std.specs.Option.{option_and_then, option_map}
 use Rattle.std.specs.Str.Parse.{ExplainsUnsignedError, HasUnsignedDigitsIfOk, ParsesUnsigned}
 use Rattle.clap.specs.Words.{Text, found_of, one_of, one_text, rows_of}
