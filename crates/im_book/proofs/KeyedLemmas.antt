@@ -1,5 +1,5 @@
 -- An index of the keys of the first transactions of a list.
-use Rattle.std.proofs.Common.{◌≡◌, ◌≤◌, ◌+◌, ◌*◌, ◌<◌, ℕ, List, [], ◌∷◌, ◌++◌, length, take, drop, arith, ap, sym, subst, ◌∙◌, length-append, mul-le-mul_right}
+use Rattle.std.proofs.Common.{◌≡◌, ◌≤◌, ◌+◌, ◌-◌, ◌*◌, ◌<◌, ℕ, List, [], ◌∷◌, ◌++◌, length, take, drop, arith, ap, sym, subst, ◌∙◌, length-append, mul-le-mul_right}
 use Rattle.std.proofs.Math.Nat.{add-mul}
 use Rattle.std.proofs.lemmas.List.{length-drop, length-map, map-append, take-append-drop, take-append-le, take_all}
 use Rattle.im_model.specs.declared.transactions.Transaction.{Transaction}
@@ -24,13 +24,18 @@ keyed-more keys transactions after tx is grown =
       first = subst (λ (ts : List Transaction). IsIndexOf keys (bare ts)) (sym first) is.first;
     }
 
+-- the transactions behind the place, as a slice has them
+pub behind-is : (transactions : List Transaction) (start : ℕ) → take (length transactions - start) (drop start transactions) ≡ drop start transactions
+behind-is transactions start = take_all (length transactions - start) (drop start transactions) (omega (arith, length-drop start transactions))
+
 -- an index that took the others has all
-pub keyed-all : (old new : Indexed) (transactions : List Transaction) (start : ℕ) → start ≡ old.taken
-    → IsIndexOf new (bare (take old.taken transactions) ++ bare (drop start transactions)) → IsIndexOf new (bare transactions)
-keyed-all old new transactions start at is =
+pub keyed-all : (old new : Indexed) (transactions rest : List Transaction) (start : ℕ) → start ≡ old.taken → rest ≡ drop start transactions
+    → IsIndexOf new (bare (take old.taken transactions) ++ bare rest) → IsIndexOf new (bare transactions)
+keyed-all old new transactions rest start at behind is =
     let n : ℕ = old.taken in
     subst (λ (ts : List Transaction). IsIndexOf new ts)
-    (ap (λ (m : ℕ). bare (take n transactions) ++ bare (drop m transactions)) at
+    (ap (λ (ts : List Transaction). bare (take n transactions) ++ bare ts) behind
+    ∙ ap (λ (m : ℕ). bare (take n transactions) ++ bare (drop m transactions)) at
     ∙ sym (map-append bare_transaction (take n transactions) (drop n transactions))
     ∙ ap (λ (ts : List Transaction). bare ts) (take-append-drop n transactions)) is
 
@@ -49,8 +54,9 @@ keyed-history keys transactions is size =
     subst (λ (ts : List Transaction). IsIndexOf keys (bare ts)) (take_all keys.taken transactions (omega (arith, size))) is.first
 
 -- the transactions that it lacks fit behind those that it has
-pub keyed-rest : (keys : Indexed) (transactions : List Transaction) (start : ℕ) → IsKeyed keys transactions → start ≡ keys.taken → keys.taken + length (drop start transactions) ≡ length transactions
-keyed-rest keys transactions start is at = omega (arith, at, is.within, length-drop start transactions)
+pub keyed-rest : (keys : Indexed) (transactions rest : List Transaction) (start : ℕ) → IsKeyed keys transactions → start ≡ keys.taken → rest ≡ drop start transactions
+    → keys.taken + length rest ≡ length transactions
+keyed-rest keys transactions rest start is at behind = omega (arith, at, is.within, ap length behind, length-drop start transactions)
 
 -- the steps for one precondition more
 pub judged-more : (n s old steps more : ℕ) → steps ≤ old + n * s → more ≤ steps + s → more ≤ old + (n + 1) * s

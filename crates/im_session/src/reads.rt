@@ -16,14 +16,18 @@ use im_view::view::KvView;
 use std::alloc::{AllocError, Global};
 
 /// Brings the index to the last transaction. The versions that are added are copied and sorted once, and merged with
-/// the others as the index says.
+/// the others as the index says. Where it has all, it takes no memory.
 pub(crate) fn catch_up(alloc: Global, index: &mut Index, ledger: &Ledger) -> Result<(), AllocError>
     requires within { IsIndexWithin index.old ledger.now.transactions }
     requires few { length ledger.now.transactions ≤ 1048576 }
     ensures { OnOk result (IsIndexOf index.new ledger.now.transactions) }
 {
-    let start = index.taken() as usize;
-    index.take_all(alloc, &ledger.transactions()[start..])
+    let taken = index.taken();
+    let has_all = taken == ledger.count();
+    if has_all {
+        return Ok(());
+    }
+    index.take_all(alloc, &ledger.transactions()[taken as usize..])
 }
 
 // Want of memory is the only error of a view.

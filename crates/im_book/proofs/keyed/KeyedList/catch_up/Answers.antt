@@ -3,14 +3,14 @@ use Rattle.im_model.specs.declared.transactions.Transaction.{Transaction}
 use Rattle.im_index.specs.Indexed.{Indexed}
 use Rattle.im_index.specs.Keys.{bare}
 use Rattle.im_book.specs.Keyed.{IsKeyed, Keyed}
-use Rattle.im_book.proofs.KeyedLemmas.{keyed-all, keyed-rest, keyed-whole}
+use Rattle.im_book.proofs.KeyedLemmas.{behind-is, keyed-all, keyed-rest, keyed-whole}
 use Rattle.im_book.proofs.keyed.KeyedList.catch_up.Goals as goal
 
 pub take_keys-requires : goal.take_keys-requires
 take_keys-requires c =
     let txs : List Transaction = c.self.inside.transactions.items in
     let at : c.keyed-start.result ≡ c.self.inside.keys.taken = c.keyed-start.ensures.value ∙ sym (ap (λ (k : Keyed). k.keyed) c.self.view_is) in
-    omega (arith, keyed-rest c.self.inside.keys txs c.keyed-start.result c.self.invariant at, ap (λ (k : Keyed). length k.transactions) c.self.view_is, c.requires)
+    omega (arith, keyed-rest c.self.inside.keys txs _ c.keyed-start.result c.self.invariant at (behind-is txs c.keyed-start.result), ap (λ (k : Keyed). length k.transactions) c.self.view_is, c.requires)
 
 pub invariant_of-self-2 : goal.invariant_of-self-2
 invariant_of-self-2 c =
@@ -18,7 +18,7 @@ invariant_of-self-2 c =
     let old : Indexed = c.self.inside.keys in
     let at : c.keyed-start.result ≡ old.taken = c.keyed-start.ensures.value ∙ sym (ap (λ (k : Keyed). k.keyed) c.self.view_is) in
     keyed-whole c.take_keys.new.self txs
-    (keyed-all old c.take_keys.new.self txs c.keyed-start.result at (c.in_ok-take_keys.ensures.taken (bare (take old.taken txs)) c.self.invariant.first))
+    (keyed-all old c.take_keys.new.self txs _ c.keyed-start.result at (behind-is txs c.keyed-start.result) (c.in_ok-take_keys.ensures.taken (bare (take old.taken txs)) c.self.invariant.first))
 
 pub invariant_of-self : goal.invariant_of-self
 invariant_of-self c =
@@ -27,4 +27,4 @@ invariant_of-self c =
 pub returns-clause-keyed : goal.returns-clause-keyed
 returns-clause-keyed c =
     let at : c.keyed-start.result ≡ c.self.inside.keys.taken = c.keyed-start.ensures.value ∙ sym (ap (λ (k : Keyed). k.keyed) c.self.view_is) in
-    c.in_ok-take_keys.ensures.count ∙ keyed-rest c.self.inside.keys c.self.inside.transactions.items c.keyed-start.result c.self.invariant at
+    c.in_ok-take_keys.ensures.count ∙ keyed-rest c.self.inside.keys c.self.inside.transactions.items _ c.keyed-start.result c.self.invariant at (behind-is c.self.inside.transactions.items c.keyed-start.result)
