@@ -2,6 +2,8 @@ pub mod FateLemmas
 pub mod FoundLemmas
 pub mod GateLemmas
 pub mod GeneratedLemmas
+pub mod GrammarLemmas
+pub mod LinkedLemmas
 pub mod ReportLemmas
 pub mod RunLemmas
 pub mod ShownLemmas

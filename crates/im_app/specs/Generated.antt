@@ -8,11 +8,11 @@ use Rattle.im_model.specs.Headers.{alh}
 use Rattle.im_model.specs.History.{header_of}
 use Rattle.im_model.specs.declared.transactions.Transaction.{Transaction}
 use Rattle.im_script.specs.declared.commands.Line.{Line}
-use Rattle.im_report.specs.Report.{Report}
+use Rattle.im_report.specs.Report.{Report, floor_after}
 use Rattle.im_facts.specs.Verdicts.{Verdict}
 use Rattle.im_verify.specs.Judged.{IsVerified, NoneForked, NoneRefused, kept_texts, up_to_fork}
 use Rattle.im_session.specs.Turns.{HasTime}
-use Rattle.im_gen.specs.Generator.{accepted_of, told_line, placed_of, script_text}
+use Rattle.im_gen.specs.Generator.{accepted_of, linked_of, placed_of, script_text, told_line}
 use Rattle.im_app.specs.Runs.{IsGiven}
 
 -- the Alh of the last transaction, that of the empty string where there is none
@@ -29,8 +29,8 @@ pub record IsReported (hash : Hash) (script octets : List ℕ) (now : Told) : Ty
   pub stands : Stands hash (seen now) history
 
 -- The line tells of the script of n lines: that this history is the one to which the script leads from nothing at time 0,
--- that it has as many transactions as the line says, and that a client that knows nothing accepts as many lines of the
--- script's report, and neither refuses nor forks one.
+-- that it has as many transactions as the line says, and the tree behind the lines of the report as well, and that a client
+-- that knows nothing accepts as many lines of the report, and neither refuses nor forks one.
 pub record IsGenerated (hash : Hash) (n : ℕ) (line : List ℕ) : Type 0 where
   pub lines : List Line
   pub given : IsGiven (script_text n) lines
@@ -39,6 +39,7 @@ pub record IsGenerated (hash : Hash) (n : ℕ) (line : List ℕ) : Type 0 where
   pub report : Report hash [] history lines octets
   pub timed : All (HasTime (Some (pos 0))) history
   pub many : length history ≡ placed_of n
+  pub linked : floor_after 0 report.answers ≡ linked_of n
   pub verdicts : List Verdict
   pub judged : IsVerified hash [] octets verdicts
   pub none : NoneRefused verdicts × NoneForked verdicts
