@@ -128,11 +128,11 @@ fn run_over<R: Threads + Sync>(rt: &R, tip: Tip<Free>, mut pass: Pass, item: Log
         rt,
         move || -> Pass
             requires { (one.table ≡ shared.now.table) × (one.view ≡ right_of (either_of journal_role book_role) 1 (opener [])) × (item.found ≡ false) × (item.tx.entries ≡ []) × (item.refs ≡ []) }
-            ensures { (result.table ≡ shared.now.table) × (result.view.roles ≡ either_of journal_role book_role) }
+            ensures { (result.table ≡ shared.entry.now.table) × (result.view.roles ≡ either_of journal_role book_role) }
         { place_first(shared, one, item) },
         move || -> Pass
             requires { (two.table ≡ shared.now.table) × (two.view.roles ≡ either_of index_role tree_role) × (0 < two.view.weight) }
-            ensures { (result.table ≡ shared.now.table) × (result.view.roles ≡ either_of index_role tree_role) }
+            ensures { (result.table ≡ shared.entry.now.table) × (result.view.roles ≡ either_of index_role tree_role) }
         { show_first(shared, two) },
     );
     gather(&tip, &mut pass, one, two)
