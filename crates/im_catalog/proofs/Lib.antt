@@ -4,4 +4,5 @@ pub mod ColumnLemmas
 pub mod TestLemmas
 pub mod TableLemmas
 pub mod FoundLemmas
+pub mod ZipLemmas
 pub mod OneLemmas

@@ -49,7 +49,7 @@ one-found history name (Some t) (Some u) x y =
 iid-told : (tid m n : ℕ) → m < 2 ^ 32 → n < 2 ^ 32 → index_key tid m ≡ index_key tid n → m ≡ n
 iid-told tid m n p q e = same-field4 m n p q (same-fronts (index_prefix tid) (index_prefix tid) (field4 m) (field4 n) refl e).1
 
-one-index-version : (t : Table) → IsTable t → (v : Version) (i j : SqlIndex) → IsIndexVersion t v i → IsIndexVersion t v j → i ≡ j
+pub one-index-version : (t : Table) → IsTable t → (v : Version) (i j : SqlIndex) → IsIndexVersion t v i → IsIndexVersion t v j → i ≡ j
 one-index-version t is v i j x y =
     let iid : i.iid ≡ j.iid = iid-told t.tid i.iid j.iid x.0.iid.1 y.0.iid.1 (sym x.1 ∙ y.1) in
     let has : HasIndexParts i.iid (index_text i) i = record { columns = columns-read (length t.columns) i.columns is.few x.0.columns; numbered = refl; says = refl } in

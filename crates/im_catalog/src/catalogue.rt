@@ -19,7 +19,7 @@ use im_versions::versions::Version;
 use im_view::errors::ViewError;
 use im_view::view::KvView;
 use sqlite_items::Items;
-use std::alloc::Global;
+use std::alloc::{AllocError, Global};
 
 /// How many tables there are after the first `n` transactions.
 pub fn count<V: KvView>(alloc: Global, view: &V, n: u64) -> Result<u32, ViewError>
@@ -95,11 +95,16 @@ pub fn indexes<V: KvView>(
 {
     let prefix = index_prefix(alloc, table.tid)?;
     let shown = view.scan(alloc, prefix.as_slice(), n)?;
-    indexes_of(alloc, table, shown.as_slice())
+    let indexes = indexes_of(alloc, table, shown.as_slice())?;
+    Ok(indexes)
 }
 
 // The index that each of these versions says.
-fn indexes_of(alloc: Global, table: &Table, shown: &[Version]) -> Result<Items<SqlIndex>, ViewError>
+fn indexes_of(
+    alloc: Global,
+    table: &Table,
+    shown: &[Version],
+) -> Result<Items<SqlIndex>, AllocError>
     requires table { IsTable table.now }
     requires texts { All (HasIndexText table.now) shown.now }
     ensures { IfOk result (λ indexes. AllZip (IsIndexVersion table.now) shown.now indexes) }
@@ -113,7 +118,7 @@ fn indexes_of(alloc: Global, table: &Table, shown: &[Version]) -> Result<Items<S
 }
 
 // The index that a version of its key says.
-fn index_of(alloc: Global, table: &Table, version: &Version) -> Result<SqlIndex, ViewError>
+fn index_of(alloc: Global, table: &Table, version: &Version) -> Result<SqlIndex, AllocError>
     requires table { IsTable table.now }
     requires text { HasIndexText table.now version.now }
     ensures { IfOk result (IsIndexVersion table.now version.now) }
@@ -125,7 +130,7 @@ fn index_of(alloc: Global, table: &Table, version: &Version) -> Result<SqlIndex,
         version.value.as_slice(),
     ) {
         Ok(index) => Ok(index),
-        Err(ReadError::Memory) => Err(ViewError::Memory),
+        Err(ReadError::Memory) => Err(AllocError),
         Err(ReadError::NotText) => unreachable!(),
     }
 }
@@ -135,7 +140,8 @@ fn iid_of(key: &[u8]) -> u32
     requires { (tid : ℕ) × (iid : ℕ) × (iid < 2 ^ 32) × (key.now ≡ index_key tid iid) }
     ensures { (tid iid : ℕ) → iid < 2 ^ 32 → key.now ≡ index_key tid iid → result ≡ iid }
 {
-    let mut reader = Reader::new(&key[6..]);
+    let (_, behind) = key.split_at(6);
+    let mut reader = Reader::new(behind);
     match reader.u32() {
         Ok(iid) => iid,
         Err(_) => unreachable!(),
