@@ -1,4 +1,4 @@
-ghost use Rattle.std.specs.Prelude.{◌≡◌, ◌<◌, ◌↔◌, IsTrue, length, reverse};
+ghost use Rattle.std.specs.Prelude.{◌↔◌, IsTrue, reverse};
 ghost use Rattle.im_disk.specs.Records.{files_of, LiesBehind, FitsBehind, AreWithin};
 
 use crate::settled::settled_len;

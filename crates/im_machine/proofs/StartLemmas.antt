@@ -8,19 +8,21 @@ use Rattle.im_machine.specs.Steps.{Steps}
 use Rattle.im_machine.specs.declared.events.Event.TheVariants as on
 use Rattle.im_machine.specs.declared.outputs.Output.TheVariants as tells
 
+-- by no batches
+abbrev pub stands-none : (hash : Hash) → Stands hash (seen blank.disk) []
+stands-none hash = record {
+  batches = [];
+  there = record {
+    counted = λ b l. absurd (omega arith);
+    last = λ c. absurd (let whole : 0 + 25 < 0 = c.whole in omega arith);
+    filled = λ i d l. absurd (omega arith);
+    reads = λ i d l. absurd (omega arith);
+    lie = λ i d l. absurd (omega arith);
+  };
+  transactions_are = refl;
+  history_is = record { few = omega arith; follow = tt };
+  records_are = tt;
+}
+
 pub begins : (hash : Hash) → Steps hash blank on.Open (tells.Opened 0) start
-begins hash =
-    let stands : Stands hash (seen blank.disk) [] = record {
-      batches = [];
-      there = record {
-        counted = λ b l. absurd (omega arith);
-        last = λ c. absurd (let whole : 0 + 25 < 0 = c.whole in omega arith);
-        filled = λ i d l. absurd (omega arith);
-        reads = λ i d l. absurd (omega arith);
-        lie = λ i d l. absurd (omega arith);
-      };
-      transactions_are = refl;
-      history_is = record { few = omega arith; follow = tt };
-      records_are = tt;
-    } in
-    inl ((refl, ([], stands)), ([], stands, refl, refl))
+begins hash = inl ((refl, ([], stands-none hash)), ([], stands-none hash, refl, refl))
