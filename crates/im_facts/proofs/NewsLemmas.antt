@@ -16,7 +16,7 @@ use Rattle.im_wire.specs.declared.messages.Message.TheVariants as says
 use Rattle.im_client.specs.Lines.{state_with}
 use Rattle.im_client.specs.LineChecks.{line_checks}
 use Rattle.im_facts.specs.Accepted.{IsAccepted, IsClient}
-use Rattle.im_facts.specs.Facts.{Known, with_message, with_headers, with_entries, known_header, entry_at, is_lower, is_level, is_before, is_beside, both_headers, anchor_headers, headers_shown, entries_shown}
+use Rattle.im_facts.specs.Facts.{Known, with_message, known_after, with_headers, with_entries, known_header, entry_at, is_lower, is_level, is_before, is_beside, both_headers, anchor_headers, headers_shown, entries_shown}
 use Rattle.im_facts.specs.Folds.{AreVerdicts, known_by, known_by_all}
 use Rattle.im_facts.specs.News.{is_old, knows_anchor, knows_both, knows_entries, knows_header, knows_headers, leaves, with_accepted}
 use Rattle.im_facts.specs.Verdicts.{Verdict, Passed, Accepted, Refused, Forked, messages_of}
@@ -112,6 +112,40 @@ accepted-same hash known m client accepted = go (is_old known m) refl
         × ((if b then known else with_message known m).entries ≡ (with_message known m).entries)
     go true e = let same = old-message hash known m client accepted e in (sym same.0, sym same.1, sym same.2)
     go false e = (refl, refl, refl)
+
+-- two know the same but for the messages
+abbrev SameFacts : Known → Known → Type 0
+SameFacts a b = (a.state ≡ b.state) × (a.headers ≡ b.headers) × (a.entries ≡ b.entries)
+
+-- so behind one message
+same-more : (a b : Known) (m : Message) → SameFacts a b → SameFacts (with_message a m) (with_message b m)
+same-more a b m same = (
+  ap (λ (s : Option Header). state_with s m) same.0,
+  ap (λ (l : List Header). with_headers l (headers_shown m)) same.1,
+  ap (λ (l : List EntryFact). with_entries l (entries_shown m)) same.2,
+)
+
+same-on : (a b c : Known) → SameFacts a b → SameFacts b c → SameFacts a c
+same-on a b c p q = (p.0 ∙ q.0, p.1 ∙ q.1, p.2 ∙ q.2)
+
+-- behind lines a client knows, but for the messages, what all accepted messages lead to
+all-same-by : (hash : Hash) (known other : Known) (lines : List (List ℕ)) (verdicts : List Verdict) → IsClient hash known → AreVerdicts hash known lines verdicts → SameFacts known other
+    → SameFacts (known_by_all known verdicts) (known_after other (messages_of verdicts))
+all-same-by hash known other [] [] client are same = same
+all-same-by hash known other [] (v ∷ verdicts) client are same = absurd are
+all-same-by hash known other (line ∷ lines) [] client are same = absurd are
+all-same-by hash known other (line ∷ lines) (Passed ∷ verdicts) client are same = all-same-by hash known other lines verdicts client are.1 same
+all-same-by hash known other (line ∷ lines) (Refused fault ∷ verdicts) client are same = all-same-by hash known other lines verdicts client are.1 same
+all-same-by hash known other (line ∷ lines) (Forked x y ∷ verdicts) client are same = all-same-by hash known other lines verdicts client are.1 same
+all-same-by hash known other (line ∷ lines) (Accepted m ∷ verdicts) client are same =
+    let next : IsClient hash (with_accepted known m) = client-by hash known line (Accepted m) (line-fits line) client are.0 in
+    all-same-by hash (with_accepted known m) (with_message other m) lines verdicts next are.1
+    (same-on (with_accepted known m) (with_message known m) (with_message other m) (accepted-same hash known m client are.0.1) (same-more known other m same))
+
+pub all-same : (hash : Hash) (known : Known) (lines : List (List ℕ)) (verdicts : List Verdict) → IsClient hash known → AreVerdicts hash known lines verdicts
+    → ((known_by_all known verdicts).state ≡ (known_after known (messages_of verdicts)).state) × ((known_by_all known verdicts).headers ≡ (known_after known (messages_of verdicts)).headers)
+    × ((known_by_all known verdicts).entries ≡ (known_after known (messages_of verdicts)).entries)
+all-same hash known lines verdicts client are = all-same-by hash known known lines verdicts client are (refl, refl, refl)
 
 -- what was found of a number is still found behind a message, kept or not
 pub accepted-still-header : (hash : Hash) (known : Known) (m : Message) (t : ℕ) (header : Header) → IsClient hash known → known_header known.headers t ≡ Some header

@@ -7,7 +7,7 @@ ghost use Rattle.im_model.specs.declared.headers.Header.{Header};
 ghost use Rattle.im_pairs.specs.Pairs.{GivesDigests};
 ghost use Rattle.im_wire.specs.declared.messages.Message.{Message};
 ghost use Rattle.im_facts.specs.Accepted.{IsAccepted, IsClient};
-ghost use Rattle.im_facts.specs.Facts.{Known, Agrees, Differs, IsRising, with_message, known_header, entry_at, headers_shown, entries_shown};
+ghost use Rattle.im_facts.specs.Facts.{Known, Agrees, Differs, IsRising, with_message, known_after, known_header, entry_at, headers_shown, entries_shown};
 ghost use Rattle.im_facts.specs.Folds.{IsVerdict, AreVerdicts, kept_by_all, known_by_all};
 ghost use Rattle.im_facts.specs.News.{with_accepted};
 ghost use Rattle.im_facts.specs.Verdicts.{Verdict, IsSameVerdict, AreSameVerdicts, messages_of};
@@ -79,12 +79,17 @@ pub fn one_list_of_verdicts_but_for_pairs()
 {}
 
 /// Behind an accepted message the state, the headers and the entries are those with it, whether or not it is kept: one that
-/// isn't kept would change the list of messages alone.
+/// isn't kept would change the list of messages alone. Behind lines they are those to which all accepted messages of these
+/// lead, one after the other.
 pub fn only_the_message_is_left_out()
-    ensures { (hash : Hash) (known : Known) (message : Message) → IsClient hash known → IsAccepted hash known message
+    ensures message { (hash : Hash) (known : Known) (message : Message) → IsClient hash known → IsAccepted hash known message
         → ((with_accepted known message).state ≡ (with_message known message).state)
         × ((with_accepted known message).headers ≡ (with_message known message).headers)
         × ((with_accepted known message).entries ≡ (with_message known message).entries) }
+    ensures lines { (hash : Hash) (known : Known) (lines : List (List ℕ)) (verdicts : List Verdict) → IsClient hash known → AreVerdicts hash known lines verdicts
+        → ((known_by_all known verdicts).state ≡ (known_after known (messages_of verdicts)).state)
+        × ((known_by_all known verdicts).headers ≡ (known_after known (messages_of verdicts)).headers)
+        × ((known_by_all known verdicts).entries ≡ (known_after known (messages_of verdicts)).entries) }
 {}
 
 /// What each accepted message of lines shows is known behind them all, kept or not; and the messages that are known there are
