@@ -10,10 +10,12 @@ anchor_from-requires-clause-tree g c =
     let rises = kept-rises (g.H.Hash32.digest c.args.hash.now) r.history.0 c.args.headers.now c.args.s c.args.t r.history.1 r.history.2 r.some r.order r.within in
     omega (arith, rises, r.tree)
 
-pub returns-clause-value : goal.returns-clause-value
-returns-clause-value g c =
+pub returns : goal.returns
+returns g c =
     let r = c.requires in
-    IfOk-weaker c.anchor_from.result _ _
-    (λ anchor built history is kept. built history is kept
-    ∙ anchor-same (g.H.Hash32.digest c.args.hash.now) history c.args.headers.now c.args.s c.args.t kept r.some r.order r.within c.size_at-old.result c.size_at-size.result c.size_at-old.ensures c.size_at-size.ensures)
-    c.anchor_from.ensures
+    record {
+      value = IfOk-weaker c.anchor_from.result _ _
+          (λ anchor built history is kept. built history is kept
+          ∙ anchor-same (g.H.Hash32.digest c.args.hash.now) history c.args.headers.now c.args.s c.args.t kept r.some r.order r.within c.size_at-old.result c.size_at-size.result c.size_at-old.ensures c.size_at-size.ensures)
+          c.anchor_from.ensures.value;
+    }
