@@ -1,4 +1,4 @@
-use Rattle.std.proofs.Common.{◌≡◌, ◌∙◌, List, ap, arith, length, subst, sym, take}
+use Rattle.std.proofs.Common.{◌≡◌, ◌∙◌, List, ap, arith, drop, length, subst, sym, take}
 use Rattle.im_model.specs.declared.transactions.Transaction.{Transaction}
 use Rattle.im_index.specs.Indexed.{Indexed}
 use Rattle.im_index.specs.Keys.{bare}
@@ -17,8 +17,9 @@ invariant_of-self-2 c =
     let txs : List Transaction = c.self.inside.transactions.items in
     let old : Indexed = c.self.inside.keys in
     let at : c.keyed-start.result ≡ old.taken = c.keyed-start.ensures.value ∙ sym (ap (λ (k : Keyed). k.keyed) c.self.view_is) in
+    let behind = behind-is c.deref.result.now c.keyed-start.result ∙ ap (λ (ts : List Transaction). drop c.keyed-start.result ts) c.deref.ensures.value in
     keyed-whole c.take_keys.new.self txs
-    (keyed-all old c.take_keys.new.self txs _ c.keyed-start.result at (behind-is txs c.keyed-start.result) (c.in_ok-take_keys.ensures.taken (bare (take old.taken txs)) c.self.invariant.first))
+    (keyed-all old c.take_keys.new.self txs _ c.keyed-start.result at behind (c.in_ok-take_keys.ensures.taken (bare (take old.taken txs)) c.self.invariant.first))
 
 pub invariant_of-self : goal.invariant_of-self
 invariant_of-self c =
@@ -26,5 +27,7 @@ invariant_of-self c =
 
 pub returns-clause-keyed : goal.returns-clause-keyed
 returns-clause-keyed c =
+    let txs : List Transaction = c.self.inside.transactions.items in
     let at : c.keyed-start.result ≡ c.self.inside.keys.taken = c.keyed-start.ensures.value ∙ sym (ap (λ (k : Keyed). k.keyed) c.self.view_is) in
-    c.in_ok-take_keys.ensures.count ∙ keyed-rest c.self.inside.keys c.self.inside.transactions.items _ c.keyed-start.result c.self.invariant at (behind-is c.self.inside.transactions.items c.keyed-start.result)
+    let behind = behind-is c.deref.result.now c.keyed-start.result ∙ ap (λ (ts : List Transaction). drop c.keyed-start.result ts) c.deref.ensures.value in
+    c.in_ok-take_keys.ensures.count ∙ keyed-rest c.self.inside.keys txs _ c.keyed-start.result c.self.invariant at behind
