@@ -27,7 +27,8 @@ use im_ledger::ledger::Ledger;
 use im_ledger::opening::open_ledger;
 use std::alloc::{AllocError, Global};
 
-// There is no line: memory ran out. No other cause is known.
+// There is no line: memory ran out. That the script is in the grammar is proved; no other cause is known.
+#[derive(Clone, Copy)]
 struct Unfinished;
 
 impl From<AllocError> for Unfinished {
@@ -40,7 +41,7 @@ impl From<AllocError> for Unfinished {
 
 // What the script left: its report, and the disk.
 #[derive(Drop)]
-struct Reported {
+struct ScriptRun {
     report: Vec<u8>,
     disk: MemDisk,
 }
@@ -53,7 +54,7 @@ fn is_ok(status: Status) -> bool
 }
 
 // Runs a script over an empty disk in memory, at time 0, over one value log.
-fn reported<H: Hash32>(alloc: Global, hash: &H, script: &[u8]) -> Result<Reported, Unfinished>
+fn reported<H: Hash32>(alloc: Global, hash: &H, script: &[u8]) -> Result<ScriptRun, Unfinished>
     ensures { IfOk result (λ r. IsReported (H.digest hash.now) script.now r.report.items (told_by r.disk)) }
 {
     let empty = MemDisk::new(alloc, Vec::new(alloc))?;
@@ -66,7 +67,7 @@ fn reported<H: Hash32>(alloc: Global, hash: &H, script: &[u8]) -> Result<Reporte
         return Err(Unfinished);
     }
     let Writing { inner, failures: _ } = sink;
-    Ok(Reported {
+    Ok(ScriptRun {
         report: inner,
         disk,
     })
@@ -103,6 +104,7 @@ fn alh_of<H: Hash32>(hash: &H, ledger: &Ledger) -> D32
 }
 
 // What a disk was left with.
+#[derive(Clone, Copy)]
 struct Left {
     count: u64,
     alh: D32,
@@ -134,7 +136,7 @@ fn generated<H: Hash32>(alloc: Global, hash: &H, n: u64) -> Result<Vec<u8>, Unfi
     ensures { IfOk result (λ line. IsGenerated (H.digest hash.now) n line.items) }
 {
     let script = script_of(alloc, n)?;
-    let Reported { report, disk } = reported(alloc, hash, &script)?;
+    let ScriptRun { report, disk } = reported(alloc, hash, &script)?;
     let count = accepted(alloc, hash, &report)?;
     let left = left_on(alloc, hash, disk)?;
     let wanted = accepted_of(n);
