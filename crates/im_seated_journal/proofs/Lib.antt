@@ -1,0 +1,5 @@
+pub mod BeginLemmas
+pub mod Longer
+pub mod SeatReads
+pub mod ServeLemmas
+pub mod StartLemmas
