@@ -1,0 +1,28 @@
+use Rattle.std.proofs.Common.{rules, List, ap, sym, subst}
+use mathlib.Core.List.{IsPrefix}
+use Rattle.im_table.specs.Known.{KnownPass}
+use Rattle.im_table.specs.declared.items.LogItem.{LogItem}
+use Rattle.im_table.specs.declared.view.View.{View}
+use Rattle.im_seated_index.specs.Seats.{HasTaken}
+use Rattle.im_seated_index.proofs.SeatLemmas.{taken_front}
+use Rattle.im_seated_index.proofs.seated.SeatedIndex.show.Goals as goal
+
+pub invariant_of-self : goal.invariant_of-self
+invariant_of-self g c =
+    let seen : View → List LogItem = λ v. v.seen in
+    let list = c.join.new.pass.view.seen in
+    let begins = subst (λ (p : KnownPass). IsPrefix p.view.seen list) c.replace-keeper.ensures.value c.join.ensures.theirs in
+    let first = taken_front c.self.inside.pass.view.seen list c.self.inside.index begins c.self.invariant.3 in (
+      search rules,
+      search rules,
+      search rules,
+      subst (λ (l : List LogItem). HasTaken l c.self.inside.index) (sym (ap seen c.split.ensures.right.1)) first,
+    )
+
+pub returns-clause-first : goal.returns-clause-first
+returns-clause-first g c =
+    let seen : View → List LogItem = λ v. v.seen in
+    let list = c.join.new.pass.view.seen in
+    let begins = subst (λ (p : KnownPass). IsPrefix p.view.seen list) c.replace-keeper.ensures.value c.join.ensures.theirs in
+    let first = taken_front c.self.inside.pass.view.seen list c.self.inside.index begins c.self.invariant.3 in
+    subst (λ (l : List LogItem). HasTaken l c.self.inside.index) (sym (ap seen c.split.ensures.left.1)) first
