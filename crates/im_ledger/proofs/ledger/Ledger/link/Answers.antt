@@ -3,6 +3,7 @@ use Rattle.std.proofs.lemmas.List.{length-take-le}
 use Rattle.im_digest.specs.Digests.{Hash}
 use Rattle.im_levels.specs.Leveled.{IsLeveled, Stored}
 use Rattle.im_model.proofs.HistoryLemmas.{length-alhs_of}
+use Rattle.im_octet.proofs.PartLemmas.{on-err}
 use Rattle.im_ledger.specs.Ledgers.{Held, IsLedger}
 use Rattle.im_ledger.proofs.LedgerLemmas.{held-same, held_of, ledger-raised, raised_to}
 use Rattle.im_ledger.proofs.RootLemmas.{first-kept}
@@ -84,4 +85,5 @@ returns-clause-ledger g c =
 
 pub returns-in_err-raise-clause-err : goal.returns-in_err-raise-clause-err
 returns-in_err-raise-clause-err g c =
-    ap (λ (t : Stored). held_of c.self.inside.book.transactions c.self.inside.book.headers c.self.inside.book.alhs t) c.in_err-raise.ensures.err ∙ c.self.view_is
+    on-err c.from_residual.result
+    (ap (λ (t : Stored). held_of c.self.inside.book.transactions c.self.inside.book.headers c.self.inside.book.alhs t) (c.in_err-raise.ensures.err) ∙ c.self.view_is)
