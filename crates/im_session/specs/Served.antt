@@ -1,5 +1,5 @@
 -- What a session made of the lines of a script, and what it left on the disk.
-use Rattle.std.specs.Prelude.{◌≡◌, ◌⊎◌, ℤ, ℕ, List, [], ◌∷◌, ◌++◌, length, map, take, drop, All, Option, None, IfSome, Result, Ok, Err}
+use Rattle.std.specs.Prelude.{◌≡◌, ◌≤◌, ◌⊎◌, ℤ, ℕ, List, [], ◌∷◌, ◌++◌, length, map, take, drop, All, Option, None, IfSome, Result, Ok, Err}
 use Rattle.im_digest.specs.Digests.{Hash}
 use Rattle.im_disk.specs.Disk.{Files, Told, seen}
 use Rattle.im_disk.specs.Moments.{Leaves, LeavesNow}
