@@ -139,9 +139,23 @@ set-said i key =
     append_assoc (codes "a: set k" ++ decimal key) (codes "=v") (decimal i) ∙ append_assoc (codes "a: set k") (decimal key) (codes "=v" ++ decimal i) in
     let said : Say-ended ((codes "a: " ++ rest) ++ codes "\n") (Set [] (generated_entry i key ∷ []) ∷ []) =
     one-line rest (Set [] (generated_entry i key ∷ [])) (Lacks-append 10 (codes "set ") (field-of i key) refl (field-lacks i key))
-    (inl (32 ∷ field-of i key, refl, ([], 32 ∷ field-of i key, refl, refl,
-    (field-of i key, [], ap (λ (x : List ℕ). 32 ∷ x) (sym (append-nil (field-of i key))),
-    ([], generated_key key, codes "v" ++ decimal i, refl, inl (refl, refl), key-word key, value-word i), refl)))) in
+    (inl (
+      32 ∷ field-of i key,
+      refl,
+      (
+        [],
+        32 ∷ field-of i key,
+        refl,
+        refl,
+        (
+          field-of i key,
+          [],
+          ap (λ (x : List ℕ). 32 ∷ x) (sym (append-nil (field-of i key))),
+          ([], generated_key key, codes "v" ++ decimal i, refl, inl (refl, refl), key-word key, value-word i),
+          refl,
+        ),
+      ),
+    )) in
     subst (λ (x : List ℕ). Say-ended (x ++ codes "\n") (Set [] (generated_entry i key ∷ []) ∷ [])) (sym whole) said
 
 own-said : (i key : ℕ) → Say-ended (own_text i key) (own_command i key ∷ [])

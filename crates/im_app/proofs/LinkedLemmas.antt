@@ -86,9 +86,10 @@ Agree (a ∷ told) = (is_placed a ≡ sets (command_of a)) × Agree told
 
 asked-all : (hash : Hash) (h : List Transaction) (told : List Answered) → All (λ (a : Answered). IsAnswer hash h a.line.command a.number a.reply) told → Asked told
 asked-all hash h [] each = tt
-asked-all hash h (a ∷ told) each =
-    (placed-sets hash h (command_of a) a.number a.reply (All-head (λ (b : Answered). IsAnswer hash h b.line.command b.number b.reply) a told each),
-    asked-all hash h told (All-tail (λ (b : Answered). IsAnswer hash h b.line.command b.number b.reply) a told each))
+asked-all hash h (a ∷ told) each = (
+  placed-sets hash h (command_of a) a.number a.reply (All-head (λ (b : Answered). IsAnswer hash h b.line.command b.number b.reply) a told each),
+  asked-all hash h told (All-tail (λ (b : Answered). IsAnswer hash h b.line.command b.number b.reply) a told each),
+)
 
 placed-few : (told : List Answered) → Asked told → length (filter is_placed told) ≤ set_count (map command_of told)
 placed-few [] asked = omega arith
@@ -137,9 +138,10 @@ above-none (a ∷ told) = (omega arith, above-none told)
 
 rising-all : (told : List Answered) → AllPairs (λ (a b : Answered). (a.number ≤ b.number) × (IsTrue (is_placed b) → a.number < b.number)) told → Rising told
 rising-all [] each = tt
-rising-all (a ∷ told) each =
-    (above-all a.number told (λ k d low. (each 0 (suc k) d (omega arith) (omega arith)).0),
-    rising-all told (λ i j d less low. each (suc i) (suc j) d (omega arith) (omega arith)))
+rising-all (a ∷ told) each = (
+  above-all a.number told (λ k d low. (each 0 (suc k) d (omega arith) (omega arith)).0),
+  rising-all told (λ i j d less low. each (suc i) (suc j) d (omega arith) (omega arith)),
+)
 
 -- behind so many transactions, each link finds as many as it asks for
 abbrev Fits : ℕ → ℕ → List Command → Type 0
@@ -210,9 +212,11 @@ fits-append [] ds p f fits more =
     subst (λ (q : ℕ). Fits q f ds) a (subst (λ (g : ℕ). Fits (p + 0) g ds) b more)
 fits-append (c ∷ cs) ds p f fits more =
     let a : p + (cond (sets c) 1 0 + set_count cs) ≡ p + cond (sets c) 1 0 + set_count cs = omega arith in
-    let b : f + (raises c + raise_count cs) ≡ f + raises c + raise_count cs = omega arith in
-    (fits.0, fits-append cs ds (p + cond (sets c) 1 0) (f + raises c) fits.1
-    (subst (λ (q : ℕ). Fits q (f + raises c + raise_count cs) ds) a (subst (λ (g : ℕ). Fits (p + (cond (sets c) 1 0 + set_count cs)) g ds) b more)))
+    let b : f + (raises c + raise_count cs) ≡ f + raises c + raise_count cs = omega arith in (
+      fits.0,
+      fits-append cs ds (p + cond (sets c) 1 0) (f + raises c) fits.1
+          (subst (λ (q : ℕ). Fits q (f + raises c + raise_count cs) ds) a (subst (λ (g : ℕ). Fits (p + (cond (sets c) 1 0 + set_count cs)) g ds) b more)),
+    )
 
 -- what line i and what stands behind it ask for, by what divides i
 own-sets : (i key : ℕ) → ◌≡◌ {A = ℕ} (cond (sets (own_command i key)) 1 0) (cond (i % 16 == 0) 0 1)
