@@ -1,0 +1,13 @@
+pub mod AckLemmas
+pub mod AnswerLemmas
+pub mod BatchLemmas
+pub mod DeviceLemmas
+pub mod MomentLemmas
+pub mod OneLemmas
+pub mod OpenLemmas
+pub mod PlaceLemmas
+pub mod RunLemmas
+pub mod ScanLemmas
+pub mod SettleLemmas
+pub mod Sound
+pub mod SoundLemmas

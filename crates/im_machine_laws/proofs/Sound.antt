@@ -1,0 +1,57 @@
+-- What holds of every machine that events lead to.
+use Rattle.std.proofs.Common.{◌≡◌, ◌≤◌, ◌<◌, ◌+◌, [], ℕ, List, length, All, true, false, Option, Some, None}
+use Rattle.im_digest.specs.Digests.{Hash}
+use Rattle.im_disk.specs.Disk.{Files, Images, Told}
+use Rattle.im_disk.specs.Records.{told_of}
+use Rattle.im_format.specs.Standing.{StandsFrom}
+use Rattle.im_journal.specs.Holding.{ends_of}
+use Rattle.im_journal.specs.Kept.{Batch, IsAtRest, IsInBatch, Kept}
+use Rattle.im_journal.specs.declared.batches.Step.{Step}
+use Rattle.im_journal.specs.declared.batches.Step.TheVariants.{Idle, Staging, Staged, Sealed, Gated}
+use Rattle.im_machine.specs.Machines.{Machine, Progress}
+use Rattle.im_model.specs.History.{IsHistory}
+use Rattle.im_model.specs.declared.transactions.Transaction.{Transaction}
+
+-- what is linked and what is indexed is durable, what is durable is placed, and no transaction was placed over a larger tree than
+-- that of what is linked
+pub record AreInOrder (placed : List Transaction) (durable linked indexed : ℕ) : Type 0 where
+  pub least : All (λ tx. tx.bl ≤ linked) placed
+  pub linked_durable : linked ≤ durable
+  pub indexed_durable : indexed ≤ durable
+  pub durable_placed : durable ≤ length placed
+
+-- the disk tells what it is
+abbrev pub telling : Told → Option Told
+telling t = Some t
+
+-- so many steps are done of a batch of so many writes, whose journal is at this step of it and has made so many of its writes
+abbrev pub IsDone : Step → ℕ → ℕ → ℕ → Type 0
+IsDone Idle writes written done = ⊥
+IsDone Staging writes written done = (done ≡ written) × (written < writes)
+IsDone Staged writes written done = done ≡ writes
+IsDone Sealed writes written done = done ≡ writes + 1
+IsDone Gated writes written done = done ≡ writes + 2
+
+-- the machine's disk, as a journal that is at this step of a batch has it
+abbrev pub kept_as : Machine → Batch → Kept Told
+kept_as m b = record { disk = m.disk; ends = ends_of m.batches; durable = m.durable; batch = b; failures = 0 }
+
+-- such a journal is as far as the batch in progress
+abbrev pub IsAsFar : Hash → Machine → Option Progress → Batch → Type 0
+IsAsFar hash m None b = IsAtRest telling hash m.placed m.batches (kept_as m b)
+IsAsFar hash m (Some p) b = IsInBatch telling hash m.placed m.batches p.records (kept_as m b) × IsDone b.step (length b.pieces) b.written p.done
+
+-- there is one
+abbrev pub IsHeld : Hash → Machine → Type 0
+IsHeld hash m = (b : Batch) × IsAsFar hash m m.progress b
+
+-- What is placed is a history; the numbers are in order; no session was told more than is durable; each image stands for a front
+-- part of what is placed that holds all that is durable; while the disk may be called, it is as far as the batch in progress; and
+-- while the store isn't open, the disk is its files alone.
+pub record IsSound (hash : Hash) (m : Machine) : Type 0 where
+  pub history : IsHistory m.placed
+  pub order : AreInOrder m.placed m.durable m.linked m.indexed
+  pub sessions : (session : ℕ) → m.sessions session ≤ m.durable
+  pub images : (image : Files) → Images m.disk image → StandsFrom hash m.durable m.placed image
+  pub held : m.up ≡ true → m.stopped ≡ false → IsHeld hash m
+  pub closed : m.up ≡ false → (files : List (List ℕ)) × (m.disk ≡ told_of files [])
