@@ -6,3 +6,10 @@ pub mod TableLemmas
 pub mod FoundLemmas
 pub mod ZipLemmas
 pub mod OneLemmas
+pub mod RowLemmas
+pub mod NumberLemmas
+pub mod FrontLemmas
+pub mod ThereLemmas
+pub mod HistoryLemmas
+pub mod ChangeLemmas
+pub mod RevisionLemmas

@@ -1,3 +1,5 @@
 pub mod Fronts
 pub mod Parts
 pub mod Found
+pub mod Rows
+pub mod Numbered
