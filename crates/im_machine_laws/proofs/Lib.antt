@@ -2,6 +2,7 @@ pub mod AckLemmas
 pub mod AnswerLemmas
 pub mod BatchLemmas
 pub mod DeviceLemmas
+pub mod GateLemmas
 pub mod MomentLemmas
 pub mod OneLemmas
 pub mod OpenLemmas

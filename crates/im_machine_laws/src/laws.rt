@@ -1,6 +1,6 @@
 //! What holds of every run of the machine. Each function does nothing, and its contract is the law.
 
-ghost use Rattle.std.specs.Prelude.{◌≡◌, ◌<◌, ◌≤◌, ℕ, List, ◌∷◌, ◌++◌, length, take, All, Some, false};
+ghost use Rattle.std.specs.Prelude.{◌≡◌, ◌<◌, ◌≤◌, ℕ, List, ◌∷◌, ◌++◌, length, take, All, Some, true, false};
 ghost use Rattle.im_machine.specs.Allowed.{Allows};
 ghost use Rattle.im_machine.specs.Machines.{start, Machine};
 ghost use Rattle.im_machine.specs.Runs.{Run};
@@ -10,6 +10,7 @@ ghost use Rattle.im_machine.specs.declared.events.Event.TheVariants as on;
 ghost use Rattle.im_machine.specs.declared.outputs.Output.{Output as TheOutput};
 ghost use Rattle.im_machine.specs.declared.outputs.Output.TheVariants as tells;
 ghost use Rattle.im_machine_laws.specs.Events.{IsEvent};
+ghost use Rattle.im_machine_laws.specs.Gates.{IsUngated};
 ghost use Rattle.im_machine_laws.specs.Reached.{Gives32, IsReached};
 ghost use Rattle.im_digest.specs.Digests.{Hash};
 ghost use Rattle.im_disk.specs.Disk.{seen, Files, Images};
@@ -50,6 +51,15 @@ pub fn a_crash_can_be_opened()
     // At every moment of it, too, each image stands for just what is opened.
     ensures at_every_moment { (hash : Hash) (m next : Machine) (number : ℕ) → Gives32 hash → IsReached hash m → Steps hash m on.Open (tells.Opened number) next
         → Leaves (λ image. Stands hash image next.placed) (Some m.disk) (Some next.disk) }
+{}
+
+/// While the gate of a batch isn't written each image stands for what is durable and for no more; so an opening behind a crash then
+/// gives just that.
+pub fn a_closed_gate_keeps_its_batch_out()
+    ensures images { (hash : Hash) (m : Machine) (image : Files) → Gives32 hash → IsReached hash m → m.up ≡ true → m.stopped ≡ false → IsUngated m m.progress → Images m.disk image
+        → Stands hash image (take m.durable m.placed) }
+    ensures opened { (hash : Hash) (m down next : Machine) (image : List (List ℕ)) (number : ℕ) → Gives32 hash → IsReached hash m → m.up ≡ true → m.stopped ≡ false → IsUngated m m.progress
+        → Steps hash m (on.Crash image) tells.Done down → Steps hash down on.Open (tells.Opened number) next → number ≡ m.durable }
 {}
 
 /// What is placed is a history; what is linked and what is indexed is durable, and what is durable is placed. What a session was told
