@@ -48,6 +48,28 @@ pub returns-in-Ok-Gen-clause-gen_form : goal.returns-in-Ok-Gen-clause-gen_form
 returns-in-Ok-Gen-clause-gen_form g c = λ n form.
     (c.generate-status.ensures.never, gen_asks_so (map string_bytes c.args.words.now) n form)
 
+pub returns-in-Ok-Run-clause-gen_form : goal.returns-in-Ok-Run-clause-gen_form
+returns-in-Ok-Run-clause-gen_form g c = λ n form.
+    (c.run-status.ensures.never, gen_asks_so (map string_bytes c.args.words.now) n form)
+
+pub returns-in-Ok-Verify-clause-gen_form : goal.returns-in-Ok-Verify-clause-gen_form
+returns-in-Ok-Verify-clause-gen_form g c = λ n form.
+    (c.verdict-status.ensures.never, gen_asks_so (map string_bytes c.args.words.now) n form)
+
+pub returns-in-Ok-Show-clause-gen_form : goal.returns-in-Ok-Show-clause-gen_form
+returns-in-Ok-Show-clause-gen_form g c = λ n form.
+    (c.shown-status.ensures.never, gen_asks_so (map string_bytes c.args.words.now) n form)
+
+pub returns-in-Err-Usage-clause-gen_form : goal.returns-in-Err-Usage-clause-gen_form
+returns-in-Err-Usage-clause-gen_form g c = λ n form.
+    let is = c.in-Err-Usage.is in
+    let usage = c.in-Err-Usage.field-0-is in
+    let none : ⊥ = elim (c.read_words.ensures.taken_gen n form) [
+      | inl done ↦ (let e = sym done ∙ is in cc)
+      | inr memory ↦ (let e = sym memory ∙ is in cc)
+    ] in
+    absurd none
+
 pub returns-in-Err-Memory-clause-gen_form : goal.returns-in-Err-Memory-clause-gen_form
 returns-in-Err-Memory-clause-gen_form g c = λ n form.
     (λ usage. cc, gen_asks_so (map string_bytes c.args.words.now) n form)
