@@ -117,8 +117,9 @@ fn left_on<H: Hash32>(alloc: Global, hash: &H, disk: MemDisk) -> Result<Left, Un
 {
     match open_ledger(alloc, hash, disk, 1) {
         Ok(kept) => {
-            let count = kept.ledger().count();
-            let alh = alh_of(hash, kept.ledger());
+            let held = kept.ledger();
+            let count = held.count();
+            let alh = alh_of(hash, held);
             drop(kept);
             Ok(Left { count, alh })
         }
@@ -136,7 +137,8 @@ fn generated<H: Hash32>(alloc: Global, hash: &H, n: u64) -> Result<Vec<u8>, Unfi
     ensures { IfOk result (λ line. IsGenerated (H.digest hash.now) n line.items) }
 {
     let script = script_of(alloc, n)?;
-    let ScriptRun { report, disk } = reported(alloc, hash, &script)?;
+    let ran = reported(alloc, hash, &script)?;
+    let ScriptRun { report, disk } = ran;
     let count = accepted(alloc, hash, &report)?;
     let left = left_on(alloc, hash, disk)?;
     let wanted = accepted_of(n);

@@ -15,10 +15,10 @@ pub returns : goal.returns
 returns g c =
     let hash = g.H.Hash32.digest c.args.hash.now in
     let n : ℕ = c.args.n in
-    let r = c.in_ok-reported.ensures in
+    let r = c.in_ok-ran.ensures in
     let a = c.in_ok-count.ensures in
     let l = c.in_ok-left.ensures r.history r.stands in
-    let octets : List ℕ = c.in_ok-reported.field-0.report.items in
+    let octets : List ℕ = c.in_ok-ran.ran.report.items in
     let many : length r.history ≡ placed_of n = omega (arith, l.0, c.placed_of-placed.ensures) in
     let taken : length (kept_texts (up_to_fork a.0)) ≡ accepted_of n = omega (arith, a.3, c.accepted_of-wanted.ensures) in
     let given : IsGiven (script_text n) r.lines = subst (λ (s : List ℕ). IsGiven s r.lines) (c.deref.ensures.value ∙ c.in_ok-script.ensures) r.given in

@@ -7,6 +7,6 @@ pub returns-in-Ok : goal.returns-in-Ok
 returns-in-Ok g c = λ history stands.
     let hash = g.H.Hash32.digest c.args.hash.now in
     let same = c.in-Ok.ensures.opens.one _ history refl stands in (
-      c.count-count.ensures ∙ ap (λ (h : Held). length h.transactions) c.ledger.ensures ∙ ap length same,
-      c.alh_of-alh.ensures ∙ ap (λ (h : Held). last_alh hash h.transactions) c.ledger-2.ensures ∙ ap (last_alh hash) same,
+      c.count-count.ensures ∙ ap (λ (h : Held). length h.transactions) c.ledger-held.ensures ∙ ap length same,
+      c.alh_of-alh.ensures ∙ ap (λ (h : Held). last_alh hash h.transactions) c.ledger-held.ensures ∙ ap (last_alh hash) same,
     )
