@@ -5,6 +5,7 @@ use Rattle.std.proofs.lemmas.List.{take_all}
 use Rattle.std.specs.List.{All}
 use Rattle.im_digest.specs.Digests.{Hash}
 use Rattle.im_disk.specs.Disk.{Told, seen}
+use Rattle.im_disk.specs.Recorded.{Recorded, told_by, unchanged}
 use Rattle.im_format.specs.Batches.{Counts}
 use Rattle.im_format.proofs.EmptyLemmas.{none-alone}
 use Rattle.im_model.specs.Headers.{alh}
@@ -25,6 +26,10 @@ none-counts : (log : List ℕ) → log ≡ [] → Counts log 0 → ⊥
 none-counts log none counts =
     let c : Counts [] 0 = subst (λ (l : List ℕ). Counts l 0) none counts in
     absurd (let whole : 0 + 25 < 0 = c.whole in omega arith)
+
+-- a disk that held no file at first, and got no call, holds none
+pub empty-disk : (d : Recorded) (failing : List ℕ) → d ≡ unchanged [] failing → (file : ℕ) → seen (told_by d) file ≡ []
+empty-disk d failing is file = ap (λ (r : Recorded). seen (told_by r) file) is
 
 -- a report that was written into nothing, over empty files, is one from nothing
 pub reported-of : (hash : Hash) (script octets : List ℕ) (before now : Told) (times_before times_now : Option (List ℤ)) → ((file : ℕ) → seen before file ≡ [])
