@@ -5,7 +5,7 @@
    plain_tree duals N          for each line `s t` of the standard input: the path of s in the tree of t - 1 leaves, the
                                consistency list from s - 1 leaves to t - 1, and the path of leaf t - 1 there
 
-   Lists are written in hex, a line each. The standard error gets the seconds that building and listing took. */
+   Lists are written in hex, a line each. The standard error gets the processor seconds that building and listing took. */
 #include <stdint.h>
 #include <stdio.h>
 #include <stdlib.h>
@@ -131,7 +131,7 @@ static void show(size_t n, size_t i, int list) {
 
 static double now(void) {
     struct timespec t;
-    clock_gettime(CLOCK_MONOTONIC, &t);
+    clock_gettime(CLOCK_PROCESS_CPUTIME_ID, &t);
     return (double)t.tv_sec + (double)t.tv_nsec / 1e9;
 }
 
