@@ -13,7 +13,6 @@ use im_table::pass::Pass;
 use im_table::roles::Roles;
 use im_table::tip::Tip;
 use std::alloc::{AllocError, Global};
-use std::test::Fail;
 use std::thread::{Threads, join};
 
 // The roles of the thread that places and makes durable.
@@ -138,7 +137,9 @@ fn run_over<R: Threads + Sync>(rt: &R, tip: Tip<Free>, mut pass: Pass, item: Log
     gather(&tip, &mut pass, one, two)
 }
 
-fn run<R: Threads + Sync>(rt: &R, alloc: Global) -> Result<[u64; 4], AllocError> {
+/// The words placed, durable, linked and indexed behind two threads, of which one places a transaction and makes it durable,
+/// and the other links and indexes.
+pub(crate) fn run<R: Threads + Sync>(rt: &R, alloc: Global) -> Result<[u64; 4], AllocError> {
     let opening = Opening {
         found: Vec::new(alloc),
         logs: 1,
@@ -147,10 +148,4 @@ fn run<R: Threads + Sync>(rt: &R, alloc: Global) -> Result<[u64; 4], AllocError>
     drop(opening);
     let (tip, pass) = opened?;
     Ok(run_over(rt, tip, pass, empty_item(alloc)))
-}
-
-#[test]
-fn two_threads_step_over_one_tip(rt: HostRuntime) -> Result<(), Fail> {
-    assert!(rt; run(&rt, rt.alloc())? == [1, 1, 1, 1]);
-    Ok(())
 }

@@ -3,7 +3,7 @@ use Rattle.im_format.specs.Places.{AreAppended}
 use Rattle.im_format.specs.declared.references.ValueRef.{ValueRef}
 use Rattle.im_model.specs.declared.entries.Entry.{Entry}
 use Rattle.im_table.specs.References.{references_of}
-use Rattle.im_tests_threads.proofs.words.place_first.Goals as goal
+use Rattle.im_two_threads.proofs.words.place_first.Goals as goal
 
 -- a transaction without values
 pub store_placed-requires-clause-laid : goal.store_placed-requires-clause-laid
