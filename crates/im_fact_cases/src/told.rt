@@ -58,7 +58,7 @@ fn push_pair(
 /// Adds what a client knows: `known STATE HEADERS ENTRIES`, the number of its state, 0 for none, and how many facts there are.
 pub fn push_known<H: Hash32>(
     out: &mut String,
-    client: &FactClient<'_, H>,
+    client: &FactClient<'_, '_, H>,
 ) -> Result<(), AllocError> {
     let state = client.state().map_or(0, |header| header.id);
     let headers = client.headers().len();

@@ -7,6 +7,8 @@ pub enum Wrong {
     Hash,
     /// A line of a stream doesn't begin with `> `.
     Mark,
+    /// A client tells something else of lines than of the messages that they say.
+    Apart,
     /// Memory ran out.
     Memory,
 }
@@ -17,6 +19,7 @@ impl Wrong {
         match self {
             Wrong::Hash => "the second line of a stream names its hash, sum or sha256",
             Wrong::Mark => "a line of a stream begins with `> `",
+            Wrong::Apart => "something else is told of lines than of the messages that they say",
             Wrong::Memory => "memory ran out",
         }
     }

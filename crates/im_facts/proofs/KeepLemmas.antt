@@ -1,31 +1,16 @@
--- A client with an accepted message more is one, and what was copied of the message makes it.
-use Rattle.std.proofs.Common.{◌≡◌, Bool, true, false, if◌then◌else◌, List, [], ◌∷◌, ◌++◌, refl, ap, subst, sym, ◌∙◌, Option, Some, None}
-use Rattle.std.specs.Option.{option_to_list}
+-- A client with an accepted message more is one.
+use Rattle.std.proofs.Common.{◌≡◌, Bool, true, false, if◌then◌else◌, List, [], ◌∷◌, ◌++◌, refl, ap, subst, sym, ◌∙◌}
 use Rattle.std.proofs.lemmas.List.Elements.{All-nil, All-push}
 use Rattle.im_digest.specs.Digests.{Hash}
-use Rattle.im_model.specs.declared.headers.Header.{Header}
 use Rattle.im_wire.specs.Fits.{IsMessage}
 use Rattle.im_wire.specs.declared.messages.Message.{Message}
 use Rattle.im_facts.specs.Accepted.{IsAccepted, AreAccepted, IsClient}
-use Rattle.im_facts.specs.Copies.{followed, AreCopies}
-use Rattle.im_facts.specs.Facts.{Known, nothing, with_message, known_after, with_headers, with_entries}
-use Rattle.im_facts.specs.News.{is_old, unkept, with_accepted}
-use Rattle.im_facts.specs.declared.copies.Copies.{Copies}
-use Rattle.im_facts.specs.declared.facts.EntryFact.{EntryFact}
+use Rattle.im_facts.specs.Facts.{Known, nothing, with_message, known_after}
+use Rattle.im_facts.specs.News.{is_old, with_accepted}
 
 -- who knows nothing is a client under any hash function
 pub nothing-client : (hash : Hash) → IsClient hash nothing
 nothing-client hash = record { fit = All-nil IsMessage; accepted = tt; led = refl }
-
--- what is put in is what is known behind the message
-pub kept-all : (known : Known) (m : Message) (copies : Copies) (state : Option Header) (headers : List Header) (entries : List EntryFact) (messages : List Message) → AreCopies known.state m copies
-    → state ≡ followed known.state copies.state → headers ≡ with_headers known.headers copies.headers.items → entries ≡ with_entries known.entries (option_to_list copies.entry) → messages ≡ known.messages ++ m ∷ []
-    → ◌≡◌ {A = Known} (record { state = state; headers = headers; entries = entries; messages = messages }) (with_message known m)
-kept-all known m copies state headers entries messages are p q r s =
-    let one = p ∙ are.next in
-    let two = q ∙ ap (λ (more : List Header). with_headers known.headers more) are.headers in
-    let three = r ∙ ap (λ (more : List EntryFact). with_entries known.entries more) are.entry in
-    λ i. record { state = one i; headers = two i; entries = three i; messages = s i }
 
 after-more : (known : Known) (messages : List Message) (m : Message) → known_after known (messages ++ m ∷ []) ≡ with_message (known_after known messages) m
 after-more known [] m = refl
@@ -51,16 +36,10 @@ client-accepts hash known m client fits accepted = go (is_old known m)
     go true = client
     go false = client-more hash known m client fits accepted
 
--- behind an old message nothing changed, and it isn't kept
+-- behind an old message nothing changed
 pub old-stays : (known : Known) (m : Message) → is_old known m ≡ true → known ≡ with_accepted known m
 old-stays known m e = sym (ap (λ (b : Bool). if b then known else with_message known m) e)
 
-pub old-out : (known : Known) (m : Message) → is_old known m ≡ true → ◌≡◌ {A = Option Message} (Some m) (unkept known m)
-old-out known m e = sym (ap (λ (b : Bool). if b then Some m else None) e)
-
--- any other is
+-- any other is kept
 pub new-kept : (known : Known) (m : Message) → is_old known m ≡ false → with_message known m ≡ with_accepted known m
 new-kept known m e = sym (ap (λ (b : Bool). if b then known else with_message known m) e)
-
-pub new-in : (known : Known) (m : Message) → is_old known m ≡ false → ◌≡◌ {A = Option Message} None (unkept known m)
-new-in known m e = sym (ap (λ (b : Bool). if b then Some m else None) e)

@@ -14,3 +14,5 @@ pub mod HoldLemmas
 pub mod ShowLemmas
 pub mod PassLemmas
 pub mod VerdictSome
+pub mod JudgeLemmas
+pub mod NoteLemmas

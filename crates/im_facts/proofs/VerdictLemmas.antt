@@ -9,7 +9,8 @@ use Rattle.im_client.specs.declared.faults.LineFault.{LineFault}
 use Rattle.im_client.proofs.SaysLemmas.{err-is, ok-err, says-one, says-none}
 use Rattle.im_facts.specs.Facts.{Known, with_message, Differs}
 use Rattle.im_facts.specs.News.{is_old}
-use Rattle.im_facts.specs.Folds.{IsTakenAs, IsVerdict, AreVerdicts, known_behind, known_by, known_by_all, kept_by, kept_by_all, unkept_behind, unkept_by}
+use Rattle.im_facts.specs.Folds.{IsTakenAs, IsVerdict, AreVerdicts, known_behind, known_by, known_by_all, kept_by, kept_by_all, accepted_behind, accepted_by}
+use Rattle.im_facts.specs.Keeping.{Kept, Knows}
 use Rattle.im_facts.specs.Verdicts.{Verdict, Passed, Accepted, Refused, Forked, IsSameVerdict, AreSameVerdicts, taken_of}
 use Rattle.im_facts.specs.declared.taken.Shown.{Shown}
 use Rattle.im_facts.specs.declared.taken.Taken.{Taken}
@@ -97,13 +98,14 @@ all-same-known known (x ∷ xs) (y ∷ ys) same =
 abbrev some_taken : Taken → Option Taken
 some_taken taken = Some taken
 
--- the verdict that an answer to a line's message tells
-pub told : (hash : Hash) (known after : Known) (line : List ℕ) (m : Message) (taken : Taken) (out : Option Message) → IsLine line (Some m) → IsTakenAs hash known m taken → after ≡ known_behind known m taken → out ≡ unkept_behind known m taken
-    → (verdict : Verdict) × IsVerdict hash known line verdict × (◌≡◌ {A = Option Taken} (Some taken) (taken_of verdict)) × (after ≡ known_by known verdict) × (out ≡ unkept_by known verdict)
-told hash known after line m (took.Accepted shown) out says is e o =
-    (Accepted m, (says, is.0), ap (λ (s : Shown). some_taken (took.Accepted s)) is.1, e, o)
-told hash known after line m (took.Refused fault) out says is e o = (Refused fault, inr (m, says, is), refl, e, o)
-told hash known after line m (took.Forked x y) out says is e o = (Forked x y, (m, says, is), refl, e, o)
+-- the verdict that an answer to a line's message tells, what is known behind it, and the message that is handed out
+pub told : (hash : Hash) (known : Known) (kept : Kept) (line : List ℕ) (m : Message) (taken : Taken) (answer : Option Taken) (out : Option Message) → IsLine line (Some m) → IsTakenAs hash known m taken
+    → Knows kept (known_behind known m taken) → answer ≡ Some taken → out ≡ accepted_behind m taken
+    → (verdict : Verdict) × IsVerdict hash known line verdict × (answer ≡ taken_of verdict) × Knows kept (known_by known verdict) × (out ≡ accepted_by verdict)
+told hash known kept line m (took.Accepted shown) answer out says is knows e o =
+    (Accepted m, (says, is.0), e ∙ ap (λ (s : Shown). some_taken (took.Accepted s)) is.1, knows, o)
+told hash known kept line m (took.Refused fault) answer out says is knows e o = (Refused fault, inr (m, says, is), e, knows, o)
+told hash known kept line m (took.Forked x y) answer out says is knows e o = (Forked x y, (m, says, is), e, knows, o)
 
 kept-or-not : (b : Bool) (known : Known) (m : Message) → (if b then known else with_message known m).messages ≡ known.messages ++ (if b then [] else m ∷ [])
 kept-or-not true known m = sym (append-nil known.messages)

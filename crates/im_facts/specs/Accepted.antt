@@ -21,7 +21,7 @@ abbrev pub AreAccepted : Hash → Known → List Message → Type 0
 AreAccepted hash known [] = Unit {0}
 AreAccepted hash known (message ∷ messages) = IsAccepted hash known message × AreAccepted hash (with_message known message) messages
 
--- what a client knows under this hash function: the messages that it keeps have the ranges of their types, were accepted one
+-- what a client knows under this hash function: the messages that it has notes of have the ranges of their types, were accepted one
 -- after the other from nothing on, and led to it. One that accepted anything under another function is none.
 pub record IsClient (hash : Hash) (known : Known) : Type 0 where
   pub fit : All IsMessage known.messages

@@ -1,4 +1,4 @@
--- What a client knows by the messages that it accepted and keeps: its state, and as facts each header that they showed, by its
+-- What a client knows by the messages that it accepted: its state, and as facts each header that they showed, by its
 -- number, and each entry, by the number of its transaction and its index there.
 use Rattle.std.specs.Prelude.{◌≡◌, ◌≢◌, ◌⊎◌, ◌<◌, ◌&&◌, ◌||◌, ℕ, Bool, List, [], ◌∷◌, ◌++◌, nat_eq, nat_lt, if◌then◌else◌, All, AllPairs, Contains, Option, Some, None, IfSome, option_map}
 use Rattle.std.specs.List.{find}
@@ -77,8 +77,8 @@ entries_shown (says.Dual dual) = []
 entries_shown (says.Advance dual anchor) = []
 entries_shown (says.Item dual entry index path) = record { tx = dual.source.id; index = index; entry = entry } ∷ []
 
--- what a client knows: its state, the facts by rising place, and the accepted messages that it keeps, in order: each one
--- that showed something new or moved the state
+-- what a client knows: its state, the facts by rising place, and the accepted messages that it has notes of, in order: each
+-- one that showed something new or moved the state
 pub record Known : Type 0 where
   pub state : Option Header
   pub headers : List Header

@@ -11,13 +11,13 @@ use Rattle.im_client.specs.LineChecks.{line_checks}
 use Rattle.im_client.specs.declared.faults.LineFault.TheVariants.{Syntax}
 use Rattle.im_facts.specs.Accepted.{Passes, IsAccepted}
 use Rattle.im_facts.specs.Facts.{Known, Differs}
-use Rattle.im_facts.specs.News.{is_old, unkept, with_accepted}
+use Rattle.im_facts.specs.News.{is_old, with_accepted}
 use Rattle.im_facts.specs.Verdicts.{Verdict, Passed, Accepted, Refused, Forked, shown_of}
 use Rattle.im_facts.specs.declared.taken.Taken.{Taken}
 use Rattle.im_facts.specs.declared.taken.Taken.TheVariants as took
 
 -- a message is forked: it passes, some fact that it shows is unlike a kept one, and two unequal strings of one digest are
--- among those hashed in checking the kept messages and this one. Which two is free.
+-- among those hashed in checking the noted messages and this one. Which two is free.
 pub record IsForkedBy (hash : Hash) (known : Known) (message : Message) (x y : List ℕ) : Type 0 where
   pub passes : Passes hash known message
   pub differs : Differs known message
@@ -35,11 +35,11 @@ known_behind known message (took.Accepted shown) = with_accepted known message
 known_behind known message (took.Refused fault) = known
 known_behind known message (took.Forked x y) = known
 
--- the accepted message, where it isn't kept: it is handed back
-abbrev pub unkept_behind : Known → Message → Taken → Option Message
-unkept_behind known message (took.Accepted shown) = unkept known message
-unkept_behind known message (took.Refused fault) = None
-unkept_behind known message (took.Forked x y) = None
+-- the accepted message, which is handed out
+abbrev pub accepted_behind : Message → Taken → Option Message
+accepted_behind message (took.Accepted shown) = Some message
+accepted_behind message (took.Refused fault) = None
+accepted_behind message (took.Forked x y) = None
 
 -- what becomes of a line, by what is known before it
 abbrev pub IsVerdict : Hash → Known → List ℕ → Verdict → Type 0
@@ -57,12 +57,12 @@ known_by known (Accepted message) = with_accepted known message
 known_by known (Refused fault) = known
 known_by known (Forked x y) = known
 
--- the accepted message of a line, where it isn't kept
-abbrev pub unkept_by : Known → Verdict → Option Message
-unkept_by known Passed = None
-unkept_by known (Accepted message) = unkept known message
-unkept_by known (Refused fault) = None
-unkept_by known (Forked x y) = None
+-- the accepted message of a line
+abbrev pub accepted_by : Verdict → Option Message
+accepted_by Passed = None
+accepted_by (Accepted message) = Some message
+accepted_by (Refused fault) = None
+accepted_by (Forked x y) = None
 
 -- the one message that is kept of a line, as a list
 abbrev pub kept_by : Known → Verdict → List Message

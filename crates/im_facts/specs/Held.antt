@@ -44,6 +44,6 @@ pub record HoldsUnder (hash : Hash) (state : Header) (known : Known) (strings : 
 abbrev pub HoldsKnown : Hash → Known → List (List ℕ) → Type 0
 HoldsKnown hash known strings = (known ≡ nothing) ⊎ ((state : Header) × HoldsUnder hash state known strings)
 
--- it does, or two unequal strings of one digest are among those hashed in checking the kept messages
+-- it does, or two unequal strings of one digest are among those hashed in checking the noted messages
 abbrev pub HoldsOrPair : Hash → Known → Type 0
 HoldsOrPair hash known = HoldsKnown hash known (strings_of hash known.messages) ⊎ HasPair hash (strings_of hash known.messages)

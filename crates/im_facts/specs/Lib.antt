@@ -5,5 +5,6 @@ pub mod Accepted
 pub mod Copies
 pub mod Folds
 pub mod Held
+pub mod Judging
 pub mod Keeping
 pub mod Texts

@@ -49,7 +49,3 @@ is_old known message = (leaves known.state message && knows_headers known.header
 -- what is known behind an accepted message: one that is old isn't kept, and changes nothing; any other is
 abbrev pub with_accepted : Known → Message → Known
 with_accepted known message = if is_old known message then known else with_message known message
-
--- the message, where it isn't kept
-abbrev pub unkept : Known → Message → Option Message
-unkept known message = if is_old known message then Some message else None

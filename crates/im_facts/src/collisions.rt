@@ -35,7 +35,7 @@ pub fn what_is_kept_holds()
 {}
 
 /// A message that passes every check, and shows a fact unlike the kept one of its place, comes with two unequal strings
-/// of one digest among those hashed in checking the kept messages and this one.
+/// of one digest among those hashed in checking the noted messages and this one.
 pub fn a_second_fact_is_a_pair()
     ensures { (hash : Hash) (known : Known) (message : Message) → GivesDigests hash → IsClient hash known → IsMessage message → Passes hash known message → Differs known message
         → HasPair hash (strings_of hash (known.messages ++ message ∷ [])) }

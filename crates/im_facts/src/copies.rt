@@ -6,6 +6,7 @@ ghost use Rattle.im_facts.specs.Copies.{AreCopies, Follows};
 ghost use Rattle.im_facts.specs.Facts.{anchor_headers, both_headers, headers_shown, entries_shown, with_entries, with_headers, IsBefore};
 
 use crate::facts::{EntryFact, put_entry, put_header};
+use crate::notes::Note;
 use im_model::headers::Header;
 use im_proof::proofs::DualProof;
 use im_wire::messages::Message;
@@ -116,22 +117,23 @@ fn entry_of(alloc: Global, message: &Message) -> Result<Option<EntryFact>, Alloc
     }
 }
 
-// Makes room for what a message may add: four headers, an entry and the message.
+// Makes room for what a message may add: so many headers, an entry and a note of the message.
 pub(crate) fn make_room(
     headers: &mut Vec<Header>,
     entries: &mut Vec<EntryFact>,
-    messages: &mut Vec<Message>,
+    notes: &mut Vec<Note<'_>>,
+    shown: usize,
 ) -> Result<(), AllocError>
     ensures headers { headers.new.items ≡ headers.old.items }
     ensures entries { entries.new.items ≡ entries.old.items }
-    ensures messages { messages.new.items ≡ messages.old.items }
-    ensures room_for_headers { OnOk result (vec_len headers.new + 4 ≤ vec_capacity headers.new) }
+    ensures notes { notes.new.items ≡ notes.old.items }
+    ensures room_for_headers { OnOk result (vec_len headers.new + shown ≤ vec_capacity headers.new) }
     ensures room_for_entries { OnOk result (vec_len entries.new < vec_capacity entries.new) }
-    ensures room_for_messages { OnOk result (vec_len messages.new < vec_capacity messages.new) }
+    ensures room_for_notes { OnOk result (vec_len notes.new < vec_capacity notes.new) }
 {
-    headers.try_reserve(4)?;
+    headers.try_reserve(shown)?;
     entries.try_reserve(1)?;
-    messages.try_reserve(1)
+    notes.try_reserve(1)
 }
 
 // Puts headers at their places, each unless one is kept for its number. There is room for them.
@@ -156,12 +158,12 @@ pub(crate) fn put_entries(facts: &mut Vec<EntryFact>, copy: Option<EntryFact>)
     }
 }
 
-// Adds a message. There is room for it.
-pub(crate) fn put_message(messages: &mut Vec<Message>, message: Message)
-    requires { vec_len messages.old < vec_capacity messages.old }
-    ensures { messages.new.items ≡ messages.old.items ++ message ∷ [] }
+// Adds a note. There is room for it.
+pub(crate) fn put_note<'l>(notes: &mut Vec<Note<'l>>, note: Note<'l>)
+    requires { vec_len notes.old < vec_capacity notes.old }
+    ensures { notes.new.items ≡ notes.old.items ++ note ∷ [] }
 {
-    if let Err(full) = messages.push(message) {
+    if let Err(full) = notes.push(note) {
         drop(full);
     }
 }

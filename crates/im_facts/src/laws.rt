@@ -9,9 +9,15 @@ ghost use Rattle.im_wire.specs.declared.messages.Message.{Message};
 ghost use Rattle.im_facts.specs.Accepted.{IsAccepted, IsClient};
 ghost use Rattle.im_facts.specs.Facts.{Known, Agrees, Differs, IsRising, with_message, known_after, known_header, entry_at, headers_shown, entries_shown};
 ghost use Rattle.im_facts.specs.Folds.{IsVerdict, AreVerdicts, kept_by_all, known_by_all};
+ghost use Rattle.im_facts.specs.Keeping.{Kept, Knows};
 ghost use Rattle.im_facts.specs.News.{with_accepted};
 ghost use Rattle.im_facts.specs.Verdicts.{Verdict, IsSameVerdict, AreSameVerdicts, messages_of};
 ghost use Rattle.im_facts.specs.declared.facts.EntryFact.{EntryFact};
+
+/// What is known by what a client keeps is one thing: a line says one message.
+pub fn a_client_knows_one_thing()
+    ensures { (kept : Kept) (a b : Known) → Knows kept a → Knows kept b → a ≡ b }
+{}
 
 /// The facts that a client keeps rise by their places, so each place has one at most.
 pub fn kept_facts_rise()
@@ -23,7 +29,7 @@ pub fn the_state_is_kept()
     ensures { (hash : Hash) (known : Known) (state : Header) → IsClient hash known → known.state ≡ Some state → known_header known.headers state.id ≡ Some state }
 {}
 
-/// What is kept is what the kept messages showed: each header and entry that one of them shows is kept at its place,
+/// What is kept is what the noted messages showed: each header and entry that one of them shows is kept at its place,
 /// and each kept one was shown by one of them.
 pub fn facts_are_what_was_shown()
     ensures header { (hash : Hash) (known : Known) (message : Message) (header : Header) → IsClient hash known → Contains known.messages message → Contains (headers_shown message) header
@@ -36,7 +42,7 @@ pub fn facts_are_what_was_shown()
         → (message : Message) × Contains known.messages message × Contains (entries_shown message) fact }
 {}
 
-/// No two kept messages show unequal facts for one place, nor do any two accepted ones of lines.
+/// No two noted messages show unequal facts for one place, nor do any two accepted ones of lines.
 pub fn facts_never_differ()
     ensures headers { (hash : Hash) (known : Known) (m n : Message) (a b : Header) → IsClient hash known → Contains known.messages m → Contains known.messages n
         → Contains (headers_shown m) a → Contains (headers_shown n) b → a.id ≡ b.id → a ≡ b }

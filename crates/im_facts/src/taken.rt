@@ -23,22 +23,15 @@ pub enum Taken {
     /// The first check that fails. Nothing changed.
     Refused { fault: LineFault },
     /// Every check holds, but a fact is unlike the kept one of its place: two unequal strings of one digest, both among
-    /// those hashed in checking the kept messages and this one. Nothing changed.
+    /// those hashed in checking the messages that the client has notes of and this one. Nothing changed.
     Forked { x: Octets, y: Octets },
 }
 
-// The answer to a message, and the message itself where it is accepted and not kept.
-#[derive(Drop)]
-pub(crate) struct Taking {
-    pub(crate) taken: Taken,
-    pub(crate) unkept: Option<Message>,
-}
-
-/// The answer of a client to a line, and its accepted message, where the client doesn't keep it.
+/// The answer of a client to a line, and its accepted message.
 #[derive(Drop)]
 pub struct LineTaking {
     /// The answer: `None` for a line that is passed over.
     pub taken: Option<Taken>,
-    /// The accepted message, where it isn't the last one that the client keeps now.
-    pub unkept: Option<Message>,
+    /// The message of the line, where it is accepted.
+    pub accepted: Option<Message>,
 }

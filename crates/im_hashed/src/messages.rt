@@ -1,6 +1,6 @@
-ghost use Rattle.std.specs.Prelude.{◌++◌, ◌∷◌, [], All, IfOk, OnOk};
+ghost use Rattle.std.specs.Prelude.{OnOk};
 ghost use Rattle.im_hashed.specs.Added.{AddsStrings};
-ghost use Rattle.im_hashed.specs.Messages.{HoldSame, ProofsHold, AnchorHolds, anchor_strings, item_strings, message_strings, strings_of};
+ghost use Rattle.im_hashed.specs.Messages.{ProofsHold, AnchorHolds, anchor_strings, item_strings, message_strings};
 
 use crate::duals::add_dual;
 use crate::parts::{add_entry, add_header, add_path};
@@ -11,29 +11,10 @@ use im_proof::proofs::DualProof;
 use im_wire::messages::Message;
 use std::alloc::{AllocError, Global};
 
-/// The strings that are hashed in checking kept messages and one more, all of which pass the checks of their proofs, and those
-/// of the header of a first state, whose checks hash nothing: each at least once, and no others. Each is hashed once more where
-/// a later one is made of its digest. Its only error is want of memory.
-pub fn hashed<H: Hash32>(
-    alloc: Global,
-    hash: &H,
-    kept: &[Message],
-    message: &Message,
-) -> Result<Vec<Octets>, AllocError>
-    requires kept { All (ProofsHold (H.digest hash.now)) kept.now }
-    requires message { ProofsHold (H.digest hash.now) message.now }
-    ensures { IfOk result (λ strings. HoldSame strings.items (strings_of (H.digest hash.now) (kept.now ++ message.now ∷ []))) }
-{
-    let mut out = Vec::new(alloc);
-    for known in kept {
-        add_message(alloc, hash, &mut out, known)?;
-    }
-    add_message(alloc, hash, &mut out, message)?;
-    Ok(out)
-}
-
-// Adds the strings of a message.
-fn add_message<H: Hash32>(
+/// Adds the strings that are hashed in checking a message which passes the checks of its proofs, and those of the header of a
+/// first state, whose checks hash nothing: each at least once, and no others. Each is hashed once more where a later one is made
+/// of its digest. Its only error is want of memory; then some of them may have been added.
+pub fn add_message<H: Hash32>(
     alloc: Global,
     hash: &H,
     out: &mut Vec<Octets>,

@@ -75,3 +75,9 @@ takes_held hash held lines slice known read same t = record { kept = slice; kept
 pub stops_held : (hash : Hash) (held : Option (List (List ℕ))) (lines slice : List (List ℕ)) (k : ℕ) → IfSome held (λ xs. lines ≡ xs) → slice ≡ lines → (n : ℕ) × (k ≡ n + 1) × StopsKept hash slice n
     → StopsHeld hash held k
 stops_held hash held lines slice k read same s = record { kept = slice; kept_is = held_is held lines slice read same; n = s.0; number = s.1; stops = s.2 }
+
+-- what was read is what the keeper holds still
+pub read_is : (old new : Option (List (List ℕ))) (lines slice : List (List ℕ)) → new ≡ old → slice ≡ lines → IfSome old (λ xs. lines ≡ xs) → IfSome new (λ xs. slice ≡ xs)
+read_is old new lines slice still same read =
+    subst (λ (o : Option (List (List ℕ))). IfSome o (λ xs. slice ≡ xs)) (sym still)
+    (subst (λ (l : List (List ℕ)). IfSome old (λ xs. l ≡ xs)) (sym same) read)

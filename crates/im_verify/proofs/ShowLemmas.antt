@@ -3,13 +3,18 @@ use Rattle.std.proofs.Common.{◌≡◌, ◌⊎◌, ◌+◌, ◌<◌, ℕ, List,
 use Rattle.std.specs.Io.KnownBytes.{Appends}
 use Rattle.im_digest.specs.Digests.{Hash}
 use Rattle.im_facts.specs.Facts.{Known}
+use Rattle.im_facts.specs.Keeping.{Kept, Knows}
 use Rattle.im_facts.specs.Verdicts.{Verdict}
 use Rattle.im_verify.specs.Judged.{AreTaken, StopsHeld, StopsKept}
-use Rattle.im_verify.specs.Shows.{known_text, HasShowFate, Shows, ShowsPart}
+use Rattle.im_verify.specs.Shows.{facts_text, known_text, HasShowFate, Shows, ShowsPart}
 use Rattle.im_verify.specs.Turns.{TakesHeld}
 use Rattle.im_verify.specs.declared.show.ShowEnd.{ShowEnd}
 use Rattle.im_verify.specs.declared.show.ShowEnd.TheVariants as the
 use Rattle.im_verify.proofs.FateLemmas.{one-stop, stop-not-taken}
+
+-- the text of what is kept is that of what is known
+pub text-known : (hash : Hash) (kept : Kept) (known : Known) (text : List ℕ) → Knows kept known → text ≡ facts_text hash kept.state kept.headers kept.entries → text ≡ known_text hash known
+text-known hash kept known text knows e = e ∙ ap (known_text hash) knows.is
 
 -- the whole text was written
 pub shows_told : (hash : Hash) (held : Option (List (List ℕ))) (known : Known) (text slice : List ℕ) (before after : Option (List ℕ))

@@ -1,6 +1,6 @@
 -- How far the lines of a stream were taken, and one line more.
-use Rattle.std.proofs.Common.{◌≡◌, ◌+◌, ◌<◌, ℕ, List, [], ◌∷◌, ◌++◌, length, take, Bool, true, false, if◌then◌else◌, ◌||◌, ◌==◌, ◌-◌, Option, Some, None, Ok, Err, refl, sym, ap, subst, ◌∙◌, arith, append_assoc, append-nil, length-append}
-use Rattle.std.specs.Prelude.{◌↔◌, IfOk, IsTrue, OnOk, Result, slice_get}
+use Rattle.std.proofs.Common.{◌≡◌, ◌+◌, ◌<◌, ℕ, List, [], ◌∷◌, ◌++◌, length, take, Bool, true, false, if◌then◌else◌, ◌||◌, ◌==◌, Option, Some, None, Ok, Err, refl, sym, ap, subst, ◌∙◌, arith, append_assoc, append-nil, length-append}
+use Rattle.std.specs.Prelude.{◌↔◌, IfOk, IsTrue, OnOk, Result}
 use Rattle.std.specs.Option.{option_map}
 use Rattle.std.specs.Io.KnownBytes.{Appends}
 use Rattle.std.proofs.KnownBytes.{Appends-nil, Appends-trans}
@@ -16,19 +16,19 @@ use Rattle.im_wire.specs.Texts.{text}
 use Rattle.im_wire.specs.declared.messages.Message.{Message}
 use Rattle.im_pairs.specs.Pairs.{GivesDigests}
 use Rattle.im_facts.specs.Accepted.{IsClient}
-use Rattle.im_facts.specs.Facts.{Known, with_message}
-use Rattle.im_facts.specs.Folds.{AreVerdicts, IsVerdict, known_by, known_by_all, unkept_by}
-use Rattle.im_facts.specs.News.{is_old}
+use Rattle.im_facts.specs.Facts.{Known}
+use Rattle.im_facts.specs.Folds.{AreVerdicts, IsVerdict, accepted_by, known_by, known_by_all}
+use Rattle.im_facts.specs.Keeping.{IsLed, Kept, Knows}
 use Rattle.im_facts.specs.Texts.{taken_line, verdict_line, verdict_lines}
-use Rattle.im_facts.specs.Verdicts.{Verdict, Passed, Accepted, Refused, Forked, IsForked, shown_of, taken_of}
+use Rattle.im_facts.specs.Verdicts.{Verdict, Passed, Accepted, Refused, Forked, IsForked, taken_of}
 use Rattle.im_facts.specs.declared.taken.Taken.{Taken}
-use Rattle.im_facts.specs.declared.taken.Taken.TheVariants as took
 use Rattle.im_verify.specs.Judged.{kept_text, kept_texts, IsRefused, NoneForked, NoneRefused, SomeRefused}
-use Rattle.im_verify.specs.Turns.{end_by, end_of, last_accepted, message_text, WritesAndKeeps, AddsPart, WrittenAndKept, EndsStream, HalfTurn, TakesAll, TakesAt, TakesInto, TakesSome, LineTurn}
+use Rattle.im_verify.specs.Turns.{end_by, end_of, message_text, WritesAndKeeps, AddsPart, WrittenAndKept, EndsStream, HalfTurn, TakesAll, TakesAt, TakesInto, TakesSome, LineTurn}
 use Rattle.im_verify.specs.declared.lines.LineEnd.{LineEnd}
 use Rattle.im_verify.specs.declared.lines.LineEnd.TheVariants as the
 use Rattle.im_verify.specs.declared.stops.Stop.{Stop}
 use Rattle.im_verify.proofs.FoldLemmas.{fold-append, fold-push, lines-push, known-push, texts-push}
+use Rattle.im_facts.proofs.NoteLemmas.{led-client}
 use Rattle.im_verify.proofs.ForkLemmas.{all-verdicts, some-here, up-forked, up-none}
 
 keeps-nil : (kept : Option (List (List ℕ))) → kept ≡ option_map (λ xs. xs ++ []) kept
@@ -75,86 +75,69 @@ end-forked (Accepted m) e = absurd cc
 end-forked (Refused fault) e = absurd cc
 end-forked (Forked x y) e = tt
 
--- the last of messages with one more
-last-more : (ms : List Message) (m : Message) → slice_get (ms ++ m ∷ []) (length (ms ++ m ∷ []) - 1) ≡ Some m
-last-more ms m =
-    let size : length (ms ++ m ∷ []) ≡ length ms + 1 = length-append ms (m ∷ []) in
-    let at : length (ms ++ m ∷ []) - 1 ≡ length ms = omega arith in
-    ap (slice_get (ms ++ m ∷ [])) at ∙ last-at ms m
-  where
-    last-at : (ms : List Message) (m : Message) → slice_get (ms ++ m ∷ []) (length ms) ≡ Some m
-    last-at [] m = refl
-    last-at (n ∷ ms) m = last-at ms m
-
 -- the text that is kept of a line is that of its accepted message
-kept-or-out : (b : Bool) (known : Known) (m : Message)
-    → message_text (last_accepted (Some (took.Accepted (shown_of m))) (if b then known else with_message known m).messages (if b then Some m else None)) ≡ text m ∷ []
-kept-or-out true known m = refl
-kept-or-out false known m = ap message_text (last-more known.messages m)
+kept-accepted : (v : Verdict) → message_text (accepted_by v) ≡ kept_text v
+kept-accepted Passed = refl
+kept-accepted (Accepted m) = refl
+kept-accepted (Refused fault) = refl
+kept-accepted (Forked x y) = refl
 
-kept-last : (known : Known) (v : Verdict) → message_text (last_accepted (taken_of v) (known_by known v).messages (unkept_by known v)) ≡ kept_text v
-kept-last known Passed = refl
-kept-last known (Accepted m) = kept-or-out (is_old known m) known m
-kept-last known (Refused fault) = refl
-kept-last known (Forked x y) = refl
-
-accepted-is : (v : Verdict) (messages : List Message) (out : Option Message) (m : Message) → last_accepted (taken_of v) messages out ≡ Some m → (next : Message) × (v ≡ Accepted next)
-accepted-is Passed messages out m e = absurd cc
-accepted-is (Accepted next) messages out m e = (next, refl)
-accepted-is (Refused fault) messages out m e = absurd cc
-accepted-is (Forked x y) messages out m e = absurd cc
+accepted-is : (v : Verdict) (m : Message) → accepted_by v ≡ Some m → (next : Message) × (v ≡ Accepted next)
+accepted-is Passed m e = absurd cc
+accepted-is (Accepted next) m e = (next, refl)
+accepted-is (Refused fault) m e = absurd cc
+accepted-is (Forked x y) m e = absurd cc
 
 -- what a client told of a line, and which message it handed out
-abbrev pub Told : Hash → Known → Known → List ℕ → Option Taken → Option Message → Type 0
+abbrev pub Told : Hash → Known → Kept → List ℕ → Option Taken → Option Message → Type 0
 Told hash known next line taken out =
-    (verdict : Verdict) × IsVerdict hash known line verdict × (taken ≡ taken_of verdict) × (next ≡ known_by known verdict) × (out ≡ unkept_by known verdict)
+    (verdict : Verdict) × IsVerdict hash known line verdict × (taken ≡ taken_of verdict) × Knows next (known_by known verdict) × (out ≡ accepted_by verdict)
+
+-- a line was judged, told and kept, and what is known then is known by what is kept
+abbrev pub TurnsTo : Hash → ℕ → List ℕ → LineEnd → Known → Kept → WrittenAndKept → WrittenAndKept → Type 0
+TurnsTo hash number line end known kept from to = (next : Known) × Knows kept next × LineTurn hash number line end known next from to
 
 -- so the text that is kept, by the answer
-kept-told : (known next : Known) (taken : Option Taken) (messages : List Message) (out message : Option Message) (v : Verdict) → taken ≡ taken_of v → next ≡ known_by known v → out ≡ unkept_by known v
-    → messages ≡ next.messages → message ≡ last_accepted taken messages out → message_text message ≡ kept_text v
-kept-told known next taken messages out message v answer follows hands lent last =
-    ap message_text last
-    ∙ ap (λ (t : Option Taken). message_text (last_accepted t messages out)) answer
-    ∙ ap (λ (ms : List Message). message_text (last_accepted (taken_of v) ms out)) lent
-    ∙ ap (λ (k : Known). message_text (last_accepted (taken_of v) k.messages out)) follows
-    ∙ ap (λ (o : Option Message). message_text (last_accepted (taken_of v) (known_by known v).messages o)) hands
-    ∙ kept-last known v
+kept-told : (out message : Option Message) (v : Verdict) → out ≡ accepted_by v → message ≡ out → message_text message ≡ kept_text v
+kept-told out message v hands lent = ap message_text (lent ∙ hands) ∙ kept-accepted v
 
-turn-of : (hash : Hash) (number : ℕ) (line : List ℕ) (known next : Known) (taken : Option Taken) (messages : List Message) (out message : Option Message) (end : LineEnd) (from to : WrittenAndKept)
-    → Told hash known next line taken out → messages ≡ next.messages → message ≡ last_accepted taken messages out → end ≡ end_of taken
-    → WritesAndKeeps (taken_line number taken) (message_text message) from to → LineTurn hash number line end known next from to
-turn-of hash number line known next taken messages out message end from to (v, is, answer, follows, hands) lent last e adds = record {
+turn-of : (hash : Hash) (number : ℕ) (line : List ℕ) (known : Known) (next : Kept) (taken : Option Taken) (out message : Option Message) (end : LineEnd) (from to : WrittenAndKept)
+    → Told hash known next line taken out → message ≡ out → end ≡ end_of taken
+    → WritesAndKeeps (taken_line number taken) (message_text message) from to → TurnsTo hash number line end known next from to
+turn-of hash number line known next taken out message end from to (v, is, answer, knows, hands) lent e adds = (known_by known v, knows, record {
   verdict = v;
   is = is;
-  tells = subst (λ (ts : List (List ℕ)). WritesAndKeeps (verdict_line number v) ts from to) (kept-told known next taken messages out message v answer follows hands lent last)
+  tells = subst (λ (ts : List (List ℕ)). WritesAndKeeps (verdict_line number v) ts from to) (kept-told out message v hands lent)
       (subst (λ (t : Option Taken). WritesAndKeeps (taken_line number t) (message_text message) from to) answer adds);
-  follows = follows;
+  follows = refl;
   ends = e ∙ ap end_of answer;
-}
+})
 
 -- a line was taken, told and kept
-pub turn-told : (hash : Hash) (number : ℕ) (line : List ℕ) (known next : Known) (taken : Option Taken) (messages : List Message) (out message : Option Message) (from to : WrittenAndKept) (result : Result LineEnd Stop)
-    → Told hash known next line taken out → messages ≡ next.messages → message ≡ last_accepted taken messages out → IfOk result (λ end. end ≡ end_of taken)
-    → OnOk result (WritesAndKeeps (taken_line number taken) (message_text message) from to) → IfOk result (λ end. LineTurn hash number line end known next from to)
-turn-told hash number line known next taken messages out message from to (Ok end) told lent last e adds = turn-of hash number line known next taken messages out message end from to told lent last e adds
-turn-told hash number line known next taken messages out message from to (Err stop) told lent last e adds = tt
+pub turn-told : (hash : Hash) (number : ℕ) (line : List ℕ) (kept next : Kept) (taken : Option Taken) (out message : Option Message) (from to : WrittenAndKept) (result : Result LineEnd Stop)
+    → ((known : Known) → Knows kept known → Told hash known next line taken out) → message ≡ out → IfOk result (λ end. end ≡ end_of taken)
+    → OnOk result (WritesAndKeeps (taken_line number taken) (message_text message) from to)
+    → IfOk result (λ end. (known : Known) → Knows kept known → TurnsTo hash number line end known next from to)
+turn-told hash number line kept next taken out message from to (Ok end) told lent e adds =
+    λ known knows. turn-of hash number line known next taken out message end from to (told known knows) lent e adds
+turn-told hash number line kept next taken out message from to (Err stop) told lent e adds = tt
 
 -- it was told in part
-pub half-told : (hash : Hash) (number : ℕ) (line : List ℕ) (known next : Known) (taken : Option Taken) (messages : List Message) (out message : Option Message) (from to : WrittenAndKept)
-    → Told hash known next line taken out → messages ≡ next.messages → message ≡ last_accepted taken messages out
+pub half-told : (hash : Hash) (number : ℕ) (line : List ℕ) (known : Known) (next : Kept) (taken : Option Taken) (out message : Option Message) (from to : WrittenAndKept)
+    → Told hash known next line taken out → message ≡ out
     → AddsPart (taken_line number taken) (message_text message) from to → HalfTurn hash number line known from to
-half-told hash number line known next taken messages out message from to (v, is, answer, follows, hands) lent last adds = record {
+half-told hash number line known next taken out message from to (v, is, answer, knows, hands) lent adds = record {
   verdict = v;
   is = is;
-  tells = subst (λ (ts : List (List ℕ)). AddsPart (verdict_line number v) ts from to) (kept-told known next taken messages out message v answer follows hands lent last)
+  tells = subst (λ (ts : List (List ℕ)). AddsPart (verdict_line number v) ts from to) (kept-told out message v hands lent)
       (subst (λ (t : Option Taken). AddsPart (taken_line number t) (message_text message) from to) answer adds);
 }
 
 -- its message was accepted
-pub accepted-told : (hash : Hash) (line : List ℕ) (known next : Known) (taken : Option Taken) (messages : List Message) (out message : Option Message)
-    → Told hash known next line taken out → message ≡ last_accepted taken messages out → (m : Message) × (message ≡ Some m) → (m : Message) × IsVerdict hash known line (Accepted m)
-accepted-told hash line known next taken messages out message (v, is, answer, follows, hands) last (m, some) =
-    let found = accepted-is v messages out m (ap (λ (t : Option Taken). last_accepted t messages out) (sym answer) ∙ sym last ∙ some) in
+pub accepted-told : (hash : Hash) (line : List ℕ) (known : Known) (next : Kept) (taken : Option Taken) (out message : Option Message)
+    → Told hash known next line taken out → message ≡ out → (m : Message) × (message ≡ Some m) → (m : Message) × IsVerdict hash known line (Accepted m)
+accepted-told hash line known next taken out message (v, is, answer, knows, hands) lent (m, some) =
+    let found = accepted-is v m (sym hands ∙ sym lent ∙ some) in
     (found.0, subst (λ (w : Verdict). IsVerdict hash known line w) found.1 is)
 
 -- the lines of a stream before its rest were judged from what is known on, none of them a fork, told and kept
@@ -362,3 +345,33 @@ takes-into hash known stream rest line behind number refused now from mid to som
       adds = subst (λ k. A (verdict_lines 1 p.verdicts ++ take t.tells.0 (verdict_line k t.verdict)) (kept_texts (p.verdicts ++ t.verdict ∷ []))) n
           (subst (λ (a : List (List ℕ)). A (verdict_lines 1 p.verdicts ++ take t.tells.0 (verdict_line (number + 1) t.verdict)) a) (sym (texts-push p.verdicts t.verdict)) both);
     }
+
+-- so far the lines of a stream were taken, whatever was known before them
+abbrev pub Following : Hash → Kept → List ℕ → List ℕ → ℕ → Bool → Kept → WrittenAndKept → WrittenAndKept → Type 0
+Following hash first stream rest number refused kept from to =
+    (known : Known) → Knows first known → (next : Known) × Knows kept next × Progress hash known stream rest number refused next from to
+
+-- before the first line
+pub follows-first : (hash : Hash) (kept : Kept) (stream : List ℕ) (d : WrittenAndKept) → Following hash kept stream stream 0 false kept d d
+follows-first hash kept stream d = λ known knows. (known, knows, progress-first hash known stream d)
+
+-- one line more that isn't forked
+pub follows-next : (hash : Hash) (first kept next : Kept) (stream rest line behind : List ℕ) (number : ℕ) (refused r : Bool) (end : LineEnd) (from mid to : WrittenAndKept)
+    → 0 < length rest → IsFirstText rest line behind → Following hash first stream rest number refused kept from mid
+    → ((known : Known) → Knows kept known → TurnsTo hash (number + 1) line end known next mid to)
+    → (end ≡ the.Forked → ⊥) → (IsTrue r ↔ (end ≡ the.Refused))
+    → Following hash first stream behind (number + 1) (refused || r) next from to
+follows-next hash first kept next stream rest line behind number refused r end from mid to some text p t unforked is_refused = λ known knows.
+    let now = p known knows in
+    let turn = t now.0 now.1 in
+    (turn.0, turn.1, progress-next hash known stream rest line behind number refused r end now.0 turn.0 from mid to some text now.2 turn.2 unforked is_refused)
+
+-- one that is
+pub follows-fork : (hash : Hash) (first kept next : Kept) (stream rest line behind : List ℕ) (number : ℕ) (refused : Bool) (end : LineEnd) (from mid to : WrittenAndKept)
+    → GivesDigests hash → IsLed hash next → 0 < length rest → IsFirstText rest line behind → Following hash first stream rest number refused kept from mid
+    → ((known : Known) → Knows kept known → TurnsTo hash (number + 1) line end known next mid to) → end ≡ the.Forked
+    → (known : Known) → Knows first known → TakesAll hash known stream the.Forked from to
+follows-fork hash first kept next stream rest line behind number refused end from mid to size led some text p t e known knows =
+    let now = p known knows in
+    let turn = t now.0 now.1 in
+    takes-fork hash known stream rest line behind number refused end now.0 turn.0 from mid to size (led-client hash next turn.0 led turn.1) some text now.2 turn.2 e

@@ -31,9 +31,13 @@ entry_line fact =
     codes "entry " ++ decimal fact.tx ++ codes " " ++ decimal fact.index ++ codes " " ++ bare_or_hex fact.entry.key ++ codes "=" ++ bare_or_hex fact.entry.value
     ++ codes " md 0x" ++ encode_lower fact.entry.md ++ codes "\n"
 
--- all that is known, as it is shown: the state, the headers by rising number, the entries by rising place
+-- a state and facts, as they are shown: the state, the headers in their order, the entries in theirs
+abbrev pub facts_text : Hash → Option Header → List Header → List EntryFact → List ℕ
+facts_text hash state headers entries = state_line hash state ++ flat_map (header_line hash) headers ++ flat_map entry_line entries
+
+-- all that is known: the headers by rising number, the entries by rising place
 abbrev pub known_text : Hash → Known → List ℕ
-known_text hash known = state_line hash known.state ++ flat_map (header_line hash) known.headers ++ flat_map entry_line known.entries
+known_text hash known = facts_text hash known.state known.headers known.entries
 
 -- what is known behind the kept lines, none of which is refused or forked, was written; these are the lines that a keeper
 -- holds, where it tells them

@@ -1,5 +1,5 @@
 -- What one line and several lines do to a sink and a keeper.
-use Rattle.std.specs.Prelude.{◌≡◌, ◌<◌, ◌+◌, ◌-◌, ℕ, List, [], ◌∷◌, ◌++◌, length, take, slice_get, Bool, true, false, Option, Some, None, IfSome}
+use Rattle.std.specs.Prelude.{◌≡◌, ◌<◌, ◌+◌, ℕ, List, [], ◌∷◌, ◌++◌, length, take, Bool, true, false, Option, Some, None, IfSome}
 use Rattle.std.specs.Option.{option_map}
 use Rattle.std.specs.Io.KnownBytes.{Appends}
 use Rattle.im_digest.specs.Digests.{Hash}
@@ -52,15 +52,6 @@ IsRejection (Some (took.Forked x y)) = Unit {0}
 abbrev pub message_text : Option Message → List (List ℕ)
 message_text None = []
 message_text (Some message) = text message ∷ []
-
--- the message that an answer accepted, of a client that then keeps these messages: the one that it doesn't keep, if there is
--- one, and else the last one
-abbrev pub last_accepted : Option Taken → List Message → Option Message → Option Message
-last_accepted None messages unkept = None
-last_accepted (Some (took.Accepted shown)) messages None = slice_get messages (length messages - 1)
-last_accepted (Some (took.Accepted shown)) messages (Some message) = Some message
-last_accepted (Some (took.Refused fault)) messages unkept = None
-last_accepted (Some (took.Forked x y)) messages unkept = None
 
 -- how lines end of which none was forked, by whether one was refused
 abbrev pub end_by : Bool → LineEnd

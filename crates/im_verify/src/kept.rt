@@ -1,21 +1,18 @@
-ghost use Rattle.std.specs.Prelude.{◌≡◌, ◌+◌, ◌≤◌, ℕ, Err, IfOk, IsTrue, ◌↔◌};
-ghost use Rattle.im_edge.specs.Counts.{Rose};
-ghost use Rattle.im_facts.specs.Accepted.{IsClient};
-ghost use Rattle.im_verify.specs.Judged.{StopsHeld, StopsKept};
-ghost use Rattle.im_verify.specs.Turns.{IsRejection, TakesHeld, TakesKept};
+ghost use Rattle.std.specs.Prelude.{◌≡◌, ◌+◌, ℕ, Err, IfOk, IsTrue, ◌↔◌};
+ghost use Rattle.im_facts.specs.Facts.{Known};
+ghost use Rattle.im_facts.specs.Keeping.{IsLed, Knows};
+ghost use Rattle.im_verify.specs.Judged.{StopsKept};
+ghost use Rattle.im_verify.specs.Turns.{IsRejection, TakesKept};
 
 use im_digest::Hash32;
-use im_edge::keeper::{Keeper, KeeperError};
 use im_facts::clients::FactClient;
 use im_facts::taken::Taken;
 use im_octet::octets::Octets;
 use std::alloc::{AllocError, Global};
 
-/// Why the kept lines weren't taken.
+/// Why kept lines weren't taken.
 #[derive(Clone, Copy, Debug, PartialEq, Eq)]
 pub(crate) enum KeptError {
-    /// The keeper failed.
-    KeeperFault,
     /// Memory ran out.
     Memory,
     /// The number, from 1, of the first kept line that is refused or forked.
@@ -32,19 +29,6 @@ impl From<AllocError> for KeptError {
     }
 }
 
-impl From<KeeperError> for KeptError {
-    ghost use Rattle.im_verify.specs.Stops.{kept_error_of};
-
-    ghost from_gives = { λ given error. error ≡ kept_error_of given };
-
-    fn from(error: KeeperError) -> Self {
-        match error {
-            KeeperError::Failed => KeptError::KeeperFault,
-            KeeperError::Memory => KeptError::Memory,
-        }
-    }
-}
-
 // Whether a line was refused or forked.
 fn is_rejected(taken: &Option<Taken>) -> bool
     ensures { IsTrue result ↔ IsRejection taken.now }
@@ -55,17 +39,17 @@ fn is_rejected(taken: &Option<Taken>) -> bool
     )
 }
 
-// The client behind kept lines, or the first of them that is refused or forked.
-fn follow_lines<'h, H: Hash32>(
+/// The client behind kept lines, from knowing nothing on, or the first of them that is refused or forked. It keeps places in
+/// these lines.
+pub(crate) fn take_kept<'h, 'l, H: Hash32>(
     alloc: Global,
     hash: &'h H,
-    lines: &[Octets],
-) -> Result<FactClient<'h, H>, KeptError>
-    ensures ok { IfOk result (λ client. TakesKept (H.digest hash.now) lines.now client.known) }
-    ensures client { IfOk result (λ client. IsClient (H.digest client.hash) client.known) }
+    lines: &'l [Octets],
+) -> Result<FactClient<'h, 'l, H>, KeptError>
+    ensures ok { IfOk result (λ client. (known : Known) × Knows client.kept known × TakesKept (H.digest hash.now) lines.now known) }
+    ensures led { IfOk result (λ client. IsLed (H.digest client.hash) client.kept) }
     ensures hash { IfOk result (λ client. client.hash ≡ hash.now) }
     ensures line { (k : ℕ) → result ≡ Err (KeptError.Line k) → (n : ℕ) × (k ≡ n + 1) × StopsKept (H.digest hash.now) lines.now n }
-    ensures keeper { result ≡ Err KeptError.KeeperFault → ⊥ }
 {
     let mut client = FactClient::new(alloc, hash);
     for (i, line) in lines.iter().enumerate() {
@@ -77,24 +61,4 @@ fn follow_lines<'h, H: Hash32>(
         drop(taken);
     }
     Ok(client)
-}
-
-/// The client behind the lines that a keeper holds, from knowing nothing on. The keeper's lines stay.
-#[tactic(auto, using(crate::proofs::KeepLemmas::takes_held, crate::proofs::KeepLemmas::stops_held))]
-pub(crate) fn take_kept<'h, H: Hash32, P: Keeper>(
-    alloc: Global,
-    hash: &'h H,
-    keeper: &mut P,
-) -> Result<FactClient<'h, H>, KeptError>
-    ensures ok { IfOk result (λ client. TakesHeld (H.digest hash.now) (P.kept keeper.old) client.known) }
-    ensures client { IfOk result (λ client. IsClient (H.digest client.hash) client.known) }
-    ensures hash { IfOk result (λ client. client.hash ≡ hash.now) }
-    ensures line { (k : ℕ) → result ≡ Err (KeptError.Line k) → StopsHeld (H.digest hash.now) (P.kept keeper.old) k }
-    ensures kept { P.kept keeper.new ≡ P.kept keeper.old }
-    ensures fault { result ≡ Err KeptError.KeeperFault → Rose (P.faults keeper.old) (P.faults keeper.new) }
-    ensures count { (result ≡ Err KeptError.KeeperFault → ⊥) → P.faults keeper.new ≡ P.faults keeper.old }
-    ensures once { P.faults keeper.new ≤ P.faults keeper.old + 1 }
-{
-    let lines = keeper.lines(alloc)?;
-    follow_lines(alloc, hash, lines.as_slice())
 }

@@ -1,12 +1,13 @@
-ghost use Rattle.std.specs.Prelude.{◌≡◌, ◌⊎◌, ◌↔◌, ◌++◌, ◌+◌, ◌≤◌, ℕ, Some, Err, IfOk, OnOk, OnErr, IsTrue, option_copied};
+ghost use Rattle.std.specs.Prelude.{◌≡◌, ◌⊎◌, ◌↔◌, ◌++◌, ◌+◌, ◌≤◌, Err, IfOk, OnOk, OnErr, IsTrue, option_copied};
 ghost use Rattle.std.specs.Option.{option_map};
 ghost use Rattle.im_edge.specs.Counts.{Rose};
-ghost use Rattle.im_facts.specs.Accepted.{IsClient};
+ghost use Rattle.im_facts.specs.Facts.{Known};
 ghost use Rattle.im_facts.specs.Folds.{IsVerdict};
+ghost use Rattle.im_facts.specs.Keeping.{IsLed, Knows};
 ghost use Rattle.im_facts.specs.Texts.{taken_line};
 ghost use Rattle.im_facts.specs.Verdicts.{Accepted};
 ghost use Rattle.im_wire.specs.declared.messages.Message.{Message as TheMessage};
-ghost use Rattle.im_verify.specs.Turns.{done, end_by, end_of, last_accepted, message_text, WritesAndKeeps, AddsPart, HalfTurn, TakesAll, TakesAt, TakesInto, TakesSome, LineTurn};
+ghost use Rattle.im_verify.specs.Turns.{done, end_by, end_of, message_text, WritesAndKeeps, AddsPart, HalfTurn, TakesAll, TakesAt, TakesInto, TakesSome, LineTurn};
 
 use crate::stops::Stop;
 use im_digest::Hash32;
@@ -67,23 +68,6 @@ fn end_by(refused: bool) -> LineEnd
     }
 }
 
-// The message that an answer accepted: the one that the client doesn't keep, if there is one, and else its last one.
-fn accepted_last<'m>(
-    messages: &'m [Message],
-    taken: &Option<Taken>,
-    unkept: &'m Option<Message>,
-) -> Option<&'m Message>
-    ensures { option_copied result ≡ last_accepted taken.now messages.now unkept.now }
-{
-    match taken {
-        Some(Taken::Accepted { .. }) => match unkept {
-            Some(message) => Some(message),
-            None => messages.last(),
-        },
-        _ => None,
-    }
-}
-
 // Keeps the text of an accepted message, if there is one. A failure of the keeper comes only where there is.
 fn keep<P: Keeper>(alloc: Global, keeper: &mut P, message: Option<&Message>) -> Result<(), Stop>
     ensures ok { OnOk result (P.kept keeper.new ≡ option_map (λ xs. xs ++ message_text (option_copied message.entry)) (P.kept keeper.old)) }
@@ -135,24 +119,26 @@ fn keep_and_tell<K: Sink, P: Keeper>(
 
 // Takes a line, keeps and tells what became of it, and says how it ended. Where memory runs out or the keeper fails, the
 // client may have taken the message by then.
-fn take_line<H: Hash32, K: Sink, P: Keeper>(
+fn take_line<'l, H: Hash32, K: Sink, P: Keeper>(
     alloc: Global,
-    client: &mut FactClient<'_, H>,
+    client: &mut FactClient<'_, 'l, H>,
     sink: &mut K,
     keeper: &mut P,
     number: u64,
-    line: &[u8],
+    line: &'l [u8],
 ) -> Result<LineEnd, Stop>
-    requires { IsClient (H.digest client.old.hash) client.old.known }
-    ensures ok { IfOk result (λ end. LineTurn (H.digest client.old.hash) number line.now end client.old.known client.new.known
-        (done (K.written sink.old) (P.kept keeper.old)) (done (K.written sink.new) (P.kept keeper.new))) }
-    ensures client { IsClient (H.digest client.new.hash) client.new.known }
+    requires { IsLed (H.digest client.old.hash) client.old.kept }
+    ensures ok { IfOk result (λ end. (known : Known) → Knows client.old.kept known → (next : Known) × Knows client.new.kept next
+        × LineTurn (H.digest client.old.hash) number line.now end known next
+            (done (K.written sink.old) (P.kept keeper.old)) (done (K.written sink.new) (P.kept keeper.new))) }
+    ensures led { IsLed (H.digest client.new.hash) client.new.kept }
     ensures hash { client.new.hash ≡ client.old.hash }
-    ensures part { result ≡ Err Stop.WriteFault → HalfTurn (H.digest client.old.hash) number line.now client.old.known
+    ensures part { result ≡ Err Stop.WriteFault → (known : Known) → Knows client.old.kept known → HalfTurn (H.digest client.old.hash) number line.now known
         (done (K.written sink.old) (P.kept keeper.old)) (done (K.written sink.new) (P.kept keeper.new)) }
     ensures nothing { (result ≡ Err Stop.KeeperFault) ⊎ (result ≡ Err Stop.Memory) →
         (K.written sink.new ≡ K.written sink.old) × (P.kept keeper.new ≡ P.kept keeper.old) }
-    ensures accepted { result ≡ Err Stop.KeeperFault → (next : TheMessage) × IsVerdict (H.digest client.old.hash) client.old.known line.now (Accepted next) }
+    ensures accepted { result ≡ Err Stop.KeeperFault → (known : Known) → Knows client.old.kept known →
+        (next : TheMessage) × IsVerdict (H.digest client.old.hash) known line.now (Accepted next) }
     ensures write { result ≡ Err Stop.WriteFault → Rose (K.faults sink.old) (K.faults sink.new) }
     ensures keep { result ≡ Err Stop.KeeperFault → Rose (P.faults keeper.old) (P.faults keeper.new) }
     ensures sink_count { (result ≡ Err Stop.WriteFault → ⊥) → K.faults sink.new ≡ K.faults sink.old }
@@ -161,31 +147,30 @@ fn take_line<H: Hash32, K: Sink, P: Keeper>(
     ensures keeper_once { P.faults keeper.new ≤ P.faults keeper.old + 1 }
 {
     let taking = client.take_line_out(alloc, line)?;
-    let LineTaking { taken, unkept } = taking;
-    let message = accepted_last(client.messages(), &taken, &unkept);
-    let end = keep_and_tell(alloc, sink, keeper, number, &taken, message);
+    let LineTaking { taken, accepted } = taking;
+    let end = keep_and_tell(alloc, sink, keeper, number, &taken, accepted.as_ref());
     drop(taken);
-    drop(unkept);
+    drop(accepted);
     end
 }
 
 /// Takes the lines of a stream in order, up to the first that is forked, keeps and tells what became of each, and says how
-/// they ended. Lines are numbered from 1, and empty ones count.
-pub(crate) fn take_lines<H: Hash32, K: Sink, P: Keeper>(
+/// they ended. Lines are numbered from 1, and empty ones count. The client keeps places in the stream.
+pub(crate) fn take_lines<'l, H: Hash32, K: Sink, P: Keeper>(
     alloc: Global,
-    client: &mut FactClient<'_, H>,
+    client: &mut FactClient<'_, 'l, H>,
     sink: &mut K,
     keeper: &mut P,
-    stream: &[u8],
+    stream: &'l [u8],
 ) -> Result<LineEnd, Stop>
-    requires { IsClient (H.digest client.old.hash) client.old.known }
-    ensures ok { IfOk result (λ end. TakesAll (H.digest client.old.hash) client.old.known stream.now end
+    requires { IsLed (H.digest client.old.hash) client.old.kept }
+    ensures ok { IfOk result (λ end. (known : Known) → Knows client.old.kept known → TakesAll (H.digest client.old.hash) known stream.now end
         (done (K.written sink.old) (P.kept keeper.old)) (done (K.written sink.new) (P.kept keeper.new))) }
-    ensures into { result ≡ Err Stop.WriteFault → TakesInto (H.digest client.old.hash) client.old.known stream.now
+    ensures into { result ≡ Err Stop.WriteFault → (known : Known) → Knows client.old.kept known → TakesInto (H.digest client.old.hash) known stream.now
         (done (K.written sink.old) (P.kept keeper.old)) (done (K.written sink.new) (P.kept keeper.new)) }
-    ensures some { result ≡ Err Stop.Memory → TakesSome (H.digest client.old.hash) client.old.known stream.now
+    ensures some { result ≡ Err Stop.Memory → (known : Known) → Knows client.old.kept known → TakesSome (H.digest client.old.hash) known stream.now
         (done (K.written sink.old) (P.kept keeper.old)) (done (K.written sink.new) (P.kept keeper.new)) }
-    ensures accepted { result ≡ Err Stop.KeeperFault → TakesAt (H.digest client.old.hash) client.old.known stream.now
+    ensures accepted { result ≡ Err Stop.KeeperFault → (known : Known) → Knows client.old.kept known → TakesAt (H.digest client.old.hash) known stream.now
         (done (K.written sink.old) (P.kept keeper.old)) (done (K.written sink.new) (P.kept keeper.new)) }
     ensures write { result ≡ Err Stop.WriteFault → Rose (K.faults sink.old) (K.faults sink.new) }
     ensures keep { result ≡ Err Stop.KeeperFault → Rose (P.faults keeper.old) (P.faults keeper.new) }

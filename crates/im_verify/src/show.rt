@@ -1,4 +1,4 @@
-ghost use Rattle.std.specs.Prelude.{◌≡◌, ◌⊎◌, ℕ, ◌+◌, ◌≤◌, IfSome};
+ghost use Rattle.std.specs.Prelude.{◌≡◌, ◌⊎◌, ℕ, ◌+◌, ◌≤◌, List, IfSome, Option};
 ghost use Rattle.im_edge.specs.Counts.{Rose};
 ghost use Rattle.im_verify.specs.Judged.{StopsHeld};
 ghost use Rattle.im_verify.specs.Shows.{HasShowFate, Shows, ShowsPart};
@@ -6,8 +6,9 @@ ghost use Rattle.im_verify.specs.Shows.{HasShowFate, Shows, ShowsPart};
 use crate::kept::{KeptError, take_kept};
 use crate::show_text::known_text;
 use im_digest::Hash32;
-use im_edge::keeper::Keeper;
+use im_edge::keeper::{Keeper, KeeperError};
 use im_edge::sink::{Sink, write_all};
+use im_octet::octets::Octets;
 use std::alloc::Global;
 
 /// How `show` ended.
@@ -25,8 +26,37 @@ pub enum ShowEnd {
     Kept { line: u64 },
 }
 
+// Takes lines that a keeper held, which are these where it tells them, and writes the state and the facts behind them.
+fn show_lines<H: Hash32, K: Sink>(
+    alloc: Global,
+    hash: &H,
+    sink: &mut K,
+    lines: &[Octets],
+) -> ShowEnd
+    ensures ok { (held : Option (List (List ℕ))) → IfSome held (λ xs. lines.now ≡ xs) → result ≡ ShowEnd.Ok → Shows (H.digest hash.now) held (K.written sink.old) (K.written sink.new) }
+    ensures part { (held : Option (List (List ℕ))) → IfSome held (λ xs. lines.now ≡ xs) → result ≡ ShowEnd.WriteFault → ShowsPart (H.digest hash.now) held (K.written sink.old) (K.written sink.new) }
+    ensures nothing { (result ≡ ShowEnd.Memory) ⊎ ((k : ℕ) × (result ≡ ShowEnd.Kept k)) → sink.new ≡ sink.old }
+    ensures stops { (held : Option (List (List ℕ))) → IfSome held (λ xs. lines.now ≡ xs) → (k : ℕ) → result ≡ ShowEnd.Kept k → StopsHeld (H.digest hash.now) held k }
+    ensures never { result ≡ ShowEnd.KeeperFault → ⊥ }
+    ensures write { result ≡ ShowEnd.WriteFault → Rose (K.faults sink.old) (K.faults sink.new) }
+    ensures sink_count { (result ≡ ShowEnd.WriteFault → ⊥) → K.faults sink.new ≡ K.faults sink.old }
+    ensures sink_once { K.faults sink.new ≤ K.faults sink.old + 1 }
+{
+    let client = match take_kept(alloc, hash, lines) {
+        Ok(client) => client,
+        Err(KeptError::Memory) => return ShowEnd::Memory,
+        Err(KeptError::Line(line)) => return ShowEnd::Kept { line },
+    };
+    let Ok(text) = known_text(alloc, hash, &client) else {
+        return ShowEnd::Memory;
+    };
+    match write_all(sink, text.as_slice()) {
+        Ok(()) => ShowEnd::Ok,
+        Err(_) => ShowEnd::WriteFault,
+    }
+}
+
 // Takes the lines that the keeper holds, and writes the state and the facts behind them.
-#[tactic(auto, using(crate::proofs::ShowLemmas::shows_told, crate::proofs::ShowLemmas::shows_part))]
 fn show_kept<H: Hash32, K: Sink, P: Keeper>(
     alloc: Global,
     hash: &H,
@@ -45,18 +75,10 @@ fn show_kept<H: Hash32, K: Sink, P: Keeper>(
     ensures sink_once { K.faults sink.new ≤ K.faults sink.old + 1 }
     ensures keeper_once { P.faults keeper.new ≤ P.faults keeper.old + 1 }
 {
-    let client = match take_kept(alloc, hash, keeper) {
-        Ok(client) => client,
-        Err(KeptError::KeeperFault) => return ShowEnd::KeeperFault,
-        Err(KeptError::Memory) => return ShowEnd::Memory,
-        Err(KeptError::Line(line)) => return ShowEnd::Kept { line },
-    };
-    let Ok(text) = known_text(alloc, hash, &client) else {
-        return ShowEnd::Memory;
-    };
-    match write_all(sink, text.as_slice()) {
-        Ok(()) => ShowEnd::Ok,
-        Err(_) => ShowEnd::WriteFault,
+    match keeper.lines(alloc) {
+        Ok(lines) => show_lines(alloc, hash, sink, lines.as_slice()),
+        Err(KeeperError::Failed) => ShowEnd::KeeperFault,
+        Err(KeeperError::Memory) => ShowEnd::Memory,
     }
 }
 

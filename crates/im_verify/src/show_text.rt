@@ -2,7 +2,7 @@
 
 ghost use Rattle.std.specs.Prelude.{◌≡◌, ◌++◌, IfOk, OnOk, option_copied};
 ghost use Rattle.std.specs.List.{flat_map};
-ghost use Rattle.im_verify.specs.Shows.{entry_line, header_line, known_text, state_line};
+ghost use Rattle.im_verify.specs.Shows.{entry_line, facts_text, header_line, state_line};
 
 use im_digest::Hash32;
 use im_facts::clients::FactClient;
@@ -84,9 +84,9 @@ fn push_entries(out: &mut Vec<u8>, facts: &[EntryFact]) -> Result<(), AllocError
 pub(crate) fn known_text<H: Hash32>(
     alloc: Global,
     hash: &H,
-    client: &FactClient<'_, H>,
+    client: &FactClient<'_, '_, H>,
 ) -> Result<Vec<u8>, AllocError>
-    ensures { IfOk result (λ text. text.items ≡ known_text (H.digest hash.now) client.now.known) }
+    ensures { IfOk result (λ text. text.items ≡ facts_text (H.digest hash.now) client.now.kept.state client.now.kept.headers client.now.kept.entries) }
 {
     let mut out = Vec::new(alloc);
     push_state(&mut out, hash, client.state())?;

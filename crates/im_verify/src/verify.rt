@@ -10,13 +10,60 @@ use crate::kept::{KeptError, take_kept};
 use crate::lines::{LineEnd, take_lines};
 use crate::stops::Stop;
 use im_digest::Hash32;
-use im_edge::keeper::Keeper;
+use im_edge::keeper::{Keeper, KeeperError};
 use im_edge::sink::Sink;
 use im_edge::source::{Source, SourceError, read_all};
 use im_model::limits::MOST_INPUT_OCTETS;
+use im_octet::octets::Octets;
 use std::alloc::Global;
 
-// Takes the lines that the keeper holds, and then those of a stream.
+// Takes the lines that the keeper holds, which are these where it tells them, and then those of a stream. The client keeps places
+// in both.
+fn verify_behind<H: Hash32, K: Sink, P: Keeper>(
+    alloc: Global,
+    hash: &H,
+    sink: &mut K,
+    keeper: &mut P,
+    lines: &[Octets],
+    stream: &[u8],
+) -> Ended
+    requires { IfSome (P.kept keeper.old) (λ xs. lines.now ≡ xs) }
+    ensures ok { (source : Option (List ℕ)) → IfSome source (λ octets. octets ≡ stream.now) → (result ≡ Ended.Ok) ⊎ (result ≡ Ended.Refused) ⊎ (result ≡ Ended.Forked) →
+        Verifies (H.digest hash.now) result source (K.written sink.old) (K.written sink.new) (P.kept keeper.old) (P.kept keeper.new) }
+    ensures into { (source : Option (List ℕ)) → IfSome source (λ octets. octets ≡ stream.now) → result ≡ Ended.WriteFault →
+        BreaksInto (H.digest hash.now) source (K.written sink.old) (K.written sink.new) (P.kept keeper.old) (P.kept keeper.new) }
+    ensures off { (source : Option (List ℕ)) → IfSome source (λ octets. octets ≡ stream.now) → result ≡ Ended.Memory →
+        ((K.written sink.new ≡ K.written sink.old) × (P.kept keeper.new ≡ P.kept keeper.old))
+        ⊎ BreaksOff (H.digest hash.now) source (K.written sink.old) (K.written sink.new) (P.kept keeper.old) (P.kept keeper.new) }
+    ensures fault { (source : Option (List ℕ)) → IfSome source (λ octets. octets ≡ stream.now) → result ≡ Ended.KeeperFault →
+        ((K.written sink.new ≡ K.written sink.old) × (P.kept keeper.new ≡ P.kept keeper.old))
+        ⊎ BreaksAt (H.digest hash.now) source (K.written sink.old) (K.written sink.new) (P.kept keeper.old) (P.kept keeper.new) }
+    ensures kept { (k : ℕ) → result ≡ Ended.Kept k → StopsHeld (H.digest hash.now) (P.kept keeper.old) k }
+    ensures nothing { (k : ℕ) → result ≡ Ended.Kept k → (sink.new ≡ sink.old) × (P.kept keeper.new ≡ P.kept keeper.old) }
+    ensures never { (result ≡ Ended.ReadFault) ⊎ (result ≡ Ended.Long) → ⊥ }
+    ensures write { result ≡ Ended.WriteFault → Rose (K.faults sink.old) (K.faults sink.new) }
+    ensures keep { result ≡ Ended.KeeperFault → Rose (P.faults keeper.old) (P.faults keeper.new) }
+    ensures sink_count { (result ≡ Ended.WriteFault → ⊥) → K.faults sink.new ≡ K.faults sink.old }
+    ensures keeper_count { (result ≡ Ended.KeeperFault → ⊥) → P.faults keeper.new ≡ P.faults keeper.old }
+    ensures sink_once { K.faults sink.new ≤ K.faults sink.old + 1 }
+    ensures keeper_once { P.faults keeper.new ≤ P.faults keeper.old + 1 }
+{
+    let mut client = match take_kept(alloc, hash, lines) {
+        Ok(client) => client,
+        Err(KeptError::Memory) => return Ended::Memory,
+        Err(KeptError::Line(line)) => return Ended::Kept { line },
+    };
+    match take_lines(alloc, &mut client, sink, keeper, stream) {
+        Ok(LineEnd::Fine) => Ended::Ok,
+        Ok(LineEnd::Refused) => Ended::Refused,
+        Ok(LineEnd::Forked) => Ended::Forked,
+        Err(Stop::WriteFault) => Ended::WriteFault,
+        Err(Stop::KeeperFault) => Ended::KeeperFault,
+        Err(Stop::Memory) => Ended::Memory,
+    }
+}
+
+// Takes the lines that the keeper holds, which are held till the end, and then those of a stream.
 fn verify_octets<H: Hash32, K: Sink, P: Keeper>(
     alloc: Global,
     hash: &H,
@@ -44,19 +91,10 @@ fn verify_octets<H: Hash32, K: Sink, P: Keeper>(
     ensures sink_once { K.faults sink.new ≤ K.faults sink.old + 1 }
     ensures keeper_once { P.faults keeper.new ≤ P.faults keeper.old + 1 }
 {
-    let mut client = match take_kept(alloc, hash, keeper) {
-        Ok(client) => client,
-        Err(KeptError::KeeperFault) => return Ended::KeeperFault,
-        Err(KeptError::Memory) => return Ended::Memory,
-        Err(KeptError::Line(line)) => return Ended::Kept { line },
-    };
-    match take_lines(alloc, &mut client, sink, keeper, stream) {
-        Ok(LineEnd::Fine) => Ended::Ok,
-        Ok(LineEnd::Refused) => Ended::Refused,
-        Ok(LineEnd::Forked) => Ended::Forked,
-        Err(Stop::WriteFault) => Ended::WriteFault,
-        Err(Stop::KeeperFault) => Ended::KeeperFault,
-        Err(Stop::Memory) => Ended::Memory,
+    match keeper.lines(alloc) {
+        Ok(lines) => verify_behind(alloc, hash, sink, keeper, lines.as_slice(), stream),
+        Err(KeeperError::Failed) => Ended::KeeperFault,
+        Err(KeeperError::Memory) => Ended::Memory,
     }
 }
 
@@ -69,9 +107,10 @@ fn verify_octets<H: Hash32, K: Sink, P: Keeper>(
 /// unlike a kept one, is told with two unequal strings of one digest, and ends the run. Nothing is written and nothing
 /// kept before the stream was read and the kept lines were taken.
 ///
-/// The stream, the kept lines, and each accepted message that showed something new or moved the state are held in memory. Each
-/// line is read and checked once, and costs what `FactClient::take_line` says; the sink gets the text of each that isn't passed over, and the keeper one line for each accepted
-/// message.
+/// The stream and the kept lines are held in memory, and the client beside them: the facts, and a place in these octets for each
+/// accepted message that showed something new or moved the state. No message is. Each line is read and checked once, and costs what
+/// `FactClient::take_line` says; at a fork the lines of these places are read once more, and the keeper isn't asked again. The
+/// sink gets the text of each line that isn't passed over, and the keeper one line for each accepted message.
 pub fn verify<H: Hash32, S: Source, K: Sink, P: Keeper>(
     alloc: Global,
     hash: &H,
