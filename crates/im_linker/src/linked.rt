@@ -89,6 +89,7 @@ impl<N: TipName> Linked<N> {
         ensures adds { AddsNothing pass.old pass.new }
         ensures looks { pass.new.view.looks ≡ pass.old.view.looks }
         ensures size { (result ≡ self.new.size) × (pass.new.view.least.linked ≡ result) }
+        ensures durable { result ≤ pass.new.view.least.durable }
         ensures leaves { IsTreeOf N.digest pass.new.view.seen self.new }
     {
         let stand_in = tip.split(pass, no_roles(), 0);

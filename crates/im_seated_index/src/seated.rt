@@ -91,6 +91,7 @@ impl<N: TipName> SeatedIndex<N> {
         ensures adds { AddsNothing pass.old pass.new }
         ensures looks { pass.new.view.looks ≡ pass.old.view.looks }
         ensures taken { (result ≡ self.new.taken) × (pass.new.view.least.indexed ≡ result) }
+        ensures durable { result ≤ pass.new.view.least.durable }
         ensures first { HasTaken pass.new.view.seen self.new }
     {
         let stand_in = tip.split(pass, no_roles(), 0);

@@ -1,7 +1,7 @@
 -- What the journal's lock keeps, behind a step.
 use Rattle.std.proofs.Common.{◌≡◌, ℕ, ◌+◌, ◌^◌, ◌-◌, ◌<◌, ◌≤◌, ◌∙◌, List, [], ◌∷◌, ◌++◌, length, map, take, drop, refl, sym, ap, subst, arith, inl, inr, Result, Ok, Err}
 use Rattle.std.specs.Prelude.{◌⊎◌, min, Option, IsErrOf, OnErr, OnOk}
-use Rattle.std.proofs.Math.Seq.{take-add}
+use Rattle.std.proofs.Math.Seq.{take-add, take-length}
 use Rattle.std.proofs.lemmas.Bool.{cases_lt}
 use Rattle.std.proofs.lemmas.List.{map-append}
 use mathlib.Core.List.{IsPrefix}
@@ -314,6 +314,19 @@ module _ {D : Type 0} (told : D → Option Told) (faults : D → ℕ) (hash : Ha
       whole : IsGoing told hash s.items s.batches k → LeavesNow (λ image. Stands hash image (take k.durable (history_of seen))) (told k.disk)
       whole (inl rest) = rests_whole seen s.items s.batches k s.begins rest
       whole (inr mid) = absurd (subst (λ (x : Step). IsAtStep x (told k.disk) (end_of k.ends) (spans_of s.batches) (gate_of (length s.batches)) k.batch.pieces k.batch.written) idle mid.1.batch.at)
+
+  -- and one of which all of the list is durable: a batch in progress would have an item behind it
+  pub serves_settled : (seen : List LogItem) (k : Kept D) → ServesItems told faults hash found synced before seen k → k.failures ≡ 0 → length seen ≤ k.durable
+      → LeavesNow (λ image. Stands hash image (history_of seen)) (told k.disk)
+  serves_settled seen k s sound all = whole (s.going sound)
+    where
+      every : take k.durable (history_of seen) ≡ history_of seen
+      every =
+          let count : k.durable ≡ length (history_of seen) = omega (arith, all, durable_within seen k s, history_length seen) in
+          ap (λ (n : ℕ). take n (history_of seen)) count ∙ take-length (history_of seen)
+      whole : IsGoing told hash s.items s.batches k → LeavesNow (λ image. Stands hash image (history_of seen)) (told k.disk)
+      whole (inl rest) = subst (λ (l : List Transaction). LeavesNow (λ image. Stands hash image l) (told k.disk)) every (rests_whole seen s.items s.batches k s.begins rest)
+      whole (inr mid) = absurd (omega (arith, all, mid.1.batch.next.placed, mid.1.batch.next.some, history_length s.items, prefix_length s.items seen s.begins))
 
 -- a staged batch is in progress, and so is a sealed one
 pub staged_busy : (s : Step) → HasStaged s → s ≡ Idle → ⊥

@@ -89,7 +89,10 @@ impl<D: Disk, N: TipName> SeatedJournal<D, N> {
         ensures journal { result.0 ≡ self }
         ensures pass { IsKeeper N.table journal_role result.1 }
         ensures words { (result.1.view.least.durable ≡ self.durable) × (result.1.view.least.failed ≡ self.failures) }
+        ensures within { self.durable ≤ length result.1.view.seen }
         ensures images { LeavesNow (StandsFrom N.digest self.durable (history_of result.1.view.seen)) (D.told self.disk) }
+        ensures settled { self.failures ≡ 0 → length result.1.view.seen ≤ self.durable
+            → LeavesNow (λ image. Stands N.digest image (history_of result.1.view.seen)) (D.told self.disk) }
         ensures whole { self.failures ≡ 0 → self.batch.step ≡ Idle
             → LeavesNow (λ image. Stands N.digest image (take self.durable (history_of result.1.view.seen))) (D.told self.disk) }
         ensures moments { Leaves (StandsFrom N.digest (length N.found) (history_of result.1.view.seen)) N.synced (D.told self.disk) }

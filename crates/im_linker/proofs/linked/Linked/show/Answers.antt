@@ -1,4 +1,4 @@
-use Rattle.std.proofs.Common.{rules, List, ap, sym, subst}
+use Rattle.std.proofs.Common.{rules, ◌≤◌, List, ap, sym, subst, arith}
 use mathlib.Core.List.{IsPrefix}
 use Rattle.im_table.specs.Known.{KnownPass}
 use Rattle.im_table.specs.declared.items.LogItem.{LogItem}
@@ -28,3 +28,9 @@ returns-clause-leaves g c =
     let begins = subst (λ (p : KnownPass). IsPrefix p.view.seen list) c.replace-keeper.ensures.value c.join.ensures.theirs in
     let tree = tree_front hash c.self.inside.pass.view.seen list c.self.inside.tree begins c.self.invariant.3 in
     subst (λ (l : List LogItem). IsTreeOf hash l c.self.inside.tree) (sym (ap seen c.split.ensures.left.1)) tree
+
+pub returns-clause-durable : goal.returns-clause-durable
+returns-clause-durable g c =
+    let known = c.join.new.pass.view.least.durable in
+    let more = subst (λ (p : KnownPass). p.view.least.durable ≤ known) c.replace-keeper.ensures.value c.join.ensures.durable.1 in
+    omega (arith, c.self.invariant.2, more, c.size.ensures, ap (λ (v : View). v.least.durable) c.split.ensures.left.1)

@@ -1,4 +1,4 @@
-use Rattle.std.proofs.Common.{rules, List, ap, sym, subst}
+use Rattle.std.proofs.Common.{rules, ◌≤◌, List, ap, sym, subst, arith}
 use mathlib.Core.List.{IsPrefix}
 use Rattle.im_table.specs.Known.{KnownPass}
 use Rattle.im_table.specs.declared.items.LogItem.{LogItem}
@@ -26,3 +26,9 @@ returns-clause-first g c =
     let begins = subst (λ (p : KnownPass). IsPrefix p.view.seen list) c.replace-keeper.ensures.value c.join.ensures.theirs in
     let first = taken_front c.self.inside.pass.view.seen list c.self.inside.index begins c.self.invariant.3 in
     subst (λ (l : List LogItem). HasTaken l c.self.inside.index) (sym (ap seen c.split.ensures.left.1)) first
+
+pub returns-clause-durable : goal.returns-clause-durable
+returns-clause-durable g c =
+    let known = c.join.new.pass.view.least.durable in
+    let more = subst (λ (p : KnownPass). p.view.least.durable ≤ known) c.replace-keeper.ensures.value c.join.ensures.durable.1 in
+    omega (arith, c.self.invariant.2, more, c.taken.ensures, ap (λ (v : View). v.least.durable) c.split.ensures.left.1)
