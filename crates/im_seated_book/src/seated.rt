@@ -177,6 +177,7 @@ impl<C: Clock, N: TipName> SeatedBook<C, N> {
         ensures looks { pass.new.view.looks ≡ (looked_placed pass.old.view result).looks }
         ensures seen { (pass.new.view.seen ≡ self.new) × (result ≡ length self.new) }
         ensures durable { pass.new.view.least.durable ≤ result }
+        ensures over { last_bl (history_of self.new) ≤ pass.new.view.least.linked }
         ensures found { GoesOn N.found self.new }
         ensures history { IsHistory (history_of self.new) }
         ensures meets { IsLawful L.allows tip.now.logs self.new }
@@ -215,6 +216,7 @@ impl<C: Clock, N: TipName> SeatedBook<C, N> {
         ensures tree { tree.new ≡ tree.old }
         ensures above { IsPrefix pass.old.view.seen self.old × (pass.old.view.least.durable ≤ length self.old) }
         ensures seen { pass.new.view.seen ≡ self.new }
+        ensures history { IsHistory (history_of self.old) }
         ensures placed { IfOk result (λ number. IsPlaced self.old prepared tree.new.size N.time pass.old pass.new number) }
         ensures refused { IfErr result (λ why. (why ≡ PlaceError.Memory) ⊎ (place_refusal (history_of self.old) prepared.pres ≡ Some why)) }
         ensures err { OnErr result ((self.new ≡ self.old) × AddsNothing pass.old pass.new) }

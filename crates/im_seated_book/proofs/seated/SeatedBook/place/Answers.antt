@@ -1,6 +1,7 @@
 use Rattle.std.proofs.Common.{rules, ◌≡◌, ◌∙◌, List, None, length, ap, subst, arith}
 use mathlib.Core.List.{IsPrefix}
 use Rattle.im_model.specs.declared.entries.Entry.{Entry}
+use Rattle.im_model.specs.History.{IsHistory}
 use Rattle.im_versions.specs.Admits.{place_refusal}
 use Rattle.im_table.specs.Histories.{history_of}
 use Rattle.im_table.specs.declared.items.LogItem.{LogItem}
@@ -38,3 +39,6 @@ returns-clause-placed g c =
       put = put_later list c.args.prepared.entries c.put.new.tree.size time c.args.pass.now c.show.new.pass c.put.new.pass c.in_ok-number.number c.show.ensures.later c.show.ensures.adds asked;
       admitted = search rules;
     }
+
+pub returns-clause-history : goal.returns-clause-history
+returns-clause-history g c = subst (λ (l : List LogItem). IsHistory (history_of l)) c.show.ensures.same c.show.ensures.history

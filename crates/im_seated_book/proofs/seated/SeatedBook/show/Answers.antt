@@ -4,6 +4,7 @@ use Rattle.im_model.specs.declared.transactions.Transaction.{Transaction}
 use Rattle.im_table.specs.Histories.{history_of, GoesOn}
 use Rattle.im_table.specs.References.{IsLawful}
 use Rattle.im_table.specs.declared.items.LogItem.{LogItem}
+use Rattle.im_book.specs.Booked.{last_bl}
 use Rattle.im_seated_book.specs.Seats.{HasTimed, HoldsItems}
 use Rattle.im_seated_book.proofs.seated.SeatedBook.show.Goals as goal
 
@@ -36,3 +37,11 @@ pub returns-clause-meets : goal.returns-clause-meets
 returns-clause-meets g c =
     let same : c.split.result.view.seen ≡ c.join.new.pass.view.seen = search rules in
     subst (λ (l : List LogItem). IsLawful g.L.Law.allows c.args.tip.now.logs l) (sym same) c.load_placed-placed.ensures.sees.lawful
+
+pub returns-clause-over : goal.returns-clause-over
+returns-clause-over g c =
+    let linked = c.split.new.pass.view.least.linked in
+    let same : c.split.result.view.seen ≡ c.self.inside.pass.view.seen = search rules in
+    let more : c.self.inside.pass.view.least.linked ≤ linked = search rules in
+    let last = subst (λ (l : List Transaction). last_bl l ≤ c.self.inside.pass.view.least.linked) c.self.invariant.1.transactions c.self.invariant.2 in
+    subst (λ (l : List LogItem). last_bl (history_of l) ≤ linked) (sym same) (omega (arith, last, more))
