@@ -1,0 +1,10 @@
+pub mod BoundLemmas
+pub mod LeadLemmas
+pub mod FilterLemmas
+pub mod OrderLemmas
+pub mod ReachLemmas
+pub mod EntryLemmas
+pub mod EntryRowLemmas
+pub mod KeyBehindLemmas
+pub mod SelectLemmas
+pub mod BestLemmas
