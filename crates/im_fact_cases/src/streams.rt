@@ -80,11 +80,7 @@ fn of_lines<H: Hash32>(alloc: Global, hash: &H, texts: &[String]) -> Result<Stri
 }
 
 // What one makes of the messages that they say.
-fn of_messages<H: Hash32>(
-    alloc: Global,
-    hash: &H,
-    texts: &[String],
-) -> Result<String, AllocError> {
+fn of_messages<H: Hash32>(alloc: Global, hash: &H, texts: &[String]) -> Result<String, AllocError> {
     let mut out = String::new(alloc);
     let mut client = FactClient::new(alloc, hash);
     let mut number = 0u64;

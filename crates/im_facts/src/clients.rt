@@ -169,15 +169,11 @@ impl<'h, 'l, H: Hash32> FactClient<'h, 'l, H> {
     }
 
     /// The same as `take_line`, with the accepted message, which is handed out.
-    pub fn take_line_out(
-        &mut self,
-        alloc: Global,
-        line: &'l [u8],
-    ) -> Result<LineTaking, AllocError>
+    pub fn take_line_out(&mut self, alloc: Global, line: &'l [u8]) -> Result<LineTaking, AllocError>
         requires { IsLed (H.digest self.old.hash) self.old.kept }
         ensures told { IfOk result (λ taking. (known : Known) → Knows self.old.kept known →
             (verdict : Verdict) × IsVerdict (H.digest self.old.hash) known line.now verdict × (taking.taken ≡ taken_of verdict)
-                × Knows self.new.kept (known_by known verdict) × (taking.accepted ≡ accepted_by verdict)) }
+            × Knows self.new.kept (known_by known verdict) × (taking.accepted ≡ accepted_by verdict)) }
         ensures left { OnErr result (self.new ≡ self.old) }
         ensures led { IsLed (H.digest self.new.hash) self.new.kept }
         ensures hash { self.new.hash ≡ self.old.hash }
@@ -209,7 +205,7 @@ impl<'h, 'l, H: Hash32> FactClient<'h, 'l, H> {
         requires says { IsLine line.now (Some message) }
         ensures told { IfOk result (λ taking. (known : Known) → Knows self.old.kept known →
             (verdict : Verdict) × IsVerdict (H.digest self.old.hash) known line.now verdict × (taking.taken ≡ taken_of verdict)
-                × Knows self.new.kept (known_by known verdict) × (taking.accepted ≡ accepted_by verdict)) }
+            × Knows self.new.kept (known_by known verdict) × (taking.accepted ≡ accepted_by verdict)) }
         ensures left { OnErr result (self.new ≡ self.old) }
         ensures led { IsLed (H.digest self.new.hash) self.new.kept }
         ensures hash { self.new.hash ≡ self.old.hash }

@@ -324,6 +324,7 @@ module _ {D : Type 0} (told : D → Option Told) (faults : D → ℕ) (hash : Ha
       every =
           let count : k.durable ≡ length (history_of seen) = omega (arith, all, durable_within seen k s, history_length seen) in
           ap (λ (n : ℕ). take n (history_of seen)) count ∙ take-length (history_of seen)
+
       whole : IsGoing told hash s.items s.batches k → LeavesNow (λ image. Stands hash image (history_of seen)) (told k.disk)
       whole (inl rest) = subst (λ (l : List Transaction). LeavesNow (λ image. Stands hash image l) (told k.disk)) every (rests_whole seen s.items s.batches k s.begins rest)
       whole (inr mid) = absurd (omega (arith, all, mid.1.batch.next.placed, mid.1.batch.next.some, history_length s.items, prefix_length s.items seen s.begins))

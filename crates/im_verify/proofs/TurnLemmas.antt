@@ -104,14 +104,18 @@ kept-told out message v hands lent = ap message_text (lent ∙ hands) ∙ kept-a
 turn-of : (hash : Hash) (number : ℕ) (line : List ℕ) (known : Known) (next : Kept) (taken : Option Taken) (out message : Option Message) (end : LineEnd) (from to : WrittenAndKept)
     → Told hash known next line taken out → message ≡ out → end ≡ end_of taken
     → WritesAndKeeps (taken_line number taken) (message_text message) from to → TurnsTo hash number line end known next from to
-turn-of hash number line known next taken out message end from to (v, is, answer, knows, hands) lent e adds = (known_by known v, knows, record {
-  verdict = v;
-  is = is;
-  tells = subst (λ (ts : List (List ℕ)). WritesAndKeeps (verdict_line number v) ts from to) (kept-told out message v hands lent)
-      (subst (λ (t : Option Taken). WritesAndKeeps (taken_line number t) (message_text message) from to) answer adds);
-  follows = refl;
-  ends = e ∙ ap end_of answer;
-})
+turn-of hash number line known next taken out message end from to (v, is, answer, knows, hands) lent e adds = (
+  known_by known v,
+  knows,
+  record {
+    verdict = v;
+    is = is;
+    tells = subst (λ (ts : List (List ℕ)). WritesAndKeeps (verdict_line number v) ts from to) (kept-told out message v hands lent)
+        (subst (λ (t : Option Taken). WritesAndKeeps (taken_line number t) (message_text message) from to) answer adds);
+    follows = refl;
+    ends = e ∙ ap end_of answer;
+  },
+)
 
 -- a line was taken, told and kept
 pub turn-told : (hash : Hash) (number : ℕ) (line : List ℕ) (kept next : Kept) (taken : Option Taken) (out message : Option Message) (from to : WrittenAndKept) (result : Result LineEnd Stop)

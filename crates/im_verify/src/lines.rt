@@ -130,7 +130,7 @@ fn take_line<'l, H: Hash32, K: Sink, P: Keeper>(
     requires { IsLed (H.digest client.old.hash) client.old.kept }
     ensures ok { IfOk result (λ end. (known : Known) → Knows client.old.kept known → (next : Known) × Knows client.new.kept next
         × LineTurn (H.digest client.old.hash) number line.now end known next
-            (done (K.written sink.old) (P.kept keeper.old)) (done (K.written sink.new) (P.kept keeper.new))) }
+        (done (K.written sink.old) (P.kept keeper.old)) (done (K.written sink.new) (P.kept keeper.new))) }
     ensures led { IsLed (H.digest client.new.hash) client.new.kept }
     ensures hash { client.new.hash ≡ client.old.hash }
     ensures part { result ≡ Err Stop.WriteFault → (known : Known) → Knows client.old.kept known → HalfTurn (H.digest client.old.hash) number line.now known

@@ -43,8 +43,12 @@ loop-i-preserved g c =
     subst (λ (f : List ℕ → List ℕ). IsVerdict f now.0 c.as_slice.result.now told.0) (ap g.H.Hash32.digest c.loop-i.invariant.hash) told.1 in
     let is : IsVerdict hash now.0 line told.0 = subst (λ (l : List ℕ). IsVerdict hash now.0 l told.0) same under in
     record {
-      takes = (known_by now.0 told.0, told.3, kept-next hash c.args.lines.now c.loop-i.i line now.0 (known_by now.0 told.0) told.0 within c.index-lines-i.is now.2 is
-          (λ r. both_ways c.is_rejected.result c.if-is_rejected.false (c.is_rejected.ensures.1 (subst IsRejection (sym told.2) (rejection-of told.0 r)))) refl);
+      takes = (
+        known_by now.0 told.0,
+        told.3,
+        kept-next hash c.args.lines.now c.loop-i.i line now.0 (known_by now.0 told.0) told.0 within c.index-lines-i.is now.2 is
+            (λ r. both_ways c.is_rejected.result c.if-is_rejected.false (c.is_rejected.ensures.1 (subst IsRejection (sym told.2) (rejection-of told.0 r)))) refl,
+      );
       led = c.take_line.ensures.led;
       hash = c.take_line.ensures.hash ∙ c.loop-i.invariant.hash;
     }

@@ -44,7 +44,7 @@ pair_of-requires g c =
     c.in_ok-strings.ensures messages (subst (λ (l : List Note). AreOf l messages) (sym c.notes.ensures) led.1.notes) in
     let made : HoldSame strings all = subst (λ (f : Hash). HoldSame strings (strings_of f (messages ++ c.args.message.now ∷ []))) same lists in
     let pair = second-fact hash (g.met.H.Hash32.size c.args.self.now.hash) (known_of kept messages) c.args.message.now
-        (led-client hash kept (known_of kept messages) led (knows-of kept messages led.1.notes)) c.requires.fits c.requires.passes (c.requires.differs messages) in
+    (led-client hash kept (known_of kept messages) led (knows-of kept messages led.1.notes)) c.requires.fits c.requires.passes (c.requires.differs messages) in
     let there : IsPair hash pair.0 pair.1 strings = IsPair-more hash pair.0 pair.1 all strings made.back pair.2 in
     let under : IsPair lent pair.0 pair.1 strings = subst (λ (f : Hash). IsPair f pair.0 pair.1 strings) (sym same) there in
     (pair.0, pair.1, subst (λ (l : List (List ℕ)). IsPair lent pair.0 pair.1 l) (sym c.as_slice.ensures.value) under)
