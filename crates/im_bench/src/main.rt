@@ -1,0 +1,74 @@
+//! Commits by many threads on one store over a folder, each of one value of 100 octets and durable before the next one of its thread: for
+//! measuring. It takes the number of threads and that of the commits of each, and prints how many were made, and what the disk was asked
+//! for them.
+#![tactic(auto)]
+
+ghost use Rattle.std.specs.Prelude.{◌≤◌, IfSome};
+
+mod counted;
+mod sharing;
+
+use counted::Counted;
+use im_digest::Sha;
+use im_disk::locked_folder::LockedFolder;
+use im_edge::clock::FixedClock;
+use im_store::opened::open;
+use sharing::run_threads;
+use std::env;
+use std::marker::Brand;
+use std::process::ExitCode;
+
+// The folder in the working folder whose files are the store's.
+const STORED: &str = "im-data";
+
+// The file whose lock says that the store's folder is taken.
+const LOCK: &str = "im-data/lock";
+
+const USAGE: &str = "usage: im_bench THREADS COMMITS";
+
+fn main(rt: HostRuntime) -> ExitCode {
+    let Some((threads, each)) = numbers(&rt) else {
+        eprintln!(rt; "{USAGE}").ok();
+        return ExitCode::from(2);
+    };
+    let disk = Counted::new(LockedFolder::new(&rt, rt.alloc(), STORED, LOCK));
+    let opened = match open(rt.alloc(), &Sha, disk, FixedClock { time: 0 }, 1) {
+        Ok(opened) => opened,
+        Err(failed) => {
+            drop(failed);
+            eprintln!(rt; "not opened").ok();
+            return ExitCode::from(3);
+        }
+    };
+    let Ok((made, disk)) = run_threads::<_, Brand, _>(&rt, rt.alloc(), opened, threads, each) else {
+        eprintln!(rt; "out of memory").ok();
+        return ExitCode::from(4);
+    };
+    let told = println!(rt;
+        "commits {made} batches {} flushes {}",
+        disk.gates(),
+        disk.flushes()
+    );
+    drop(disk);
+    match told {
+        Ok(()) => ExitCode::from(0),
+        Err(_) => ExitCode::from(5),
+    }
+}
+
+// The two numbers of the command line, where it has just them, and 1 to 1000 threads.
+fn numbers(rt: &HostRuntime) -> Option<(u32, u64)>
+    ensures { IfSome result (λ n. n.0 ≤ 1000) }
+{
+    let args = env::args(rt).ok()?;
+    let words = args.collect::<Vec<String>>(rt.alloc()).ok()?;
+    if words.len() != 3 {
+        return None;
+    }
+    let threads = words[1].as_str().parse::<u32>().ok()?;
+    let each = words[2].as_str().parse::<u64>().ok()?;
+    if threads == 0 || 1000 < threads {
+        return None;
+    }
+    Some((threads, each))
+}

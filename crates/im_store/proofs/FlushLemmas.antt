@@ -1,0 +1,74 @@
+-- How a wait for durability goes on.
+use Rattle.std.proofs.Common.{◌≡◌, ◌-◌, ◌∙◌, ℕ, refl, ap, sym, subst, arith, Result, Ok, Err}
+use Rattle.std.specs.Prelude.{IfErr, IsErrAnd, IsErrOf, OnOk}
+use Rattle.im_journal.specs.Faults.{IsCounted}
+use Rattle.im_journal.specs.declared.errors.JournalError.{JournalError}
+use Rattle.im_journal.specs.declared.errors.JournalError.TheVariants as halts
+use Rattle.im_table.specs.Known.{KnownPass}
+use Rattle.im_table.specs.declared.view.Looks.{Looks}
+use Rattle.im_store.specs.Loads.{LooksOn}
+use Rattle.im_store.specs.Settling.{faults_told, ExplainsHalt, HasHalted}
+use Rattle.im_store.proofs.CommitLemmas.{halt_on}
+use Rattle.im_store.proofs.GainLemmas.{saw_failures_on}
+
+-- a step of the journal tells as many failures as its answer, where none had been told before
+pub counted_told : {T : Type 0} (was now old new : ℕ) (r : Result T JournalError) → old ≡ 0 → IsCounted was now old new r → new - old ≡ faults_told r
+counted_told was now old new (Ok x) none counted = omega (arith, none, counted.failures (λ e. absurd (cc (e))))
+counted_told was now old new (Err halts.DiskFault) none counted = omega (arith, none, counted.more refl)
+counted_told was now old new (Err (halts.Stopped n)) none counted = omega (arith, none, counted.failures (λ e. absurd (cc (e))))
+counted_told was now old new (Err halts.Memory) none counted = omega (arith, none, counted.failures (λ e. absurd (cc (e))))
+
+-- a call goes on with another: its answer's failures, its explanation, and its loads are those of the other
+pub explains_on : {T : Type 0} (old mid new : KnownPass) (r : Result T JournalError) → LooksOn old.view.looks mid.view.looks
+    → IfErr r (λ cause. ExplainsHalt mid new cause) → IfErr r (λ cause. ExplainsHalt old new cause)
+explains_on old mid new (Ok x) looks why = tt
+explains_on old mid new (Err cause) looks why = halt_on old mid new cause (λ f saw. saw_failures_on old mid new f looks saw) why
+
+pub unloaded_on : {T : Type 0} (r : Result T JournalError) (a b c : Looks) → b ≡ a → ((HasHalted r → ⊥) → c ≡ b) → (HasHalted r → ⊥) → c ≡ a
+unloaded_on r a b c first rest going = rest going ∙ first
+
+-- one that doesn't stop explains nothing
+pub explains_going : {T : Type 0} (old new : KnownPass) (r : Result T JournalError) → ((n : ℕ) → r ≡ Err (halts.Stopped n) → ⊥) → IfErr r (λ cause. ExplainsHalt old new cause)
+explains_going old new (Ok x) going = tt
+explains_going old new (Err halts.DiskFault) going = tt
+explains_going old new (Err (halts.Stopped n)) going = absurd (going n refl)
+explains_going old new (Err halts.Memory) going = tt
+
+-- what holds whatever the answer is
+pub always_ok : {T E : Type 0} (r : Result T E) (P : Type 0) → P → OnOk r P
+always_ok (Ok x) P p = p
+always_ok (Err e) P p = tt
+
+-- of an answer that passes a cause on: it tells as many failures, stops where the cause does, and is no success
+told_alike : (U T : Type 0) (cause : JournalError) → faults_told {T = U} (Err cause) ≡ faults_told {T = T} (Err cause)
+told_alike U T halts.DiskFault = refl
+told_alike U T (halts.Stopped f) = refl
+told_alike U T halts.Memory = refl
+
+pub passed_told : (U T : Type 0) (cause : JournalError) (r : Result T JournalError) → IsErrAnd r (λ e. e ≡ cause) → faults_told {T = U} (Err cause) ≡ faults_told r
+passed_told U T cause (Ok x) is = absurd is
+passed_told U T cause (Err e) is = told_alike U T cause ∙ ap (λ (k : JournalError). faults_told {T = T} (Err k)) (sym is)
+
+halted_alike : (U T : Type 0) (cause : JournalError) → HasHalted {T = U} (Err cause) → HasHalted {T = T} (Err cause)
+halted_alike U T halts.DiskFault h = h
+halted_alike U T (halts.Stopped f) h = tt
+halted_alike U T halts.Memory h = h
+
+pub passed_going : (U T : Type 0) (cause : JournalError) (r : Result T JournalError) → IsErrAnd r (λ e. e ≡ cause) → (HasHalted r → ⊥) → HasHalted {T = U} (Err cause) → ⊥
+passed_going U T cause (Ok x) is going h = absurd is
+passed_going U T cause (Err e) is going h = going (subst (λ (k : JournalError). HasHalted {T = T} (Err k)) (sym is) (halted_alike U T cause h))
+
+pub passed_stop : (U T : Type 0) (cause : JournalError) (r : Result T JournalError) (n : ℕ) → IsErrAnd r (λ e. e ≡ cause) → IsErrOf r (halts.Stopped n)
+    → IsErrOf {T = U} {E = JournalError} (Err cause) (halts.Stopped n)
+passed_stop U T cause (Ok x) n is h = absurd is
+passed_stop U T cause (Err e) n is h = ap (λ (k : JournalError). Err {T = U} {E = JournalError} k) (sym is ∙ same e (halts.Stopped n) h)
+  where
+    same : (a b : JournalError) → Err {T = T} {E = JournalError} a ≡ Err {T = T} {E = JournalError} b → a ≡ b
+    same a b h = cc
+
+-- an error that is neither a failure nor a stop is want of memory
+pub begun_memory : {T : Type 0} (r : Result T JournalError) → ((n : ℕ) → IsErrOf r (halts.Stopped n) → ⊥) → (IsErrOf r halts.DiskFault → ⊥) → IfErr r (λ cause. cause ≡ halts.Memory)
+begun_memory (Ok x) going device = tt
+begun_memory (Err halts.DiskFault) going device = absurd (device refl)
+begun_memory (Err (halts.Stopped n)) going device = absurd (going n refl)
+begun_memory (Err halts.Memory) going device = refl

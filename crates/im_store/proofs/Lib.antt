@@ -1,0 +1,14 @@
+pub mod GainLemmas
+pub mod FrontLemmas
+pub mod CommitLemmas
+pub mod EventLemmas
+pub mod MomentLemmas
+pub mod FlushLemmas
+pub mod SettleLemmas
+pub mod PlaceLemmas
+pub mod ReceiptLemmas
+pub mod GrowLemmas
+pub mod ReadLemmas
+pub mod ProveLemmas
+pub mod CloseLemmas
+pub mod OpenLemmas

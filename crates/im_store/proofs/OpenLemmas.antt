@@ -1,0 +1,188 @@
+-- What lies under the locks as a store is opened.
+use Rattle.std.proofs.Common.{◌≡◌, ◌+◌, ◌++◌, ◌∷◌, [], ◌∙◌, ◌≤◌, ◌<◌, ℕ, zero, suc, ℤ, List, length, map, take, true, Option, Some, refl, ap, sym, subst, arith, inl}
+use Rattle.std.proofs.Math.Seq.{drop-length, take-length}
+use Rattle.std.proofs.lemmas.List.{append-nil, length-map}
+use Rattle.std.specs.List.{All}
+use Rattle.im_digest.specs.Digests.{Hash}
+use Rattle.im_disk.specs.Disk.{after, seen, Files, Images, Told}
+use Rattle.im_disk.specs.Moments.{Leaves, LeavesNow}
+use Rattle.im_disk.specs.declared.calls.Call.TheVariants.{Synced}
+use Rattle.im_disk.proofs.Leaving.{if_told, leaves_nothing}
+use Rattle.im_format.specs.Batches.{joined}
+use Rattle.im_format.specs.Places.{refs_of}
+use Rattle.im_format.specs.Records.{AreRecords}
+use Rattle.im_format.specs.Standing.{Stands, StandsFrom}
+use Rattle.im_format.specs.declared.records.Record.{Record}
+use Rattle.im_format.specs.declared.references.ValueRef.{ValueRef}
+use Rattle.im_journal.specs.Kept.{IsAtRest, Kept}
+use Rattle.im_journal.proofs.Mids.{rest_stands}
+use Rattle.im_journal.proofs.Rooms.{ends_behind, room_behind}
+use Rattle.im_levels.specs.Leveled.{IsLeveled, Stored}
+use Rattle.im_linker.specs.Trees.{IsTreeOf}
+use Rattle.im_model.specs.History.{alhs_of, Follow, IsHistory}
+use Rattle.im_model.specs.declared.transactions.Transaction.{Transaction}
+use Rattle.im_model.proofs.HistoryLemmas.{length-alhs_of}
+use Rattle.im_opening.specs.Opening.{IsOneHistory}
+use Rattle.im_opening.specs.Opens.{Opens}
+use Rattle.im_opening.specs.Reach.{txs_of}
+use Rattle.im_opening.specs.declared.found.FoundHistory.{FoundHistory}
+use Rattle.im_proof.specs.Built.{headers_of}
+use Rattle.im_edge.specs.Clocks.{AddsTimes}
+use Rattle.im_edge.proofs.Times.{times-none}
+use Rattle.im_index.specs.Indexed.{Indexed, IsIndexOf}
+use Rattle.im_seated_book.specs.Seats.{HasTimed, HaveReferences, HoldsItems}
+use Rattle.im_seated_index.specs.Seats.{HasTaken}
+use Rattle.im_seated_journal.specs.Seats.{refs_in, ServesItems}
+use Rattle.im_table.specs.Histories.{history_of, GoesOn}
+use Rattle.im_table.specs.References.{references_of}
+use Rattle.im_table.specs.declared.items.LogItem.{LogItem}
+use Rattle.im_table.proofs.FrontLemmas.{prefix_self}
+use Rattle.im_table.proofs.HistoryLemmas.{history_length}
+use Rattle.im_vlog.specs.Ends.{AreEnds, HaveRoom}
+use Rattle.im_book.specs.Booked.{last_bl, last_bl_or, Booked, IsBook}
+use Rattle.im_store.specs.Found.{items_of}
+use Rattle.im_store.specs.Names.{Naming, OpensAs}
+
+-- the history, the references and the marks of items that were found
+pub found_history : (rs : List Record) → history_of (items_of rs) ≡ txs_of rs
+found_history [] = refl
+found_history (r ∷ rs) = ap (λ (l : List Transaction). r.tx ∷ l) (found_history rs)
+
+pub found_refs : (rs : List Record) → refs_in (items_of rs) ≡ map (λ (r : Record). r.refs) rs
+found_refs [] = refl
+found_refs (r ∷ rs) = ap (λ (l : List (List ValueRef)). r.refs ∷ l) (found_refs rs)
+
+pub found_references : (rs : List Record) → references_of (items_of rs) ≡ refs_of rs
+found_references [] = refl
+found_references (r ∷ rs) = ap (λ (l : List ValueRef). r.refs ++ l) (found_references rs)
+
+pub found_count : (rs : List Record) → length (items_of rs) ≡ length rs
+found_count rs = length-map rs _
+
+pub found_referred : (hash : Hash) (history : List Transaction) (n : ℕ) (rs : List Record) → AreRecords hash history n rs → HaveReferences hash n (items_of rs)
+found_referred hash history n [] are = tt
+found_referred hash history n (r ∷ rs) are = (are.0.refs, found_referred hash history (n + 1) rs are.1)
+
+pub found_marked : (rs : List Record) → All (λ (x : LogItem). x.found ≡ true) (items_of rs)
+found_marked [] k d lt = absurd (omega (arith, lt))
+found_marked (r ∷ rs) zero d lt = refl
+found_marked (r ∷ rs) (suc k) d lt = found_marked rs k d (omega (arith, lt))
+
+-- a list goes on behind itself by nothing
+pub goes_none : (items : List LogItem) → GoesOn items items
+goes_none items = record { rest = []; begins = sym (append-nil items); fresh = λ k d lt. absurd (omega (arith, lt)) }
+
+module _ {D : Type 0} (told : D → Option Told) (faults : D → ℕ) (hash : Hash) (rs : List Record) (batches : List (List Record)) (k : Kept D)
+    (joined_is : joined batches ≡ rs) (rest : IsAtRest told hash (history_of (items_of rs)) batches k) (all : k.durable ≡ length rs) where
+  -- each image stands for what was found
+  images : LeavesNow (StandsFrom hash (length (items_of rs)) (history_of (items_of rs))) (told k.disk)
+  images =
+      let history = history_of (items_of rs) in
+      let count : length history ≡ k.durable = ap (λ (l : List Transaction). length l) (found_history rs) ∙ length-map rs (λ (r : Record). r.tx) ∙ sym all in
+      let whole : k.durable ≡ length (items_of rs) = omega (arith, all, found_count rs) in
+      if_told (λ t. (image : Files) → Images t image → Stands hash image (take k.durable history)) (λ t. (image : Files) → Images t image → StandsFrom hash (length (items_of rs)) history image)
+      (λ t each image left. record { count = k.durable; no_fewer = omega (arith, whole); no_more = omega (arith, count); stands = each image left })
+      (told k.disk) (rest_stands told hash history batches k rest)
+
+  -- the journal serves what was found
+  pub opened_serves : (before : ℕ) (synced : Option Told) → k.failures ≡ 0 → faults k.disk ≡ before → told k.disk ≡ synced
+      → ServesItems told faults hash (items_of rs) synced before (items_of rs) k
+  opened_serves before synced sound same now = record {
+    items = items_of rs;
+    begins = prefix_self (items_of rs);
+    batches = batches;
+    holds = inl rest;
+    refs_are = (
+        let count : length (refs_in (items_of rs)) ≡ k.durable = ap (λ (l : List (List ValueRef)). length l) (found_refs rs) ∙ length-map rs (λ (r : Record). r.refs) ∙ sym all in
+        ap (λ (l : List Record). map (λ (r : Record). r.refs) l) joined_is ∙ sym (found_refs rs) ∙ sym (take-length (refs_in (items_of rs)))
+        ∙ ap (λ (n : ℕ). take n (refs_in (items_of rs))) count);
+    going = λ none. inl rest;
+    old = omega (arith, found_count rs, all);
+    rose = inl (omega (arith, sound, same));
+    moments = subst (λ (o : Option Told). Leaves (StandsFrom hash (length (items_of rs)) (history_of (items_of rs))) o (told k.disk)) now
+        (leaves_nothing (StandsFrom hash (length (items_of rs)) (history_of (items_of rs))) (told k.disk), images);
+  }
+
+  -- the book holds it, and the value logs end behind it
+  pub opened_holds : (book : Booked) (refs : List (List ValueRef)) → book.transactions ≡ history_of (items_of rs) → IsBook hash book → refs ≡ map (λ (x : LogItem). x.refs) (items_of rs)
+      → AreRecords hash (history_of (items_of rs)) 1 rs → HoldsItems hash (items_of rs) (items_of rs) book refs k.ends.values
+  opened_holds book refs transactions is_book same records =
+      let history = history_of (items_of rs) in
+      let behind = ends_behind hash history batches k.durable k.ends rest.first in
+      let here : refs_of (joined batches) ≡ references_of (items_of rs) = ap (λ (l : List Record). refs_of l) joined_is ∙ sym (found_references rs) in
+      let number : k.durable + 1 ≡ length (items_of rs) + 1 = omega (arith, all, found_count rs) in
+      record {
+        transactions = transactions;
+        is_book = is_book;
+        goes_on = goes_none (items_of rs);
+        refs_are = same;
+        referred = found_referred hash history 1 rs records;
+        ends_are = subst (λ (l : List ValueRef). AreEnds k.ends.values l) here behind;
+        room = subst (λ (n : ℕ). HaveRoom n k.ends.values) number (room_behind hash history batches k.durable k.ends rest.first);
+      }
+
+-- what names a store, by what opening its disk gave
+module _ {D : Type 0} (told : D → Option Told) (faults : D → ℕ) (hash : Hash) (before now : D) (gate : ℕ) (rs : List Record)
+    (opens : Opens told faults hash before now gate (txs_of rs)) where
+  pub found_opens : (n : Naming) → n.found ≡ items_of rs → n.digest ≡ hash → n.synced ≡ told now → n.faults ≡ faults now → OpensAs (told before) (faults before) n
+  found_opens n found digest synced failed =
+      let same : txs_of rs ≡ history_of n.found = sym (ap (λ (l : List LogItem). history_of l) found ∙ found_history rs) in
+      record {
+        stands = λ t is. subst (λ (h : Hash). Stands h (seen t) (history_of n.found)) (sym digest)
+            (subst (λ (l : List Transaction). Stands hash (seen t) l) same (opens.stands t is));
+        moments = λ t is. subst (λ (o : Option Told). Leaves (λ image. Stands n.digest image (history_of n.found)) (Some (after Synced t)) o) (sym synced)
+            (subst (λ (h : Hash). Leaves (λ image. Stands h image (history_of n.found)) (Some (after Synced t)) (told now)) (sym digest)
+            (subst (λ (l : List Transaction). Leaves (λ image. Stands hash image l) (Some (after Synced t)) (told now)) same (opens.moments t is)));
+        same = failed ∙ opens.same;
+        marked = subst (λ (l : List LogItem). All (λ x. x.found ≡ true) l) (sym found) (found_marked rs);
+      }
+
+-- the words and parts of it
+module _ (hash : Hash) (found : FoundHistory) (one : IsOneHistory hash found) where
+  whole_history : txs_of found.records.items ≡ history_of (items_of found.records.items)
+  whole_history = sym (found_history found.records.items)
+
+  pub whole_tree : (tree : Stored) → IsLeveled hash found.alhs.items tree → tree.size ≡ length found.alhs.items
+      → IsTreeOf hash (items_of found.records.items) tree × (tree.size ≡ length (items_of found.records.items))
+  whole_tree tree leveled size =
+      let items = items_of found.records.items in
+      let all : List (List ℕ) = alhs_of hash (history_of items) in
+      let alhs : found.alhs.items ≡ all = one.alhs ∙ ap (λ (l : List Transaction). alhs_of hash l) whole_history in
+      let count : length all ≡ length items = length-alhs_of hash (history_of items) ∙ history_length items in
+      let here : tree.size ≡ length all = size ∙ ap (λ (l : List (List ℕ)). length l) alhs in
+      let front : found.alhs.items ≡ take tree.size all = alhs ∙ sym (ap (λ (k : ℕ). take k all) here ∙ take-length all) in
+      (subst (λ (l : List (List ℕ)). IsLeveled hash l tree) front leveled, here ∙ count)
+
+  pub whole_book : (book : Booked) → book.transactions ≡ history_of (items_of found.records.items) → book.headers ≡ found.headers.items → book.alhs ≡ found.alhs.items
+      → IsBook hash book
+  whole_book book transactions headers alhs =
+      let same : txs_of found.records.items ≡ book.transactions = whole_history ∙ sym transactions in
+      record {
+        history = subst (λ (l : List Transaction). IsHistory l) same one.history;
+        headers = headers ∙ one.headers ∙ ap (λ (l : List Transaction). headers_of hash l) same;
+        alhs = alhs ∙ one.alhs ∙ ap (λ (l : List Transaction). alhs_of hash l) same;
+      }
+
+  pub whole_records : AreRecords hash (history_of (items_of found.records.items)) 1 found.records.items
+  whole_records = subst (λ (l : List Transaction). AreRecords hash l 1 found.records.items) whole_history one.records
+
+-- the tree that the last transaction was placed over is no larger than the history
+last_within : (n bl : ℕ) (txs : List Transaction) → Follow n bl txs → bl ≤ n → last_bl_or bl txs ≤ n + length txs
+last_within n bl [] f le = omega (arith, le)
+last_within n bl (tx ∷ txs) f le = omega (arith, last_within (n + 1) tx.bl txs f.2 (omega (arith, f.0.linked)))
+
+pub bl_below : (history : List Transaction) → IsHistory history → last_bl history ≤ length history
+bl_below history h = omega (arith, last_within 0 0 history h.follow (omega arith))
+
+-- no time was given of what was found
+pub found_timed : (time : Option ℤ) (given : Option (List ℤ)) (items : List LogItem) → HasTimed time time given given items items
+found_timed time given items = record {
+  same = refl;
+  given = subst (λ (l : List LogItem). AddsTimes given given (map (λ (x : LogItem). x.tx.ts) l)) (sym (drop-length items)) (times-none given);
+}
+
+-- an index of the whole has taken all of it
+pub found_taken : (items : List LogItem) (index : Indexed) → IsIndexOf index (history_of items) → HasTaken items index × (index.taken ≡ length items)
+found_taken items index is =
+    let whole : take index.taken (history_of items) ≡ history_of items = ap (λ (n : ℕ). take n (history_of items)) is.taken ∙ take-length (history_of items) in
+    (subst (λ (l : List Transaction). IsIndexOf index l) (sym whole) is, is.taken ∙ history_length items)

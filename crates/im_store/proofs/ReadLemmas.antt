@@ -1,0 +1,60 @@
+-- What is read of the pass's list.
+use Rattle.std.proofs.Common.{◌≡◌, ◌≤◌, ◌+◌, ◌-◌, ◌^◌, ℕ, List, length, ◌∙◌, ap, arith, inl, inr, Result, Ok, Err}
+use Rattle.std.proofs.lemmas.Bool.{cases_lt}
+use Rattle.std.specs.Prelude.{IfErr, IsErrOf, None, Option}
+use Rattle.std.proofs.lemmas.List.{length-take}
+use Rattle.im_digest.specs.Digests.{Hash}
+use Rattle.im_disk.specs.Disk.{Told}
+use Rattle.im_format.specs.declared.references.ValueRef.{ValueRef}
+use Rattle.im_index.specs.Indexed.{Indexed}
+use Rattle.im_journal.specs.Faults.{IsReadCounted}
+use Rattle.im_seated_index.specs.Seats.{HasTaken}
+use Rattle.im_table.specs.Histories.{history_of}
+use Rattle.im_table.specs.Known.{KnownPass}
+use Rattle.im_table.specs.Passes.{AddsFaults}
+use Rattle.im_table.specs.Views.{looked_failed}
+use Rattle.im_table.specs.declared.items.LogItem.{LogItem}
+use Rattle.im_table.specs.declared.view.AllLooks.{AllLooks}
+use Rattle.im_table.specs.declared.view.View.{View}
+use Rattle.im_table.proofs.HistoryLemmas.{history_length}
+use Rattle.im_vlog.specs.Showing.{IsCorrupt}
+use Rattle.im_vlog.specs.declared.showing.ValueError.{ValueError}
+use Rattle.im_vlog.specs.declared.showing.ValueError.TheVariants as Read
+use Rattle.im_store.specs.Reading.{IsReadFault}
+
+-- an index has no more transactions than there are items
+pub taken_within : (items : List LogItem) (index : Indexed) → HasTaken items index → index.taken ≤ length items
+taken_within items index h = omega (arith, h.taken, length-take index.taken (history_of items), history_length items)
+
+-- an octet string of another digest is one, whatever the disk told
+pub corrupt_untold : {T : Type 0} (hash : Hash) (told : Option Told) (value : ValueRef) (r : Result T ValueError)
+    → IfErr r (λ error. IsCorrupt hash told value error) → IfErr r (λ error. IsCorrupt hash None value error)
+corrupt_untold hash told value (Ok x) c = tt
+corrupt_untold hash told value (Err Read.DiskFault) c = tt
+corrupt_untold hash told value (Err (Read.Corrupt want got)) c = (c.0, c.1, (c.2.0, c.2.1, c.2.2, tt))
+corrupt_untold hash told value (Err Read.Memory) c = tt
+
+-- a read that failed was told, or as many were counted as a count holds, which the word failed tells
+pub read_fault : {T : Type 0} (old mid new : KnownPass) (was now before after loaded : ℕ) (r : Result T ValueError) → IsReadCounted was now before after r
+    → AddsFaults (after - before) old mid → mid.view.looks ≡ old.view.looks → mid.view.least.failed ≡ after → new.view ≡ looked_failed mid.view loaded → after ≤ loaded
+    → loaded ≤ 2 ^ 64 - 1 → IsErrOf r Read.DiskFault → IsReadFault old new
+read_fault old mid new was now before after loaded r counted adds looks known view least most fault =
+    let faults : new.view.faults ≡ mid.view.faults = ap (λ (v : View). v.faults) view in
+    let count : new.view.looks.failed.count ≡ mid.view.looks.failed.count + 1 = ap (λ (v : View). v.looks.failed.count) view in
+    let same : mid.view.looks.failed.count ≡ old.view.looks.failed.count = ap (λ (l : AllLooks). l.failed.count) looks in
+    elim (cases_lt before (2 ^ 64 - 1)) [
+      | inl below ↦ inl (omega (arith, faults, adds.faults, counted.more fault, below))
+      | inr full ↦ (
+          let whole : loaded ≡ 2 ^ 64 - 1 = omega (arith, counted.more fault, full, least, most) in
+          inr (
+            omega (arith, faults, adds.faults, counted.more fault, full),
+            record { more = omega (arith, count, same); last = ap (λ (v : View). v.looks.failed.last) view ∙ whole },
+          ))
+    ]
+
+-- any other answer tells none
+pub read_other : {T : Type 0} (old mid new : KnownPass) (was now before after loaded : ℕ) (r : Result T ValueError) → IsReadCounted was now before after r
+    → AddsFaults (after - before) old mid → new.view ≡ looked_failed mid.view loaded → (IsErrOf r Read.DiskFault → ⊥) → new.view.faults ≡ old.view.faults
+read_other old mid new was now before after loaded r counted adds view other =
+    let faults : new.view.faults ≡ mid.view.faults = ap (λ (v : View). v.faults) view in
+    omega (arith, faults, adds.faults, counted.failures other)

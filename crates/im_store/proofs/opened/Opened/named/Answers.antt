@@ -1,0 +1,155 @@
+use Rattle.std.proofs.Common.{◌≡◌, ◌≤◌, ◌∙◌, List, length, ap, sym, subst, arith}
+use Rattle.im_digest.specs.Digests.{Hash}
+use Rattle.im_linker.specs.Trees.{IsTreeOf}
+use Rattle.im_seated_book.specs.Seats.{HasTimed, HoldsItems}
+use Rattle.im_seated_index.specs.Seats.{HasTaken}
+use Rattle.im_seated_journal.specs.Seats.{ServesItems}
+use Rattle.im_table.specs.declared.items.LogItem.{LogItem}
+use Rattle.im_table.specs.declared.view.Least.{Least}
+use Rattle.im_table.specs.declared.view.View.{View}
+use Rattle.im_model.specs.declared.transactions.Transaction.{Transaction}
+use Rattle.im_book.specs.Booked.{last_bl}
+use Rattle.im_table.proofs.HistoryLemmas.{history_length}
+use Rattle.im_store.specs.Found.{items_of}
+use Rattle.im_store.specs.Names.{Naming}
+use Rattle.im_store.proofs.OpenLemmas.{bl_below, found_count, found_taken, found_timed, opened_holds, opened_serves}
+use Rattle.im_store.proofs.opened.Opened.named.Goals as goal
+
+-- what the opened store keeps is what is put under the locks: `i.records` are those that were found, and `i.parts_are` says the parts
+pub new-journal-requires-clause-serves : goal.new-journal-requires-clause-serves
+new-journal-requires-clause-serves g c =
+    let v = c.self.view_is in
+    let i = c.self.invariant in
+    let p = i.parts_are in
+    let rs = i.records in
+    let items : List LogItem = items_of rs in
+    let hash : Hash = g.H.Hash32.digest c.self.inside.hash.now in
+    let digest : hash ≡ g.N.TipName.digest = ap (λ (n : Naming). n.digest) v ∙ c.requires.hash in
+    let found : items ≡ g.N.TipName.found = sym p.found ∙ ap (λ (n : Naming). n.found) v ∙ c.requires.tip.1 in
+    let told = g.D.Disk.told in
+    let faults = g.D.Disk.faults in
+    let journal = c.self.inside.journal in
+    let synced = ap (λ (n : Naming). n.synced) v ∙ c.requires.disk.0 in
+    let before = ap (λ (n : Naming). n.faults) v ∙ c.requires.disk.1 in
+    let seen : c.split-writer.result.view.seen ≡ items = ap (λ (w : View). w.seen) c.split-writer.ensures.right.1 ∙ ap (λ (w : View). w.seen) p.view in
+    let serves = opened_serves told faults hash rs i.batches journal i.joined_is i.rests i.all g.N.TipName.faults g.N.TipName.synced i.going before synced in
+    subst (λ (l : List LogItem). ServesItems told faults g.N.TipName.digest g.N.TipName.found g.N.TipName.synced g.N.TipName.faults l journal) (sym seen)
+    (subst (λ (l : List LogItem). ServesItems told faults g.N.TipName.digest l g.N.TipName.synced g.N.TipName.faults items journal) found
+    (subst (λ (h : Hash). ServesItems told faults h items g.N.TipName.synced g.N.TipName.faults items journal) digest serves))
+
+pub new-journal-requires-clause-words : goal.new-journal-requires-clause-words
+new-journal-requires-clause-words g c =
+    let i = c.self.invariant in
+    let p = i.parts_are in
+    let least = ap (λ (w : View). w.least) c.split-writer.ensures.right.1 ∙ ap (λ (w : View). w.least) p.view in
+    (ap (λ (l : Least). l.durable) least ∙ found_count i.records ∙ sym i.all, ap (λ (l : Least). l.failed) least ∙ sym i.going)
+
+pub new-index-requires-clause-taken : goal.new-index-requires-clause-taken
+new-index-requires-clause-taken g c =
+    let i = c.self.invariant in
+    let p = i.parts_are in
+    let items : List LogItem = items_of i.records in
+    let least = ap (λ (w : View). w.least) c.split-indexer.ensures.right.1 ∙ ap (λ (w : View). w.least) c.split-writer.ensures.left.1 ∙ ap (λ (w : View). w.least) p.view in
+    let taken = (found_taken items c.self.inside.parts.index p.index_is).1 in
+    (ap (λ (l : Least). l.indexed) least ∙ sym taken, omega (arith, taken, ap (λ (l : Least). l.durable) least))
+
+pub new-index-requires-clause-first : goal.new-index-requires-clause-first
+new-index-requires-clause-first g c =
+    let i = c.self.invariant in
+    let p = i.parts_are in
+    let items : List LogItem = items_of i.records in
+    let seen : c.split-indexer.result.view.seen ≡ items = ap (λ (w : View). w.seen) c.split-indexer.ensures.right.1 ∙ ap (λ (w : View). w.seen) c.split-writer.ensures.left.1 ∙ ap (λ (w : View). w.seen) p.view in
+    subst (λ (l : List LogItem). HasTaken l c.self.inside.parts.index) (sym seen) (found_taken items c.self.inside.parts.index p.index_is).0
+
+pub new-book-requires-clause-items : goal.new-book-requires-clause-items
+new-book-requires-clause-items g c =
+    let v = c.self.view_is in
+    let i = c.self.invariant in
+    let p = i.parts_are in
+    let rs = i.records in
+    let items : List LogItem = items_of rs in
+    let hash : Hash = g.H.Hash32.digest c.self.inside.hash.now in
+    let digest : hash ≡ g.N.TipName.digest = ap (λ (n : Naming). n.digest) v ∙ c.requires.hash in
+    let found : items ≡ g.N.TipName.found = sym p.found ∙ ap (λ (n : Naming). n.found) v ∙ c.requires.tip.1 in
+    let book = c.self.inside.parts.book in
+    let refs = c.self.inside.parts.refs.items in
+    let ends = c.self.inside.journal.ends.values in
+    let seen : c.split-keeper.result.view.seen ≡ items = ap (λ (w : View). w.seen) c.split-keeper.ensures.right.1 ∙ ap (λ (w : View). w.seen) c.split-indexer.ensures.left.1 ∙ ap (λ (w : View). w.seen) c.split-writer.ensures.left.1 ∙ ap (λ (w : View). w.seen) p.view in
+    let holds = opened_holds g.D.Disk.told g.D.Disk.faults hash rs i.batches c.self.inside.journal i.joined_is i.rests i.all book refs p.transactions_are p.book_is p.refs_are p.records_are in
+    subst (λ (l : List LogItem). HoldsItems g.N.TipName.digest g.N.TipName.found l book refs ends) (sym seen)
+    (subst (λ (l : List LogItem). HoldsItems g.N.TipName.digest l items book refs ends) found (subst (λ (h : Hash). HoldsItems h items items book refs ends) digest holds))
+
+pub new-book-requires-clause-over : goal.new-book-requires-clause-over
+new-book-requires-clause-over g c =
+    let i = c.self.invariant in
+    let p = i.parts_are in
+    let items : List LogItem = items_of i.records in
+    let book = c.self.inside.parts.book in
+    let least = ap (λ (w : View). w.least) c.split-keeper.ensures.right.1 ∙ ap (λ (w : View). w.least) c.split-indexer.ensures.left.1 ∙ ap (λ (w : View). w.least) c.split-writer.ensures.left.1 ∙ ap (λ (w : View). w.least) p.view in
+    let below : last_bl book.transactions ≤ length book.transactions = bl_below book.transactions p.book_is.history in
+    omega (arith, below, ap (λ (l : List Transaction). length l) p.transactions_are, history_length items, ap (λ (l : Least). l.linked) least)
+
+pub new-book-requires-clause-timed : goal.new-book-requires-clause-timed
+new-book-requires-clause-timed g c =
+    let v = c.self.view_is in
+    let i = c.self.invariant in
+    let p = i.parts_are in
+    let rs = i.records in
+    let items : List LogItem = items_of rs in
+    let hash : Hash = g.H.Hash32.digest c.self.inside.hash.now in
+    let digest : hash ≡ g.N.TipName.digest = ap (λ (n : Naming). n.digest) v ∙ c.requires.hash in
+    let found : items ≡ g.N.TipName.found = sym p.found ∙ ap (λ (n : Naming). n.found) v ∙ c.requires.tip.1 in
+    let time = ap (λ (n : Naming). n.time) v ∙ c.requires.clock.0 in
+    let given = ap (λ (n : Naming). n.given) v ∙ c.requires.clock.1 in
+    let constant = g.C.Clock.constant c.self.inside.clock in
+    let told = g.C.Clock.given c.self.inside.clock in
+    let seen : c.split-keeper.result.view.seen ≡ items = ap (λ (w : View). w.seen) c.split-keeper.ensures.right.1 ∙ ap (λ (w : View). w.seen) c.split-indexer.ensures.left.1 ∙ ap (λ (w : View). w.seen) c.split-writer.ensures.left.1 ∙ ap (λ (w : View). w.seen) p.view in
+    subst (λ (l : List LogItem). HasTimed g.N.TipName.time constant g.N.TipName.given told g.N.TipName.found l) (sym seen)
+    (subst (λ (l : List LogItem). HasTimed g.N.TipName.time constant g.N.TipName.given told l items) found
+    (subst (λ t. HasTimed t constant g.N.TipName.given told items items) time
+    (subst (λ l. HasTimed constant constant l told items items) given (found_timed constant told items))))
+
+pub new-tree-requires-clause-size : goal.new-tree-requires-clause-size
+new-tree-requires-clause-size g c =
+    let p = c.self.invariant.parts_are in
+    let least = ap (λ (w : View). w.least) c.split-linker.ensures.right.1 ∙ ap (λ (w : View). w.least) c.split-keeper.ensures.left.1 ∙ ap (λ (w : View). w.least) c.split-indexer.ensures.left.1 ∙ ap (λ (w : View). w.least) c.split-writer.ensures.left.1 ∙ ap (λ (w : View). w.least) p.view in
+    (ap (λ (l : Least). l.linked) least ∙ sym p.whole, omega (arith, p.whole, ap (λ (l : Least). l.durable) least))
+
+pub new-tree-requires-clause-leaves : goal.new-tree-requires-clause-leaves
+new-tree-requires-clause-leaves g c =
+    let v = c.self.view_is in
+    let i = c.self.invariant in
+    let p = i.parts_are in
+    let rs = i.records in
+    let items : List LogItem = items_of rs in
+    let hash : Hash = g.H.Hash32.digest c.self.inside.hash.now in
+    let digest : hash ≡ g.N.TipName.digest = ap (λ (n : Naming). n.digest) v ∙ c.requires.hash in
+    let found : items ≡ g.N.TipName.found = sym p.found ∙ ap (λ (n : Naming). n.found) v ∙ c.requires.tip.1 in
+    let seen : c.split-linker.result.view.seen ≡ items = ap (λ (w : View). w.seen) c.split-linker.ensures.right.1 ∙ ap (λ (w : View). w.seen) c.split-keeper.ensures.left.1 ∙ ap (λ (w : View). w.seen) c.split-indexer.ensures.left.1 ∙ ap (λ (w : View). w.seen) c.split-writer.ensures.left.1 ∙ ap (λ (w : View). w.seen) p.view in
+    subst (λ (l : List LogItem). IsTreeOf g.N.TipName.digest l c.self.inside.parts.tree) (sym seen)
+    (subst (λ (h : Hash). IsTreeOf h items c.self.inside.parts.tree) digest p.tree_is)
+
+-- the pass that is handed out has seen and knows all of it
+pub returns-clause-seen : goal.returns-clause-seen
+returns-clause-seen g c =
+    let v = c.self.view_is in
+    let p = c.self.invariant.parts_are in
+    let found : items_of c.self.invariant.records ≡ g.N.TipName.found = sym p.found ∙ ap (λ (n : Naming). n.found) v ∙ c.requires.tip.1 in
+    ap (λ (w : View). w.seen) c.split-linker.ensures.left.1 ∙ ap (λ (w : View). w.seen) c.split-keeper.ensures.left.1 ∙ ap (λ (w : View). w.seen) c.split-indexer.ensures.left.1 ∙ ap (λ (w : View). w.seen) c.split-writer.ensures.left.1 ∙ ap (λ (w : View). w.seen) p.view ∙ found
+
+pub returns-clause-durable : goal.returns-clause-durable
+returns-clause-durable g c =
+    let v = c.self.view_is in
+    let p = c.self.invariant.parts_are in
+    let found : items_of c.self.invariant.records ≡ g.N.TipName.found = sym p.found ∙ ap (λ (n : Naming). n.found) v ∙ c.requires.tip.1 in
+    let least = ap (λ (w : View). w.least) c.split-linker.ensures.left.1 ∙ ap (λ (w : View). w.least) c.split-keeper.ensures.left.1 ∙ ap (λ (w : View). w.least) c.split-indexer.ensures.left.1 ∙ ap (λ (w : View). w.least) c.split-writer.ensures.left.1 ∙ ap (λ (w : View). w.least) p.view in
+    ap (λ (l : Least). l.durable) least ∙ ap (λ (l : List LogItem). length l) found
+
+pub returns-clause-known : goal.returns-clause-known
+returns-clause-known g c =
+    let v = c.self.view_is in
+    let p = c.self.invariant.parts_are in
+    let found : items_of c.self.invariant.records ≡ g.N.TipName.found = sym p.found ∙ ap (λ (n : Naming). n.found) v ∙ c.requires.tip.1 in
+    let least = ap (λ (w : View). w.least) c.split-linker.ensures.left.1 ∙ ap (λ (w : View). w.least) c.split-keeper.ensures.left.1 ∙ ap (λ (w : View). w.least) c.split-indexer.ensures.left.1 ∙ ap (λ (w : View). w.least) c.split-writer.ensures.left.1 ∙ ap (λ (w : View). w.least) p.view in
+    let count = ap (λ (l : List LogItem). length l) found in
+    (ap (λ (l : Least). l.linked) least ∙ count, ap (λ (l : Least). l.indexed) least ∙ count, ap (λ (l : Least). l.failed) least)

@@ -1,0 +1,81 @@
+use Rattle.std.proofs.Common.{arith}
+use Rattle.im_octet.proofs.Common.{if-err}
+use Rattle.im_store.specs.Reading.{ExplainsHeader}
+use Rattle.im_store.specs.declared.errors.ProveError.TheVariants as proves
+use Rattle.im_store.proofs.GainLemmas.{follows_self, follows_then, load_durable_follows, load_durable_saw, saw_durable_on}
+use Rattle.im_store.proofs.store.Store.header.Goals as goal
+
+-- there is no transaction 0
+pub returns-clause-later : goal.returns-clause-later
+returns-clause-later g c = (follows_self c.args.pass.now).later
+
+pub returns-clause-gains : goal.returns-clause-gains
+returns-clause-gains g c = (follows_self c.args.pass.now).gains
+
+-- fewer are durable
+pub returns-2-clause-later : goal.returns-2-clause-later
+returns-2-clause-later g c =
+    let l = c.load_durable-durable in
+    (load_durable_follows c.args.pass.now l.new.pass l.result l.ensures.table l.ensures.view l.ensures.finds.least).later
+
+pub returns-2-clause-gains : goal.returns-2-clause-gains
+returns-2-clause-gains g c =
+    let l = c.load_durable-durable in
+    (load_durable_follows c.args.pass.now l.new.pass l.result l.ensures.table l.ensures.view l.ensures.finds.least).gains
+
+pub returns-2-clause-err : goal.returns-2-clause-err
+returns-2-clause-err g c =
+    let l = c.load_durable-durable in
+    record {
+      some = omega arith;
+      order = omega arith;
+      saw = load_durable_saw c.args.pass.now l.new.pass l.result l.ensures.table l.ensures.view l.ensures.finds.least;
+      beyond = omega arith;
+    }
+
+-- memory ran out
+pub returns-in_err-copy_header-clause-err : goal.returns-in_err-copy_header-clause-err
+returns-in_err-copy_header-clause-err g c =
+    if-err (λ e. ExplainsHeader c.args.pass.now c.copy_header.new.pass c.args.k e) c.from_residual.result proves.Memory c.from_residual.ensures.1 tt
+
+pub returns-in_err-copy_header-clause-later : goal.returns-in_err-copy_header-clause-later
+returns-in_err-copy_header-clause-later g c =
+    let l = c.load_durable-durable in
+    (follows_then 0 c.args.pass.now l.new.pass c.copy_header.new.pass
+    (load_durable_follows c.args.pass.now l.new.pass l.result l.ensures.table l.ensures.view l.ensures.finds.least) c.copy_header.ensures.follows).later
+
+pub returns-in_err-copy_header-clause-gains : goal.returns-in_err-copy_header-clause-gains
+returns-in_err-copy_header-clause-gains g c =
+    let l = c.load_durable-durable in
+    (follows_then 0 c.args.pass.now l.new.pass c.copy_header.new.pass
+    (load_durable_follows c.args.pass.now l.new.pass l.result l.ensures.table l.ensures.view l.ensures.finds.least) c.copy_header.ensures.follows).gains
+
+-- it is copied
+pub returns-3-clause-later : goal.returns-3-clause-later
+returns-3-clause-later g c =
+    let l = c.load_durable-durable in
+    (follows_then 0 c.args.pass.now l.new.pass c.copy_header.new.pass
+    (load_durable_follows c.args.pass.now l.new.pass l.result l.ensures.table l.ensures.view l.ensures.finds.least) c.copy_header.ensures.follows).later
+
+pub returns-3-clause-gains : goal.returns-3-clause-gains
+returns-3-clause-gains g c =
+    let l = c.load_durable-durable in
+    (follows_then 0 c.args.pass.now l.new.pass c.copy_header.new.pass
+    (load_durable_follows c.args.pass.now l.new.pass l.result l.ensures.table l.ensures.view l.ensures.finds.least) c.copy_header.ensures.follows).gains
+
+pub returns-3-clause-ok : goal.returns-3-clause-ok
+returns-3-clause-ok g c =
+    let l = c.load_durable-durable in
+    record {
+      durable = record {
+        durable = l.result;
+        saw = saw_durable_on c.args.pass.now c.args.pass.now l.new.pass c.copy_header.new.pass l.result (follows_self c.args.pass.now)
+            (load_durable_saw c.args.pass.now l.new.pass l.result l.ensures.table l.ensures.view l.ensures.finds.least)
+            c.copy_header.ensures.follows.later c.copy_header.ensures.loads.0;
+        some = omega arith;
+        order = omega arith;
+        within = omega arith;
+        seen = c.copy_header.ensures.seen;
+      };
+      header_is = c.in_ok-copy_header.ensures.header;
+    }

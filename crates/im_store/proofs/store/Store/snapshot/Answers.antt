@@ -1,0 +1,126 @@
+use Rattle.std.proofs.Common.{◌∙◌, refl, ap, arith}
+use Rattle.im_octet.proofs.Common.{if-err}
+use Rattle.im_store.specs.Reading.{ExplainsSnapshot}
+use Rattle.im_store.specs.declared.errors.SnapshotError.TheVariants as reads
+use Rattle.im_table.specs.declared.view.AllLooks.{AllLooks}
+use Rattle.im_table.specs.declared.view.View.{View}
+use Rattle.im_table.proofs.PassLemmas.{later_both}
+use Rattle.im_store.proofs.GainLemmas.{follows_self, follows_shown, follows_then, later_self, load_durable_follows, load_durable_saw, load_indexed_follows, load_indexed_saw, saw_durable_on, saw_indexed_on}
+use Rattle.im_store.proofs.ReadLemmas.{taken_within}
+use Rattle.im_store.proofs.store.Store.snapshot.Goals as goal
+
+-- fewer are durable
+pub returns-clause-later : goal.returns-clause-later
+returns-clause-later g c =
+    let l = c.load_durable-durable in
+    (load_durable_follows c.args.pass.now l.new.pass l.result l.ensures.table l.ensures.view l.ensures.finds.least).later
+
+pub returns-clause-gains : goal.returns-clause-gains
+returns-clause-gains g c =
+    let l = c.load_durable-durable in
+    (load_durable_follows c.args.pass.now l.new.pass l.result l.ensures.table l.ensures.view l.ensures.finds.least).gains
+
+pub returns-clause-err : goal.returns-clause-err
+returns-clause-err g c =
+    let l = c.load_durable-durable in
+    (load_durable_saw c.args.pass.now l.new.pass l.result l.ensures.table l.ensures.view l.ensures.finds.least, omega arith)
+
+-- fewer are indexed
+pub returns-2-clause-later : goal.returns-2-clause-later
+returns-2-clause-later g c =
+    let l = c.load_durable-durable in
+    let i = c.load_indexed-indexed in
+    (follows_then 0 c.args.pass.now l.new.pass i.new.pass (load_durable_follows c.args.pass.now l.new.pass l.result l.ensures.table l.ensures.view l.ensures.finds.least)
+    (load_indexed_follows l.new.pass i.new.pass i.result i.ensures.table i.ensures.view i.ensures.finds.least)).later
+
+pub returns-2-clause-gains : goal.returns-2-clause-gains
+returns-2-clause-gains g c =
+    let l = c.load_durable-durable in
+    let i = c.load_indexed-indexed in
+    (follows_then 0 c.args.pass.now l.new.pass i.new.pass (load_durable_follows c.args.pass.now l.new.pass l.result l.ensures.table l.ensures.view l.ensures.finds.least)
+    (load_indexed_follows l.new.pass i.new.pass i.result i.ensures.table i.ensures.view i.ensures.finds.least)).gains
+
+pub returns-2-clause-err : goal.returns-2-clause-err
+returns-2-clause-err g c =
+    let l = c.load_durable-durable in
+    let i = c.load_indexed-indexed in
+    let first = load_durable_follows c.args.pass.now l.new.pass l.result l.ensures.table l.ensures.view l.ensures.finds.least in
+    let second = load_indexed_follows l.new.pass i.new.pass i.result i.ensures.table i.ensures.view i.ensures.finds.least in
+    let saw = load_durable_saw c.args.pass.now l.new.pass l.result l.ensures.table l.ensures.view l.ensures.finds.least in (
+      l.result,
+      saw_durable_on c.args.pass.now c.args.pass.now l.new.pass i.new.pass l.result (follows_self c.args.pass.now) saw second.later (ap (λ (v : View). v.looks.durable) i.ensures.view),
+      omega arith,
+      saw_indexed_on c.args.pass.now l.new.pass i.new.pass i.new.pass i.result first
+          (load_indexed_saw l.new.pass i.new.pass i.result i.ensures.table i.ensures.view i.ensures.finds.least) (later_self i.new.pass) refl,
+      omega arith,
+    )
+
+-- it has as many
+pub snapshot-requires : goal.snapshot-requires
+snapshot-requires g c = omega (arith, c.show.ensures.taken.0, c.show.ensures.taken.1, c.show.ensures.later.indexed, ap (λ (v : View). v.least.indexed) c.load_indexed-indexed.ensures.view)
+
+-- memory ran out
+pub returns-in_err-snapshot-clause-err : goal.returns-in_err-snapshot-clause-err
+returns-in_err-snapshot-clause-err g c =
+    if-err (λ e. ExplainsSnapshot c.args.pass.now c.show.new.pass c.args.n e) c.from_residual.result reads.Memory c.from_residual.ensures.1 tt
+
+pub returns-in_err-snapshot-clause-later : goal.returns-in_err-snapshot-clause-later
+returns-in_err-snapshot-clause-later g c =
+    let l = c.load_durable-durable in
+    let i = c.load_indexed-indexed in
+    let first = load_durable_follows c.args.pass.now l.new.pass l.result l.ensures.table l.ensures.view l.ensures.finds.least in
+    let second = load_indexed_follows l.new.pass i.new.pass i.result i.ensures.table i.ensures.view i.ensures.finds.least in
+    let third = follows_shown i.new.pass c.show.new.pass c.show.ensures.later c.show.ensures.adds c.show.ensures.looks in
+    (follows_then 0 c.args.pass.now i.new.pass c.show.new.pass (follows_then 0 c.args.pass.now l.new.pass i.new.pass first second) third).later
+
+pub returns-in_err-snapshot-clause-gains : goal.returns-in_err-snapshot-clause-gains
+returns-in_err-snapshot-clause-gains g c =
+    let l = c.load_durable-durable in
+    let i = c.load_indexed-indexed in
+    let first = load_durable_follows c.args.pass.now l.new.pass l.result l.ensures.table l.ensures.view l.ensures.finds.least in
+    let second = load_indexed_follows l.new.pass i.new.pass i.result i.ensures.table i.ensures.view i.ensures.finds.least in
+    let third = follows_shown i.new.pass c.show.new.pass c.show.ensures.later c.show.ensures.adds c.show.ensures.looks in
+    (follows_then 0 c.args.pass.now i.new.pass c.show.new.pass (follows_then 0 c.args.pass.now l.new.pass i.new.pass first second) third).gains
+
+-- it is shown
+pub returns-3-clause-later : goal.returns-3-clause-later
+returns-3-clause-later g c =
+    let l = c.load_durable-durable in
+    let i = c.load_indexed-indexed in
+    let first = load_durable_follows c.args.pass.now l.new.pass l.result l.ensures.table l.ensures.view l.ensures.finds.least in
+    let second = load_indexed_follows l.new.pass i.new.pass i.result i.ensures.table i.ensures.view i.ensures.finds.least in
+    let third = follows_shown i.new.pass c.show.new.pass c.show.ensures.later c.show.ensures.adds c.show.ensures.looks in
+    (follows_then 0 c.args.pass.now i.new.pass c.show.new.pass (follows_then 0 c.args.pass.now l.new.pass i.new.pass first second) third).later
+
+pub returns-3-clause-gains : goal.returns-3-clause-gains
+returns-3-clause-gains g c =
+    let l = c.load_durable-durable in
+    let i = c.load_indexed-indexed in
+    let first = load_durable_follows c.args.pass.now l.new.pass l.result l.ensures.table l.ensures.view l.ensures.finds.least in
+    let second = load_indexed_follows l.new.pass i.new.pass i.result i.ensures.table i.ensures.view i.ensures.finds.least in
+    let third = follows_shown i.new.pass c.show.new.pass c.show.ensures.later c.show.ensures.adds c.show.ensures.looks in
+    (follows_then 0 c.args.pass.now i.new.pass c.show.new.pass (follows_then 0 c.args.pass.now l.new.pass i.new.pass first second) third).gains
+
+pub returns-3-clause-ok : goal.returns-3-clause-ok
+returns-3-clause-ok g c =
+    let l = c.load_durable-durable in
+    let i = c.load_indexed-indexed in
+    let show = c.show in
+    let first = load_durable_follows c.args.pass.now l.new.pass l.result l.ensures.table l.ensures.view l.ensures.finds.least in
+    let second = load_indexed_follows l.new.pass i.new.pass i.result i.ensures.table i.ensures.view i.ensures.finds.least in
+    let within = taken_within show.new.pass.view.seen show.new.self show.ensures.first in
+    record {
+      durable = l.result;
+      saw_durable = saw_durable_on c.args.pass.now c.args.pass.now l.new.pass show.new.pass l.result (follows_self c.args.pass.now)
+          (load_durable_saw c.args.pass.now l.new.pass l.result l.ensures.table l.ensures.view l.ensures.finds.least)
+          (later_both l.new.pass i.new.pass show.new.pass second.later show.ensures.later)
+          (ap (λ (x : AllLooks). x.durable) show.ensures.looks ∙ ap (λ (v : View). v.looks.durable) i.ensures.view);
+      within_durable = omega arith;
+      indexed = i.result;
+      saw_indexed = saw_indexed_on c.args.pass.now l.new.pass i.new.pass show.new.pass i.result first
+          (load_indexed_saw l.new.pass i.new.pass i.result i.ensures.table i.ensures.view i.ensures.finds.least) show.ensures.later
+          (ap (λ (x : AllLooks). x.indexed) show.ensures.looks);
+      within_indexed = omega arith;
+      seen = omega (arith, within, show.ensures.taken.0, show.ensures.taken.1, show.ensures.later.indexed, ap (λ (v : View). v.least.indexed) i.ensures.view);
+      shows = c.in_ok-snapshot.ensures show.new.pass.view.seen show.ensures.first;
+    }

@@ -1,0 +1,59 @@
+-- What is known of a store that was closed.
+use Rattle.std.specs.Prelude.{◌≡◌, ◌+◌, ◌≤◌, ℕ, ℤ, List, length, true, Option}
+use Rattle.std.specs.List.{All, sum_by}
+use mathlib.Core.List.{IsPrefix}
+use Rattle.im_digest.specs.Digests.{Hash}
+use Rattle.im_disk.specs.Disk.{Told}
+use Rattle.im_disk.specs.Moments.{Leaves, LeavesNow}
+use Rattle.im_format.specs.Standing.{Stands, StandsFrom}
+use Rattle.im_model.specs.History.{IsHistory}
+use Rattle.im_seated_book.specs.Seats.{HasTimed}
+use Rattle.im_seated_journal.specs.Seats.{RoseBy}
+use Rattle.im_table.specs.Histories.{history_of, GoesOn}
+use Rattle.im_table.specs.Known.{KnownPass, TableId}
+use Rattle.im_table.specs.Views.{placed_by, times}
+use Rattle.im_table.specs.declared.items.LogItem.{LogItem}
+
+abbrev pub weight_in : KnownPass → ℕ
+weight_in p = p.view.weight
+
+abbrev pub leaves_linked : KnownPass → ℕ
+leaves_linked p = p.view.leaves
+
+-- how often a number stands among a pass's own
+abbrev pub own_count : ℕ → KnownPass → ℕ
+own_count k p = times k p.view.own
+
+-- a pass that has all roles
+abbrev pub HoldsAll : TableId → KnownPass → Type 0
+HoldsAll table p = (p.table ≡ table) × (p.view.roles ≡ record { journal = true; index = true; book = true; tree = true })
+
+-- these passes have the whole weight
+abbrev pub AreAll : List KnownPass → Type 0
+AreAll passes = sum_by weight_in passes ≡ 1048576
+
+-- There is one list. It begins with what was found, and with the list of each pass that was handed in. Each image stands for a front part
+-- of it, which holds what any of the passes knows to be durable; and at each moment since the disk was opened each image stood for one
+-- not shorter than what was found. The disk has failed since at least as often as any of them knows. Where none of its calls failed, and
+-- all of the list is durable, each image stands for the whole of it. Where the passes have the whole weight, their own numbers are those of
+-- all that was not found, each once, and the tree has grown by their leaves. The clock gave the times of what was placed, in order.
+pub record ClosesStore {D : Type 0} (told : D → Option Told) (faults : D → ℕ) (hash : Hash) (found : List LogItem) (synced : Option Told) (before : ℕ)
+    (time : Option ℤ) (given : Option (List ℤ)) (passes : List KnownPass) (disk : D) (constant : Option ℤ) (now : Option (List ℤ)) : Type 0 where
+  pub items : List LogItem
+  pub goes_on : GoesOn found items
+  pub history : IsHistory (history_of items)
+  pub begins : All (λ p. IsPrefix p.view.seen items) passes
+  pub durable : ℕ
+  pub within : durable ≤ length items
+  pub known : All (λ p. p.view.least.durable ≤ durable) passes
+  pub images : LeavesNow (StandsFrom hash durable (history_of items)) (told disk)
+  pub moments : Leaves (StandsFrom hash (length found) (history_of items)) synced (told disk)
+  pub failures : ℕ
+  pub rose : RoseBy before (faults disk) failures
+  pub failed : All (λ p. p.view.least.failed ≤ failures) passes
+  pub whole : failures ≡ 0 → durable ≡ length items → LeavesNow (λ image. Stands hash image (history_of items)) (told disk)
+  pub owned : AreAll passes → (k : ℕ) → sum_by (own_count k) passes ≡ times k (placed_by items)
+  pub linked : ℕ
+  pub tree : linked ≤ durable
+  pub grown : AreAll passes → sum_by leaves_linked passes + length found ≡ linked
+  pub timed : HasTimed time constant given now found items

@@ -1,0 +1,13 @@
+pub mod Loads
+pub mod Gains
+pub mod Names
+pub mod Found
+pub mod Errors
+pub mod Commits
+pub mod Settling
+pub mod Placing
+pub mod Growth
+pub mod Proving
+pub mod Reading
+pub mod Closing
+pub mod Events

@@ -1,0 +1,31 @@
+-- How a store was opened: what names it.
+use Rattle.std.specs.Prelude.{◌≡◌, ℕ, ℤ, List, Option, Some, true}
+use Rattle.std.specs.List.{All}
+use Rattle.im_digest.specs.Digests.{Hash}
+use Rattle.im_disk.specs.Disk.{after, seen, Told}
+use Rattle.im_disk.specs.Moments.{Leaves}
+use Rattle.im_disk.specs.declared.calls.Call.TheVariants.{Synced}
+use Rattle.im_format.specs.Standing.{Stands}
+use Rattle.im_table.specs.Histories.{history_of}
+use Rattle.im_table.specs.Known.{TableId}
+use Rattle.im_table.specs.declared.items.LogItem.{LogItem}
+
+-- the tip, what was found, the number of value logs, the hash, what the disk told and how often it had failed as it was opened,
+-- the time that the clock always gives and the times that it had given
+pub record Naming : Type 0 where
+  pub table : TableId
+  pub found : List LogItem
+  pub logs : ℕ
+  pub digest : Hash
+  pub synced : Option Told
+  pub faults : ℕ
+  pub time : Option ℤ
+  pub given : Option (List ℤ)
+
+-- A disk, which told this, is opened as a store. Its files stand for the history that is found, and for no other, and each image of
+-- each moment behind the opening's first sync does. None of its calls failed. Each item is marked as found.
+pub record OpensAs (told : Option Told) (faults : ℕ) (n : Naming) : Type 0 where
+  pub stands : (t : Told) → told ≡ Some t → Stands n.digest (seen t) (history_of n.found)
+  pub moments : (t : Told) → told ≡ Some t → Leaves (λ image. Stands n.digest image (history_of n.found)) (Some (after Synced t)) n.synced
+  pub same : n.faults ≡ faults
+  pub marked : All (λ item. item.found ≡ true) n.found

@@ -1,0 +1,77 @@
+//! What holds of the definitions. Each function does nothing, and its contract is the law.
+
+ghost use Rattle.std.specs.Prelude.{◌≡◌, ◌≤◌, ℕ, ℤ, List, length, take, None, Option, Some};
+ghost use Rattle.im_digest.specs.Digests.{Hash};
+ghost use Rattle.im_disk.specs.Disk.{Told, after};
+ghost use Rattle.im_disk.specs.Moments.{Leaves};
+ghost use Rattle.im_disk.specs.declared.calls.Call.TheVariants.{Synced};
+ghost use Rattle.im_format.specs.Standing.{StandsFrom};
+ghost use Rattle.im_machine.specs.declared.outputs.Output.TheVariants as tells;
+ghost use Rattle.im_machine.specs.declared.questions.KeyQuestion.{KeyQuestion};
+ghost use Rattle.im_machine.specs.declared.questions.ProofQuestion.TheVariants as asks;
+ghost use Rattle.im_model.specs.History.{header_of, IsHistory};
+ghost use Rattle.im_model.specs.declared.transactions.Transaction.{Transaction};
+ghost use Rattle.im_proof.specs.Between.{anchor_between, dual_between};
+ghost use Rattle.im_table.specs.Histories.{history_of};
+ghost use Rattle.im_table.specs.Known.{KnownPass};
+ghost use Rattle.im_tx.specs.Asked.{Asked};
+ghost use Rattle.im_versions.specs.Admits.{place_refusal};
+ghost use Rattle.im_versions.specs.declared.refusals.PlaceError.{PlaceError};
+ghost use Rattle.im_versions.specs.declared.versions.Version.{Version};
+ghost use Rattle.im_store.specs.Closing.{ClosesStore};
+ghost use Rattle.im_store.specs.Commits.{HasPlaced, IsRefusedAt};
+ghost use Rattle.im_store.specs.Events.{AreIndexSteps, AreLinkSteps, IsAckStep, IsPlaceStep, IsProveStep, IsRefusalStep, IsSnapStep};
+ghost use Rattle.im_store.specs.Names.{Naming, OpensAs};
+
+use im_disk::disk::Disk;
+
+/// What a commit placed, it placed by the event Place, and what it refused, by the event Place.
+pub fn a_commit_is_a_place()
+    ensures placed { (hash : Hash) (time : Option ℤ) (asked : Asked) (old new : KnownPass) (n : ℕ)
+        → HasPlaced time asked old new n → IsPlaceStep hash (history_of new.view.seen) asked n }
+    ensures refused { (hash : Hash) (asked : Asked) (old new : KnownPass) (why : PlaceError) (at : ℕ)
+        → IsRefusedAt asked old new why at → IsRefusalStep hash (history_of new.view.seen) asked why at }
+{}
+
+/// A receipt is the event Ack.
+pub fn a_receipt_is_an_ack()
+    ensures { (hash : Hash) (history : List Transaction) (n : ℕ) → 1 ≤ n → n ≤ length history → IsAckStep hash history n }
+{}
+
+/// Headers and proofs are the event Prove.
+pub fn a_proof_is_a_prove()
+    ensures header { (hash : Hash) (history : List Transaction) (k : ℕ) → 1 ≤ k → k ≤ length history
+        → IsProveStep hash history k (asks.Header k) (tells.Header (header_of hash history k)) }
+    ensures dual { (hash : Hash) (history : List Transaction) (s t : ℕ) → IsHistory history → 1 ≤ s → s ≤ t → t ≤ length history
+        → IsProveStep hash history t (asks.Dual s t) (tells.Dual (dual_between hash history s t)) }
+    ensures advance { (hash : Hash) (history : List Transaction) (s t : ℕ) → IsHistory history → 1 ≤ s → s ≤ t → t ≤ length history
+        → IsProveStep hash history t (asks.Advance s t) (tells.Advance (dual_between hash history s t) (anchor_between hash history s t)) }
+{}
+
+/// The reads of a snapshot are the event Snap.
+pub fn a_read_is_a_snap()
+    ensures { (hash : Hash) (history : List Transaction) (n : ℕ) (question : KeyQuestion) (versions : List Version) → IsSnapStep hash history n question versions }
+{}
+
+/// From one size to another a tree is raised by the event Link, once for each leaf, and an index by the event Index.
+pub fn growth_is_one_by_one()
+    ensures links { (hash : Hash) (before after : ℕ) → before ≤ after → AreLinkSteps hash before after }
+    ensures indexes { (hash : Hash) (before after : ℕ) → before ≤ after → AreIndexSteps hash before after }
+{}
+
+/// What a commit asked for that is admitted below the limit isn't refused: its errors are failures of the disk, which are counted, and
+/// want of memory.
+pub fn an_admitted_commit_is_not_refused()
+    ensures { (asked : Asked) (old new : KnownPass) (why : PlaceError) (at : ℕ)
+        → ((n : ℕ) → length old.view.seen ≤ n → place_refusal (history_of (take n new.view.seen)) asked.pres ≡ None)
+        → IsRefusedAt asked old new why at → ⊥ }
+{}
+
+/// At each moment from the opening's first sync to the closing each image stood for a front part of the one list, not shorter than what was
+/// found.
+pub fn moments_from_opening_to_closing<D: Disk>()
+    ensures { (n : Naming) (t : Told) (passes : List KnownPass) (disk : D)
+        (constant : Option ℤ) (now : Option (List ℤ)) (closed : ClosesStore D.told D.faults n.digest n.found n.synced n.faults n.time n.given passes disk constant now)
+        → OpensAs (Some t) n.faults n
+        → Leaves (StandsFrom n.digest (length n.found) (history_of closed.items)) (Some (after Synced t)) (D.told disk) }
+{}

@@ -1,0 +1,123 @@
+//! A store that threads share: one history of transactions, committed by any number of threads, made durable in groups, linked into a
+//! hash tree and indexed from behind, with snapshots and proofs meanwhile.
+//!
+//! # A whole program
+//!
+//! It opens a disk, two threads commit what was prepared, then the store shows a key, proves the second transaction from the first,
+//! and is closed:
+//!
+//! ```text
+//! use im_store::opened::{Opened, open};
+//! use im_store::store::Store;
+//! use im_table::law::Free;
+//! use std::marker::Brand;
+//! use std::thread::join;
+//!
+//! pub fn run<H: Hash32 + Sync, D: Disk + Send, C: Clock + Drop + Send, R: Threads + Wait + Sync>(
+//!     rt: &R, alloc: Global, hash: &H, disk: D, clock: C, one: Prepared, two: Prepared,
+//! ) -> Option<D> {
+//!     let Ok(opened) = open::<H, D, C, Free>(alloc, hash, disk, clock, 1) else {
+//!         return None;
+//!     };
+//!     serve::<H, D, C, Brand, R>(rt, alloc, opened, one, two)
+//! }
+//!
+//! fn serve<H: Hash32 + Sync, D: Disk + Send, C: Clock + Drop + Send, N: TipName + Send + Sync, R: Threads + Wait + Sync>(
+//!     rt: &R, alloc: Global, opened: Opened<'_, H, D, C, Free>, one: Prepared, two: Prepared,
+//! ) -> Option<D>
+//!     requires tip { (opened.table ≡ N.table) × (opened.found ≡ N.found) × (opened.logs ≡ N.logs) }
+//!     requires hash { opened.digest ≡ N.digest }
+//!     requires disk { (opened.synced ≡ N.synced) × (opened.faults ≡ N.faults) }
+//!     requires clock { (opened.time ≡ N.time) × (opened.given ≡ N.given) }
+//! {
+//!     let (store, mut main) = opened.named::<N>();
+//!     let first = store.pass(&mut main);
+//!     let second = store.pass(&mut main);
+//!     let shared = &store;
+//!     let ((first, a), (second, b)) = join(
+//!         rt,
+//!         move || commit_one(rt, alloc, shared, first, one),
+//!         move || commit_one(rt, alloc, shared, second, two),
+//!     );
+//!     store.end(&mut main, first);
+//!     store.end(&mut main, second);
+//!     let last = store.tip(&mut main);
+//!     let _ = store.index(rt, alloc, &mut main, u64::MAX);
+//!     let _ = store.link(rt, alloc, &mut main, u64::MAX);
+//!     if let Ok(snapshot) = store.snapshot(rt, alloc, &mut main, last) {
+//!         let _ = snapshot.get(alloc, b"k", last);
+//!         drop(snapshot);
+//!     }
+//!     if a.is_some() && b.is_some() {
+//!         drop(store.prove(rt, alloc, &mut main, last - 1, last));
+//!     }
+//!     let mut passes = Vec::new(alloc);
+//!     passes.push(main).ok()?;
+//!     let (disk, clock) = store.close(passes);
+//!     drop(clock);
+//!     Some(disk)
+//! }
+//!
+//! fn commit_one<H: Hash32, D: Disk, C: Clock, N: TipName, R: Wait>(
+//!     rt: &R, alloc: Global, store: &Store<'_, H, D, C, Free, N>, mut pass: Pass, what: Prepared,
+//! ) -> (Pass, Option<u64>) {
+//!     let id = store.commit(rt, alloc, &mut pass, what).ok().map(|receipt| receipt.id);
+//!     (pass, id)
+//! }
+//! ```
+//!
+//! `Brand` names the store in contracts alone (`Opened` says how), and `Free` is the law that allows each history. `im_tests_store`
+//! has such programs, proved and run.
+//!
+//! # Passes
+//!
+//! A thread sees the history by a `Pass` of its own, which has no octets: it exists for contracts. It says which front part of the one list the
+//! thread has seen, the least numbers that it knows (durable, linked, indexed, failed), the numbers of the transactions that it placed, and
+//! what it linked and told. A pass never forgets, and any two of them have seen front parts of one list. So what each call answers
+//! holds of that list, whatever other threads do meanwhile. A new thread gets a pass by `pass`, and gives it back by `end`. Passes share a
+//! weight of 1,048,576; where passes with all of it are handed to `close`, what they placed is all that was placed.
+//!
+//! # Locks
+//!
+//! There are four, taken in this order and held for:
+//!
+//! | lock | held for |
+//! |---|---|
+//! | the journal's | a batch: its writes, a sync, the write of its gate, a sync; or one read of a value |
+//! | the index's | what is taken into the index, or a snapshot |
+//! | the book's | a place; copies of headers, Alh and records; a proof |
+//! | the tree's | its root for a place; the hashing of leaves that are linked; a proof |
+//!
+//! The book's lock is held for no call of the disk. So while a batch is written others place, and the next batch has all that they
+//! placed, up to what memory allows: whoever gets the journal's lock writes for all. Who waits for that lock looks at the word durable all
+//! the while, and goes on as soon as its transaction is. No condition variable is used.
+//!
+//! # What calls cost
+//!
+//! | call | waits for | costs |
+//! |---|---|---|
+//! | `pass`, `end`, `tip` | nobody | a few steps on words; no memory |
+//! | `commit` | book and tree; then the journal, unless another thread makes it durable | each value hashed twice, each entry and the header once, a few nodes of the tree; two copies of keys and values; its share of a batch: 2 syncs, 3 writes and one for each value log |
+//! | `settle` | book; then as `commit` | nothing where it is durable, else its share of a batch |
+//! | `link` | book, tree | a copy of 32 octets, one leaf and about one node hashed for each transaction |
+//! | `index` | index; book, for 64 transactions at a time | what `Index::take` costs: keys and values copied, runs merged |
+//! | `snapshot` | index | the runs are shared, none is copied; its reads wait for nobody |
+//! | `header` | book | a copy of a header |
+//! | `prove`, `advance`, `item` | book, tree | for each path or list four digests for each binary digit of the tree's size; two hashes for each header on the way |
+//! | `resolve` | journal | one read of the disk and one hash |
+//! | `close` | nobody | no memory, and no call of the disk |
+//!
+//! All transactions, their headers, Alh and references stay in memory, and so does an index of their keys and values.
+//!
+//! # Errors
+//!
+//! Each type of error says when it comes. Where a call of the disk has failed the store reads and proves what is durable, and writes
+//! nothing until its disk is opened again: calls that write answer `Stopped`. Where memory runs out a call answers `Memory`, and the store
+//! goes on.
+#![tactic(auto)]
+
+pub mod answers;
+pub mod errors;
+pub mod laws;
+pub mod opened;
+pub mod store;

@@ -1,0 +1,160 @@
+ghost use Rattle.std.specs.Prelude.{◌≡◌, ◌≤◌, IfErr, IfOk};
+ghost use Rattle.im_opening.specs.Found.{IsFound};
+ghost use Rattle.im_opening.specs.Opening.{IsOneHistory};
+ghost use Rattle.im_opening.specs.Opens.{FailsToOpen};
+ghost use Rattle.im_opening.specs.declared.errors.OpenError.TheVariants.{Memory};
+ghost use Rattle.im_store.specs.Found.{items_of, HoldsFound};
+ghost use Rattle.im_store.specs.Names.{OpensAs};
+
+use crate::opened::parts::{Parts, parts_of};
+use im_digest::Hash32;
+use im_disk::disk::Disk;
+use im_edge::clock::Clock;
+use im_journal::journal::Journal;
+use im_opening::errors::OpenError;
+use im_opening::found::FoundHistory;
+use im_opening::opening::{OpenFailed as NotRecovered, Recovered, open as recover};
+use im_table::law::Law;
+use im_table::tip::Tip;
+use std::alloc::Global;
+use std::marker::Model;
+
+mod naming;
+mod parts;
+
+/// A store that isn't opened, with the reason, and the disk and the clock, which come back.
+#[derive(Drop)]
+pub struct OpenFailed<D, C> {
+    /// Why it isn't opened.
+    pub why: OpenError,
+    /// The disk, as it was left.
+    pub disk: D,
+    /// The clock, which wasn't asked.
+    pub clock: C,
+}
+
+/// A store that was opened and has no name yet: `named` gives it. A clause sees what names it (`Naming`): the tip, what was found, the
+/// number of value logs, the hash, what the disk told and how often it had failed when it was opened, and the clock's times.
+///
+/// Threads share a store under locks, and of a value under a lock only its type's facts are known. So the type of a store has a
+/// parameter `N: TipName`, which names one opened store in contracts alone. A function that opens a store calls one that is generic in `N`
+/// at `Brand`, hands it the opened store, and picks there what names it: of `fn serve<N: TipName, ..>(opened: Opened<..>, ..)`, called
+/// as `serve::<Brand, ..>(opened, ..)`, the caller's `Invariants.antt` says
+/// `ghosts-serve g a = record { table = a.opened.table; found = a.opened.found; .. }`, field by field.
+///
+/// # Invariants
+///
+/// The journal is at rest and holds what was found, no call of its disk has failed since it was opened, and book, index and tree are those of
+/// all that was found (`HoldsFound`). Its pass has each role and the whole weight.
+#[derive(Drop)]
+pub struct Opened<'h, H: Hash32, D: Disk, C: Clock, L: Law> {
+    hash: &'h H,
+    tip: Tip<L>,
+    journal: Journal<D>,
+    clock: C,
+    logs: u8,
+    parts: Parts,
+}
+
+impl<'h, H: Hash32, D: Disk, C: Clock, L: Law> Model for Opened<'h, H, D, C, L> {
+    ghost use Rattle.im_store.specs.Names.{Naming};
+
+    ghost Value = { Naming };
+
+    ghost view = { λ o. record {
+      table = o.tip.table;
+      found = o.tip.found;
+      logs = o.logs;
+      digest = H.digest o.hash.now;
+      synced = D.told o.journal.disk;
+      faults = D.faults o.journal.disk;
+      time = C.constant o.clock;
+      given = C.given o.clock;
+    } };
+
+    ghost invariant = { λ o. HoldsFound D.told (H.digest o.hash.now) o.logs o.tip o.journal o.parts };
+}
+
+impl<'h, H: Hash32, D: Disk, C: Clock, L: Law> Opened<'h, H, D, C, L> {
+    // An opened store of these parts.
+    fn of(hash: &'h H, tip: Tip<L>, journal: Journal<D>, clock: C, logs: u8, parts: Parts) -> Self
+        requires { HoldsFound D.told (H.digest hash.now) logs tip journal parts }
+        ensures found { result.found ≡ tip.found }
+        ensures disk { (result.synced ≡ D.told journal.disk) × (result.faults ≡ D.faults journal.disk) }
+        ensures given { (result.digest ≡ H.digest hash.now) × (result.logs ≡ logs) }
+        ensures clock { (result.time ≡ C.constant clock) × (result.given ≡ C.given clock) }
+    {
+        Opened {
+            hash,
+            tip,
+            journal,
+            clock,
+            logs,
+            parts,
+        }
+    }
+}
+
+/// Opens a disk as a store whose values go to so many value logs, 1 to 4, under this hash and this clock. It makes the disk's files
+/// durable, reads and checks them, closes the gate behind the batches that count where that is needed, fills tree and index with all
+/// that is found, and gives a store that has no name yet: `Opened::named`.
+///
+/// The disk gets what `im_opening::open` says. Each value, entry and leaf is hashed once, and each header twice; each key and each value is
+/// copied once more, into the index.
+///
+/// # Errors
+///
+/// `Damaged` exactly where the files stand for no history: it tells the first place that doesn't hold what it should, in reading order.
+/// `DiskFault` only where the disk failed in this call. `Memory`. The disk and the clock come back.
+pub fn open<'h, H: Hash32, D: Disk, C: Clock, L: Law>(
+    alloc: Global,
+    hash: &'h H,
+    disk: D,
+    clock: C,
+    logs: u8,
+) -> Result<Opened<'h, H, D, C, L>, OpenFailed<D, C>>
+    requires logs { (1 ≤ logs) × (logs ≤ 4) }
+    ensures opens { IfOk result (λ opened. OpensAs (D.told disk) (D.faults disk) opened) }
+    ensures given { IfOk result (λ opened. (opened.digest ≡ H.digest hash.now) × (opened.logs ≡ logs)) }
+    ensures clock { IfOk result (λ opened. (opened.time ≡ C.constant clock) × (opened.given ≡ C.given clock)) }
+    ensures failed { IfErr result (λ failed. FailsToOpen D.told D.faults (H.digest hash.now) disk failed.disk failed.why) }
+    ensures back { IfErr result (λ failed. failed.clock ≡ clock) }
+{
+    match recover(alloc, hash, disk) {
+        Ok(Recovered { journal, found }) => opened_over(alloc, hash, journal, found, clock, logs),
+        Err(NotRecovered { disk, error }) => Err(OpenFailed {
+            why: error,
+            disk,
+            clock,
+        }),
+    }
+}
+
+// A store over a journal at rest, of what was found. Its only error is want of memory.
+fn opened_over<'h, H: Hash32, D: Disk, C: Clock, L: Law>(
+    alloc: Global,
+    hash: &'h H,
+    journal: Journal<D>,
+    found: FoundHistory,
+    clock: C,
+    logs: u8,
+) -> Result<Opened<'h, H, D, C, L>, OpenFailed<D, C>>
+    requires logs { (1 ≤ logs) × (logs ≤ 4) }
+    requires rests { IsFound D.told (H.digest hash.now) journal found.records.items }
+    requires found { IsOneHistory (H.digest hash.now) found }
+    requires going { journal.failures ≡ 0 }
+    ensures found { IfOk result (λ opened. (opened.found ≡ items_of found.records.items) × (opened.digest ≡ H.digest hash.now)
+        × (opened.synced ≡ D.told journal.disk) × (opened.faults ≡ D.faults journal.disk)) }
+    ensures given { IfOk result (λ opened. (opened.digest ≡ H.digest hash.now) × (opened.logs ≡ logs)) }
+    ensures clock { IfOk result (λ opened. (opened.time ≡ C.constant clock) × (opened.given ≡ C.given clock)) }
+    ensures back { IfErr result (λ failed. (failed.disk ≡ journal.disk) × (failed.clock ≡ clock) × (failed.why ≡ Memory)) }
+{
+    match parts_of(alloc, hash, found, logs) {
+        Ok((tip, parts)) => Ok(Opened::of(hash, tip, journal, clock, logs, parts)),
+        Err(_) => Err(OpenFailed {
+            why: OpenError::Memory,
+            disk: journal.into_disk(),
+            clock,
+        }),
+    }
+}

@@ -1,0 +1,143 @@
+// What a store is made of, from what was found.
+ghost use Rattle.std.specs.Prelude.{◌≡◌, ◌≤◌, length, map, take, IfOk, OnOk};
+ghost use Rattle.im_levels.specs.Leveled.{IsLeveled};
+ghost use Rattle.im_opening.specs.Opening.{IsOneHistory};
+ghost use Rattle.im_table.specs.Histories.{history_of};
+ghost use Rattle.im_table.specs.Views.{opener};
+ghost use Rattle.im_store.specs.Found.{ArePartsOf, items_of};
+
+use im_atree::trees::Tree;
+use im_book::book::Book;
+use im_digest::{D32, Hash32};
+use im_format::records::Record;
+use im_format::references::Refs;
+use im_index::index::Index;
+use im_model::transactions::Transaction;
+use im_opening::found::FoundHistory;
+use im_table::items::{LogItem, Opening};
+use im_table::law::Law;
+use im_table::pass::Pass;
+use im_table::tip::Tip;
+use std::alloc::{AllocError, Global};
+
+/// What a store is made of but for its words, its journal and its clock.
+#[derive(Drop)]
+pub(crate) struct Parts {
+    /// The pass that has each role and the whole weight.
+    pub(crate) pass: Pass,
+    /// The index of all that was found.
+    pub(crate) index: Index,
+    /// The book of it.
+    pub(crate) book: Book,
+    /// The references of its values.
+    pub(crate) refs: Vec<Refs>,
+    /// The tree of it.
+    pub(crate) tree: Tree,
+}
+
+/// The words and the parts of a store in which this was found, and whose values go to so many value logs. The leaves are hashed that the
+/// found tree lacks, and the nodes above them. Its only error is want of memory.
+pub(crate) fn parts_of<H: Hash32, L: Law>(
+    alloc: Global,
+    hash: &H,
+    found: FoundHistory,
+    logs: u8,
+) -> Result<(Tip<L>, Parts), AllocError>
+    requires found { IsOneHistory (H.digest hash.now) found }
+    requires logs { (1 ≤ logs) × (logs ≤ 4) }
+    ensures { IfOk result (λ r. ArePartsOf (H.digest hash.now) found.records.items logs r.0 r.1) }
+{
+    let FoundHistory {
+        records,
+        headers,
+        alhs,
+        mut tree,
+    } = found;
+    raise(hash, &mut tree, alhs.as_slice(), alhs.len())?;
+    let (tip, pass, items) = opened_with(alloc, records, logs)?;
+    let (transactions, refs) = columns_of(alloc, items)?;
+    let mut index = Index::new(alloc);
+    index.take_all(alloc, transactions.as_slice())?;
+    let parts = Parts {
+        pass,
+        index,
+        book: Book::of(alloc, transactions, headers, alhs),
+        refs,
+        tree,
+    };
+    Ok((tip, parts))
+}
+
+// Adds leaves to a tree, so that it has these Alh up to an end, which is behind its own. Its only error is want of memory.
+fn raise<H: Hash32>(hash: &H, tree: &mut Tree, alhs: &[D32], end: usize) -> Result<(), AllocError>
+    requires tree { IsLeveled (H.digest hash.now) (take tree.old.size alhs.now) tree.old }
+    requires up { tree.old.size ≤ end }
+    requires within { end ≤ length alhs.now }
+    ensures size { OnOk result (tree.new.size ≡ end) }
+    ensures leaves { OnOk result (IsLeveled (H.digest hash.now) (take end alhs.now) tree.new) }
+{
+    let start = tree.size() as usize;
+    tree.extend(hash, &alhs[start..end])?;
+    Ok(())
+}
+
+// The words of a store in which these records were found, with the pass that has each role, and the items.
+fn opened_with<L: Law>(
+    alloc: Global,
+    records: Vec<Record>,
+    logs: u8,
+) -> Result<(Tip<L>, Pass, Vec<LogItem>), AllocError>
+    requires logs { (1 ≤ logs) × (logs ≤ 4) }
+    ensures items { IfOk result (λ r. r.2.items ≡ items_of records.items) }
+    ensures tip { IfOk result (λ r. (r.0.found ≡ items_of records.items) × (r.0.logs ≡ logs)) }
+    ensures pass { IfOk result (λ r. (r.1.table ≡ r.0.table) × (r.1.view ≡ opener (items_of records.items))) }
+{
+    let opening = Opening {
+        found: found_items(alloc, records)?,
+        logs,
+    };
+    match Tip::open(alloc, &opening) {
+        Ok((tip, pass)) => {
+            let Opening { found, logs: _ } = opening;
+            Ok((tip, pass, found))
+        }
+        Err(error) => {
+            drop(opening);
+            Err(error)
+        }
+    }
+}
+
+// The items of records that were found.
+fn found_items(alloc: Global, records: Vec<Record>) -> Result<Vec<LogItem>, AllocError>
+    ensures { IfOk result (λ items. items.items ≡ items_of records.items) }
+{
+    let mut items = Vec::with_capacity(alloc, records.len())?;
+    for record in records {
+        let Record { tx, refs, alh: _ } = record;
+        items.push(LogItem {
+            found: true,
+            tx,
+            refs,
+        })?;
+    }
+    Ok(items)
+}
+
+// The transactions of items, and their references.
+fn columns_of(
+    alloc: Global,
+    items: Vec<LogItem>,
+) -> Result<(Vec<Transaction>, Vec<Refs>), AllocError>
+    ensures transactions { IfOk result (λ r. r.0.items ≡ history_of items.items) }
+    ensures refs { IfOk result (λ r. r.1.items ≡ map (λ item. item.refs) items.items) }
+{
+    let mut transactions = Vec::with_capacity(alloc, items.len())?;
+    let mut references = Vec::with_capacity(alloc, items.len())?;
+    for item in items {
+        let LogItem { found: _, tx, refs } = item;
+        transactions.push(tx)?;
+        references.push(refs)?;
+    }
+    Ok((transactions, references))
+}

@@ -1,0 +1,5 @@
+//! Tests of a store that threads share: what its calls answer is proved, and these show that they return, and what the disk was asked.
+#![tactic(auto)]
+
+#[cfg(test)]
+mod stores;

@@ -1,0 +1,280 @@
+//! A store, by one thread and by two: what its calls answer, and what its disk holds then.
+
+ghost use Rattle.std.specs.Prelude.{◌≡◌};
+ghost use Rattle.im_table.specs.Passes.{IsPassOf};
+
+use im_digest::Sum;
+use im_disk::memory::MemDisk;
+use im_draft::drafts::{Attrs, Draft};
+use im_draft::preconditions::{Pre, Pres};
+use im_edge::clock::FixedClock;
+use im_format::references::ValueRef;
+use im_octet::octets::Octets;
+use im_store::errors::{CommitError, ItemError, ProveError, SettleError, SnapshotError};
+use im_store::opened::{Opened, open};
+use im_store::store::Store;
+use im_table::law::Free;
+use im_table::pass::Pass;
+use im_table::tip_name::TipName;
+use im_tx::prepare::prepare;
+use im_tx::prepared::Prepared;
+use std::alloc::{AllocError, Global};
+use std::marker::Brand;
+use std::sync::Wait;
+use std::test::Fail;
+use std::thread::{Threads, join};
+
+type Open<'h> = Opened<'h, Sum, MemDisk, FixedClock, Free>;
+
+type Shared<'h, N> = Store<'h, Sum, MemDisk, FixedClock, Free, N>;
+
+// What sets a key to a value, under these preconditions.
+fn setting(alloc: Global, key: &[u8], value: &[u8], pres: Vec<Pre>) -> Result<Prepared, Fail> {
+    let draft = Draft {
+        attrs: Attrs {
+            deleted: false,
+            non_indexable: false,
+        },
+        key: Octets::from_slice(alloc, key)?,
+        value: Octets::from_slice(alloc, value)?,
+    };
+    let mut drafts = Vec::new(alloc);
+    drafts.push(draft)?;
+    Ok(prepare(alloc, drafts, Pres::from_vec(pres))?)
+}
+
+// An empty disk whose changing calls of these numbers fail, opened.
+fn opened<'h>(alloc: Global, hash: &'h Sum, failing: &[u64]) -> Result<Open<'h>, Fail> {
+    let disk = MemDisk::new(alloc, Vec::from_slice(alloc, failing)?)?;
+    match open(alloc, hash, disk, FixedClock { time: 0 }, 1) {
+        Ok(opened) => Ok(opened),
+        Err(failed) => {
+            drop(failed);
+            Err(Fail::new("not opened"))
+        }
+    }
+}
+
+// The rows of a store with one commit: what is told before it is indexed and linked, and after.
+fn grows<N: TipName, R: Wait>(
+    rt: &R,
+    alloc: Global,
+    store: &Shared<'_, N>,
+    pass: &mut Pass,
+) -> Result<bool, AllocError>
+    requires { IsPassOf N.table pass.old }
+    ensures { IsPassOf N.table pass.new }
+{
+    let early = match store.snapshot(rt, alloc, pass, 1) {
+        Err(SnapshotError::NotYet { indexed }) => indexed == 0,
+        _ => false,
+    };
+    let beyond = match store.snapshot(rt, alloc, pass, 2) {
+        Err(SnapshotError::Beyond { durable }) => durable == 1,
+        _ => false,
+    };
+    let indexed = store.index(rt, alloc, pass, 5)? == 1;
+    let shown = store.snapshot(rt, alloc, pass, 1).is_ok();
+    let still = store.link(rt, alloc, pass, 0)? == 0;
+    let linked = store.link(rt, alloc, pass, 9)? == 1;
+    Ok(early && beyond && indexed && shown && still && linked)
+}
+
+// What is proved and refused of one commit.
+fn proves<N: TipName, R: Wait>(
+    rt: &R,
+    alloc: Global,
+    store: &Shared<'_, N>,
+    pass: &mut Pass,
+) -> bool
+    requires { IsPassOf N.table pass.old }
+    ensures { IsPassOf N.table pass.new }
+{
+    let header = match store.header(rt, alloc, pass, 1) {
+        Ok(header) => header.id == 1 && header.bl_tx_id == 0,
+        Err(_) => false,
+    };
+    let none = match store.header(rt, alloc, pass, 0) {
+        Err(ProveError::Order { s, t }) => s == 0 && t == 0,
+        _ => false,
+    };
+    let dual = store.prove(rt, alloc, pass, 1, 1).is_ok();
+    let advance = store.advance(rt, alloc, pass, 1, 1).is_ok();
+    let item = store.item(rt, alloc, pass, 1, 0, 1).is_ok();
+    let width = match store.item(rt, alloc, pass, 1, 1, 1) {
+        Err(ItemError::NoEntry { width }) => width == 1,
+        _ => false,
+    };
+    header && none && dual && advance && item && width
+}
+
+// Whether a value of one octet is read by its reference.
+fn reads<N: TipName, R: Wait>(rt: &R, alloc: Global, store: &Shared<'_, N>, pass: &mut Pass) -> bool
+    requires { IsPassOf N.table pass.old }
+    ensures { IsPassOf N.table pass.new }
+{
+    let mut hval = [0; 32];
+    hval[31] = 118;
+    let value = ValueRef {
+        hval,
+        len: 1,
+        log: 0,
+        at: 0,
+    };
+    match store.resolve(rt, alloc, pass, &value) {
+        Ok(octets) => octets.as_slice() == b"v".as_slice(),
+        Err(_) => false,
+    }
+}
+
+// One thread commits, grows, proves and reads; another pass, split off before, sees the commit.
+fn one_thread<N: TipName, R: Wait>(
+    rt: &R,
+    alloc: Global,
+    opened: Open<'_>,
+    set: Prepared,
+) -> Result<bool, Fail>
+    requires tip { (opened.table ≡ N.table) × (opened.found ≡ N.found) × (opened.logs ≡ N.logs) }
+    requires hash { opened.digest ≡ N.digest }
+    requires disk { (opened.synced ≡ N.synced) × (opened.faults ≡ N.faults) }
+    requires clock { (opened.time ≡ N.time) × (opened.given ≡ N.given) }
+{
+    let (store, mut pass) = opened.named::<N>();
+    let mut other = store.pass(&mut pass);
+    let first = match store.commit(rt, alloc, &mut pass, set) {
+        Ok(receipt) => receipt.id == 1,
+        Err(_) => false,
+    };
+    let tip = store.tip(&mut other) == 1;
+    let settled = store.settle(rt, alloc, &mut other, 1).is_ok();
+    let grown = grows(rt, alloc, &store, &mut pass)?;
+    let proved = proves(rt, alloc, &store, &mut other);
+    let read = reads(rt, alloc, &store, &mut pass);
+    store.end(&mut pass, other);
+    let (disk, clock) = store.close(vec![in alloc; pass]?);
+    let calls = disk.time() == 9;
+    drop(disk);
+    let _ = clock;
+    Ok(first && tip && settled && grown && proved && read && calls)
+}
+
+fn run_one<R: Wait>(rt: &R, alloc: Global) -> Result<bool, Fail> {
+    let set = setting(alloc, b"k", b"v", Vec::new(alloc))?;
+    one_thread::<Brand, R>(rt, alloc, opened(alloc, &Sum, &[])?, set)
+}
+
+#[test]
+fn one_commit_is_indexed_linked_proved_and_read(rt: HostRuntime) -> Result<(), Fail> {
+    assert!(rt; run_one(&rt, rt.alloc())?);
+    Ok(())
+}
+
+// What a commit and those behind it are told where the write of its gate fails.
+fn halts<N: TipName, R: Wait>(
+    rt: &R,
+    alloc: Global,
+    opened: Open<'_>,
+    one: Prepared,
+    two: Prepared,
+) -> Result<bool, Fail>
+    requires tip { (opened.table ≡ N.table) × (opened.found ≡ N.found) × (opened.logs ≡ N.logs) }
+    requires hash { opened.digest ≡ N.digest }
+    requires disk { (opened.synced ≡ N.synced) × (opened.faults ≡ N.faults) }
+    requires clock { (opened.time ≡ N.time) × (opened.given ≡ N.given) }
+{
+    let (store, mut pass) = opened.named::<N>();
+    let fault = match store.commit(rt, alloc, &mut pass, one) {
+        Err(CommitError::DiskFault { placed }) => placed == Some(1),
+        _ => false,
+    };
+    let stopped = match store.commit(rt, alloc, &mut pass, two) {
+        Err(CommitError::Stopped { faults, placed }) => faults == 1 && placed == Some(2),
+        _ => false,
+    };
+    let settle = store.settle(rt, alloc, &mut pass, 1) == Err(SettleError::Stopped { faults: 1 });
+    let beyond = store.settle(rt, alloc, &mut pass, 3) == Err(SettleError::Beyond { placed: 2 });
+    let (disk, _) = store.close(vec![in alloc; pass]?);
+    let failed = disk.faults() == 1;
+    drop(disk);
+    Ok(fault && stopped && settle && beyond && failed)
+}
+
+fn run_halts<R: Wait>(rt: &R, alloc: Global) -> Result<bool, Fail> {
+    let one = setting(alloc, b"k", b"v", Vec::new(alloc))?;
+    let two = setting(alloc, b"l", b"w", Vec::new(alloc))?;
+    halts::<Brand, R>(rt, alloc, opened(alloc, &Sum, &[8])?, one, two)
+}
+
+#[test]
+fn behind_a_call_of_the_disk_that_failed_nothing_is_written(rt: HostRuntime) -> Result<(), Fail> {
+    assert!(rt; run_halts(&rt, rt.alloc())?);
+    Ok(())
+}
+
+// A commit by a thread that owns its pass: the pass, and the number of its receipt, or 0.
+fn commit_one<N: TipName, R: Wait>(
+    rt: &R,
+    alloc: Global,
+    store: &Shared<'_, N>,
+    mut pass: Pass,
+    what: Prepared,
+) -> (Pass, u64)
+    requires { IsPassOf N.table pass }
+    ensures { IsPassOf N.table result.0 }
+{
+    let id = match store.commit(rt, alloc, &mut pass, what) {
+        Ok(receipt) => receipt.id,
+        Err(_) => 0,
+    };
+    (pass, id)
+}
+
+// Two threads commit the same key, which must be missing: one is placed, and the other is refused behind it.
+fn two_threads<N: TipName + Send + Sync, R: Threads + Wait + Sync>(
+    rt: &R,
+    alloc: Global,
+    opened: Open<'_>,
+    one: Prepared,
+    two: Prepared,
+) -> Result<bool, Fail>
+    requires tip { (opened.table ≡ N.table) × (opened.found ≡ N.found) × (opened.logs ≡ N.logs) }
+    requires hash { opened.digest ≡ N.digest }
+    requires disk { (opened.synced ≡ N.synced) × (opened.faults ≡ N.faults) }
+    requires clock { (opened.time ≡ N.time) × (opened.given ≡ N.given) }
+{
+    let (store, mut main) = opened.named::<N>();
+    let first = store.pass(&mut main);
+    let second = store.pass(&mut main);
+    let shared = &store;
+    let ((first, a), (second, b)) = join(
+        rt,
+        move || -> (Pass, u64)
+            requires { IsPassOf N.table first }
+            ensures { IsPassOf N.table result.0 }
+        { commit_one(rt, alloc, shared, first, one) },
+        move || -> (Pass, u64)
+            requires { IsPassOf N.table second }
+            ensures { IsPassOf N.table result.0 }
+        { commit_one(rt, alloc, shared, second, two) },
+    );
+    let all = store.tip(&mut main) == 1;
+    store.end(&mut main, first);
+    store.end(&mut main, second);
+    let (disk, _) = store.close(vec![in alloc; main]?);
+    drop(disk);
+    Ok(all && a + b == 1)
+}
+
+fn run_two<R: Threads + Wait + Sync>(rt: &R, alloc: Global) -> Result<bool, Fail> {
+    let key = Octets::from_slice(alloc, b"k")?;
+    let one = setting(alloc, b"k", b"v", vec![in alloc; Pre::Missing { key }]?)?;
+    let key = Octets::from_slice(alloc, b"k")?;
+    let two = setting(alloc, b"k", b"w", vec![in alloc; Pre::Missing { key }]?)?;
+    two_threads::<Brand, R>(rt, alloc, opened(alloc, &Sum, &[])?, one, two)
+}
+
+#[test]
+fn of_two_threads_that_ask_for_a_missing_key_one_has_it(rt: HostRuntime) -> Result<(), Fail> {
+    assert!(rt; run_two(&rt, rt.alloc())?);
+    Ok(())
+}
