@@ -18,7 +18,7 @@ use Rattle.im_versions.specs.declared.refusals.PlaceError.{PlaceError}
 use Rattle.im_versions.specs.declared.refusals.PlaceError.TheVariants as place
 use Rattle.im_store.specs.Commits.{Explains, HasPlaced, IsNotPlaced, IsRefusedAt}
 use Rattle.im_store.specs.Errors.{halted, refused}
-use Rattle.im_store.specs.Loads.{SawFailures}
+use Rattle.im_store.specs.Loads.{SawFailures, SawFewer}
 use Rattle.im_store.specs.Settling.{ExplainsHalt}
 use Rattle.im_store.specs.declared.errors.CommitError.{CommitError}
 use Rattle.im_store.proofs.FrontLemmas.{get_front, get_last, take_whole}
@@ -106,21 +106,21 @@ module _ (time : Option ℤ) (asked : Asked) (old : KnownPass) where
       subst (λ (e : CommitError). Explains time asked old new e) (sym is) (of cause why)
     where
       of : (cause : JournalError) → ExplainsHalt old new cause → Explains time asked old new (halted cause (Some n))
-      of halts.DiskFault why = placed
+      of halts.DiskFault why = (placed, why)
       of (halts.Stopped faults) why = (placed, why)
       of halts.Memory why = placed
 
   -- that of one that was refused, where the disk let the call down
   pub halted_refused : (new : KnownPass) (cause : JournalError) (error : CommitError) (why : PlaceError) (at : ℕ) → error ≡ halted cause None → IsRefusedAt asked old new why at
-      → ExplainsHalt old new cause → Explains time asked old new error
-  halted_refused new cause error why at is judged told =
+      → SawFewer old new at → ExplainsHalt old new cause → Explains time asked old new error
+  halted_refused new cause error why at is judged fewer told =
       subst (λ (e : CommitError). Explains time asked old new e) (sym is) (of cause told)
     where
       none : IsNotPlaced asked old new
-      none = record { why = why; at = at; judged = judged }
+      none = record { why = why; at = at; judged = judged; fewer = fewer }
 
       of : (cause : JournalError) → ExplainsHalt old new cause → Explains time asked old new (halted cause None)
-      of halts.DiskFault told = none
+      of halts.DiskFault told = (none, told)
       of (halts.Stopped faults) told = (none, told)
       of halts.Memory told = tt
 
@@ -139,6 +139,6 @@ module _ (time : Option ℤ) (asked : Asked) (old : KnownPass) where
 
 -- what a part of a call tells of failures is told of the call
 pub halt_on : (old mid new : KnownPass) (cause : JournalError) → ((f : ℕ) → SawFailures mid new f → SawFailures old new f) → ExplainsHalt mid new cause → ExplainsHalt old new cause
-halt_on old mid new halts.DiskFault on why = tt
+halt_on old mid new halts.DiskFault on why = why
 halt_on old mid new (halts.Stopped faults) on why = on faults why
 halt_on old mid new halts.Memory on why = tt

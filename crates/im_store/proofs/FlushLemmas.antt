@@ -1,6 +1,6 @@
 -- How a wait for durability goes on.
 use Rattle.std.proofs.Common.{◌≡◌, ◌-◌, ◌∙◌, ℕ, refl, ap, sym, subst, arith, Result, Ok, Err}
-use Rattle.std.specs.Prelude.{IfErr, IsErrAnd, IsErrOf, OnOk}
+use Rattle.std.specs.Prelude.{IfErr, IsErrAnd, IsErrOf, OnErr, OnOk}
 use Rattle.im_journal.specs.Faults.{IsCounted}
 use Rattle.im_journal.specs.declared.errors.JournalError.{JournalError}
 use Rattle.im_journal.specs.declared.errors.JournalError.TheVariants as halts
@@ -27,17 +27,26 @@ explains_on old mid new (Err cause) looks why = halt_on old mid new cause (λ f 
 pub unloaded_on : {T : Type 0} (r : Result T JournalError) (a b c : Looks) → b ≡ a → ((HasHalted r → ⊥) → c ≡ b) → (HasHalted r → ⊥) → c ≡ a
 unloaded_on r a b c first rest going = rest going ∙ first
 
--- one that doesn't stop explains nothing
-pub explains_going : {T : Type 0} (old new : KnownPass) (r : Result T JournalError) → ((n : ℕ) → r ≡ Err (halts.Stopped n) → ⊥) → IfErr r (λ cause. ExplainsHalt old new cause)
-explains_going old new (Ok x) going = tt
-explains_going old new (Err halts.DiskFault) going = tt
-explains_going old new (Err (halts.Stopped n)) going = absurd (going n refl)
-explains_going old new (Err halts.Memory) going = tt
+-- a step of the journal that doesn't stop: where it failed the pass knows of it
+pub counted_halt : (T : Type 0) (old new : KnownPass) (was now before after : ℕ) (cause : JournalError) → IsCounted {T = T} was now before after (Err cause)
+    → new.view.least.failed ≡ after → ((n : ℕ) → IsErrOf {T = T} (Err cause) (halts.Stopped n) → ⊥) → ExplainsHalt old new cause
+counted_halt T old new was now before after halts.DiskFault counted known going = omega (arith, known, counted.more refl)
+counted_halt T old new was now before after (halts.Stopped n) counted known going = absurd (going n refl)
+counted_halt T old new was now before after halts.Memory counted known going = tt
+
+pub counted_explains : {T : Type 0} (old new : KnownPass) (was now before after : ℕ) (r : Result T JournalError) → IsCounted was now before after r
+    → new.view.least.failed ≡ after → ((n : ℕ) → IsErrOf r (halts.Stopped n) → ⊥) → IfErr r (λ cause. ExplainsHalt old new cause)
+counted_explains old new was now before after (Ok x) counted known going = tt
+counted_explains {T} old new was now before after (Err cause) counted known going = counted_halt T old new was now before after cause counted known going
 
 -- what holds whatever the answer is
 pub always_ok : {T E : Type 0} (r : Result T E) (P : Type 0) → P → OnOk r P
 always_ok (Ok x) P p = p
 always_ok (Err e) P p = tt
+
+pub always_err : {T E : Type 0} (r : Result T E) (P : Type 0) → P → OnErr r P
+always_err (Ok x) P p = tt
+always_err (Err e) P p = p
 
 -- of an answer that passes a cause on: it tells as many failures, stops where the cause does, and is no success
 told_alike : (U T : Type 0) (cause : JournalError) → faults_told {T = U} (Err cause) ≡ faults_told {T = T} (Err cause)
@@ -57,14 +66,6 @@ halted_alike U T halts.Memory h = h
 pub passed_going : (U T : Type 0) (cause : JournalError) (r : Result T JournalError) → IsErrAnd r (λ e. e ≡ cause) → (HasHalted r → ⊥) → HasHalted {T = U} (Err cause) → ⊥
 passed_going U T cause (Ok x) is going h = absurd is
 passed_going U T cause (Err e) is going h = going (subst (λ (k : JournalError). HasHalted {T = T} (Err k)) (sym is) (halted_alike U T cause h))
-
-pub passed_stop : (U T : Type 0) (cause : JournalError) (r : Result T JournalError) (n : ℕ) → IsErrAnd r (λ e. e ≡ cause) → IsErrOf r (halts.Stopped n)
-    → IsErrOf {T = U} {E = JournalError} (Err cause) (halts.Stopped n)
-passed_stop U T cause (Ok x) n is h = absurd is
-passed_stop U T cause (Err e) n is h = ap (λ (k : JournalError). Err {T = U} {E = JournalError} k) (sym is ∙ same e (halts.Stopped n) h)
-  where
-    same : (a b : JournalError) → Err {T = T} {E = JournalError} a ≡ Err {T = T} {E = JournalError} b → a ≡ b
-    same a b h = cc
 
 -- an error that is neither a failure nor a stop is want of memory
 pub begun_memory : {T : Type 0} (r : Result T JournalError) → ((n : ℕ) → IsErrOf r (halts.Stopped n) → ⊥) → (IsErrOf r halts.DiskFault → ⊥) → IfErr r (λ cause. cause ≡ halts.Memory)

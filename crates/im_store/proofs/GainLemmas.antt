@@ -11,7 +11,7 @@ use Rattle.im_table.specs.declared.view.View.{View}
 use Rattle.im_table.proofs.FrontLemmas.{prefix_self}
 use Rattle.im_table.proofs.PassLemmas.{later_both}
 use Rattle.im_store.specs.Gains.{Gains, HasStepped}
-use Rattle.im_store.specs.Loads.{LooksOn, SawDurable, SawFailures, SawIndexed}
+use Rattle.im_store.specs.Loads.{LooksOn, SawDurable, SawFailures, SawFewer, SawIndexed}
 
 -- what a step of one of the seats added
 pub gains_none : (old new : KnownPass) → AddsNothing old new → Gains [] 0 0 old new
@@ -202,6 +202,7 @@ module _ (old new : KnownPass) (n : ℕ) (table : new.table ≡ old.table) (view
       more = (let x : new.view.looks.durable.count ≡ old.view.looks.durable.count + 1 = ap (λ (v : View). v.looks.durable.count) view in omega (arith, x));
       last = ap (λ (v : View). v.looks.durable.last) view;
     };
+    least = least;
     known = (let x : new.view.least.durable ≡ n = ap (λ (v : View). v.least.durable) view in omega (arith, x));
   }
 
@@ -236,6 +237,7 @@ module _ (old new : KnownPass) (n : ℕ) (table : new.table ≡ old.table) (view
       more = (let x : new.view.looks.indexed.count ≡ old.view.looks.indexed.count + 1 = ap (λ (v : View). v.looks.indexed.count) view in omega (arith, x));
       last = ap (λ (v : View). v.looks.indexed.last) view;
     };
+    least = least;
     known = (let x : new.view.least.indexed ≡ n = ap (λ (v : View). v.least.indexed) view in omega (arith, x));
   }
 
@@ -271,6 +273,7 @@ module _ (old new : KnownPass) (n : ℕ) (table : new.table ≡ old.table) (view
       last = ap (λ (v : View). v.looks.failed.last) view;
     };
     some = some;
+    known = (let x : new.view.least.failed ≡ n = ap (λ (v : View). v.least.failed) view in omega (arith, x));
   }
 
 -- what was loaded in a part of a call was loaded in the call
@@ -280,6 +283,7 @@ saw_durable_on old a b new n first saw rest same = record {
     more = (let x : new.view.looks.durable.count ≡ b.view.looks.durable.count = ap (λ l. l.count) same in omega (arith, first.looks.durable, saw.loaded.more, x));
     last = ap (λ l. l.last) same ∙ saw.loaded.last;
   };
+  least = omega (arith, first.later.durable, saw.least);
   known = omega (arith, saw.known, rest.durable);
 }
 
@@ -289,6 +293,7 @@ saw_indexed_on old a b new n first saw rest same = record {
     more = (let x : new.view.looks.indexed.count ≡ b.view.looks.indexed.count = ap (λ l. l.count) same in omega (arith, first.looks.indexed, saw.loaded.more, x));
     last = ap (λ l. l.last) same ∙ saw.loaded.last;
   };
+  least = omega (arith, first.later.indexed, saw.least);
   known = omega (arith, saw.known, rest.indexed);
 }
 
@@ -296,4 +301,24 @@ pub saw_failures_on : (old mid new : KnownPass) (n : ℕ) → LooksOn old.view.l
 saw_failures_on old mid new n first saw = record {
   loaded = record { more = omega (arith, first.failed, saw.loaded.more); last = saw.loaded.last };
   some = saw.some;
+  known = saw.known;
+}
+
+-- that fewer were durable in a part of a call
+pub saw_fewer_on : (old mid new : KnownPass) (n : ℕ) → Later old mid → LooksOn old.view.looks mid.view.looks → SawFewer mid new n → SawFewer old new n
+saw_fewer_on old mid new n later looks saw = record {
+  durable = saw.durable;
+  saw = record {
+    loaded = record { more = omega (arith, looks.durable, saw.saw.loaded.more); last = saw.saw.loaded.last };
+    least = omega (arith, later.durable, saw.saw.least);
+    known = saw.saw.known;
+  };
+  fewer = saw.fewer;
+}
+
+pub saw_fewer_still : (old mid new : KnownPass) (n : ℕ) → SawFewer old mid n → Later mid new → new.view.looks.durable ≡ mid.view.looks.durable → SawFewer old new n
+saw_fewer_still old mid new n saw later same = record {
+  durable = saw.durable;
+  saw = saw_durable_on old old mid new saw.durable (follows_self old) saw.saw later same;
+  fewer = saw.fewer;
 }

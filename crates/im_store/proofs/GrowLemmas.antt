@@ -44,7 +44,7 @@ linked_answer old shown new most before durable count grown (Ok size) follows sa
     let result : size ≡ min (before + most) durable = omega (arith, sized.0, is, le) in
     let more : count ≡ size - before = omega (arith, sized.0) in (
       before,
-      record { durable = durable; saw = saw; known = known; is = result; shown = omega (arith, sized.2) },
+      record { durable = durable; saw = saw; known = known; is = result; grows = omega (arith, result, le); shown = omega (arith, sized.2) },
       subst (λ (k : ℕ). Gains [] k 0 old new) more (gains_before count 0 old shown new follows.gains (gains_leaves count shown new adds)),
     )
 

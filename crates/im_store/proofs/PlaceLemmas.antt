@@ -17,7 +17,7 @@ use Rattle.im_store.specs.declared.errors.CommitError.{CommitError}
 use Rattle.im_store.specs.declared.store.committing.NotPlaced.{NotPlaced}
 use Rattle.im_store.specs.declared.store.committing.NotPlaced.TheVariants.{Memory, Refused}
 use Rattle.im_store.proofs.CommitLemmas.{halt_on, halted_refused, refused_later, refused_now, refused_told}
-use Rattle.im_store.proofs.GainLemmas.{saw_failures_on}
+use Rattle.im_store.proofs.GainLemmas.{saw_failures_on, saw_fewer_on}
 
 module _ (time : Option ℤ) (asked : Asked) (old : KnownPass) where
   -- the book refused it behind its whole list, or memory ran out
@@ -42,13 +42,14 @@ module _ (time : Option ℤ) (asked : Asked) (old : KnownPass) where
       of (place.Modified key tx) (inr r) = judged (place.Modified key tx) r
 
   -- what is told of it explains the commit's error
-  pub tells_explains : (mid new : KnownPass) (u : NotPlaced) (error : CommitError) → IsNotDone asked old mid u → Later mid new → LooksOn old.view.looks mid.view.looks
-      → TellsNotPlaced mid new u error → Explains time asked old new error
-  tells_explains mid new Memory error judged later looks told = subst (λ (e : CommitError). Explains time asked old new e) (sym told) tt
-  tells_explains mid new (Refused why at) error judged later looks told =
+  pub tells_explains : (mid new : KnownPass) (u : NotPlaced) (error : CommitError) → IsNotDone asked old mid u → Later old mid → Later mid new
+      → LooksOn old.view.looks mid.view.looks → TellsNotPlaced mid new u error → Explains time asked old new error
+  tells_explains mid new Memory error judged before later looks told = subst (λ (e : CommitError). Explains time asked old new e) (sym told) tt
+  tells_explains mid new (Refused why at) error judged before later looks told =
       let here = refused_later time asked old mid new why at judged later in
       ⊎_elim (λ t. refused_told time asked old new why at error t.0 here t.1)
-      (λ t. halted_refused time asked old new t.0 error why at t.1 here (halt_on old mid new t.0 (λ f saw. saw_failures_on old mid new f looks saw) t.2))
+      (λ t. halted_refused time asked old new t.0 error why at t.1 here (saw_fewer_on old mid new at before looks t.3)
+      (halt_on old mid new t.0 (λ f saw. saw_failures_on old mid new f looks saw) t.2))
       told
 
   -- it was judged behind no more than the pass has seen

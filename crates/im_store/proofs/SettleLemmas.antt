@@ -51,7 +51,7 @@ err_settles T old mid new placed n faults cause error is looks le rest still why
     within = within_settles old mid new placed n faults looks le rest still
 
     of : (cause : JournalError) → ExplainsHalt mid new cause → AnswersSettle {T = T} old new n (Err (settle_error cause))
-    of halts.DiskFault why = within
+    of halts.DiskFault why = (within, why)
     of (halts.Stopped f) why = (within, saw_failures_on old mid new f (looks_placed old.view mid.view.looks placed looks) why)
     of halts.Memory why = within
 

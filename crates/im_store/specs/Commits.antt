@@ -10,7 +10,7 @@ use Rattle.im_table.specs.Histories.{history_of}
 use Rattle.im_table.specs.Known.{KnownPass}
 use Rattle.im_table.specs.declared.items.LogItem.{LogItem}
 use Rattle.im_store.specs.Gains.{number_or_none}
-use Rattle.im_store.specs.Loads.{SawFailures}
+use Rattle.im_store.specs.Loads.{SawFailures, SawFewer}
 use Rattle.im_store.specs.declared.answers.Receipt.{Receipt}
 use Rattle.im_store.specs.declared.errors.CommitError.{CommitError}
 use Rattle.im_store.specs.declared.errors.CommitError.TheVariants.{DiskFault, Exists, Full, Memory, Missing, Modified, Stopped}
@@ -56,24 +56,25 @@ pub record IsRefusedDurably (asked : Asked) (old new : KnownPass) (why : PlaceEr
   pub judged : IsRefusedAt asked old new why at
   pub durable : at ≤ new.view.least.durable
 
--- it would have been refused, somewhere
+-- it would have been refused behind so many transactions, fewer of which were durable as the call looked
 pub record IsNotPlaced (asked : Asked) (old new : KnownPass) : Type 0 where
   pub why : PlaceError
   pub at : ℕ
   pub judged : IsRefusedAt asked old new why at
+  pub fewer : SawFewer old new at
 
 -- what is true of the transaction where the disk let the call down: it was placed as this number, or the placing was refused
 abbrev pub IsHalted : Option ℤ → Asked → KnownPass → KnownPass → Option ℕ → Type 0
 IsHalted time asked old new None = IsNotPlaced asked old new
 IsHalted time asked old new (Some n) = HasPlaced time asked old new n
 
--- why there is no receipt
+-- why there is no receipt; where calls of the disk failed the pass knows of one
 abbrev pub Explains : Option ℤ → Asked → KnownPass → KnownPass → CommitError → Type 0
 Explains time asked old new (Missing key at) = IsRefusedDurably asked old new (place.Missing key) at
 Explains time asked old new (Exists key tx at) = IsRefusedDurably asked old new (place.Exists key tx) at
 Explains time asked old new (Modified key tx at) = IsRefusedDurably asked old new (place.Modified key tx) at
 Explains time asked old new (Full at) = IsRefusedDurably asked old new place.Full at
-Explains time asked old new (DiskFault placed) = IsHalted time asked old new placed
+Explains time asked old new (DiskFault placed) = IsHalted time asked old new placed × (1 ≤ new.view.least.failed)
 Explains time asked old new (Stopped faults placed) = IsHalted time asked old new placed × SawFailures old new faults
 Explains time asked old new (Memory None) = Unit {0}
 Explains time asked old new (Memory (Some n)) = HasPlaced time asked old new n

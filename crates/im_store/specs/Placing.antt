@@ -10,6 +10,7 @@ use Rattle.im_versions.specs.declared.refusals.PlaceError.{PlaceError}
 use Rattle.im_versions.specs.declared.refusals.PlaceError.TheVariants as place
 use Rattle.im_store.specs.Commits.{IsRefusedAt}
 use Rattle.im_store.specs.Errors.{halted, refused}
+use Rattle.im_store.specs.Loads.{SawFewer}
 use Rattle.im_store.specs.Settling.{ExplainsHalt}
 use Rattle.im_store.specs.declared.answers.Receipt.{Receipt}
 use Rattle.im_store.specs.declared.errors.CommitError.{CommitError}
@@ -46,11 +47,11 @@ abbrev pub reach_of : NotPlaced → ℕ
 reach_of Memory = 0
 reach_of (Refused why at) = at
 
--- the refusal is told once the transactions behind which it was judged are durable; or the journal halted
+-- the refusal is told once the transactions behind which it was judged are durable; or the journal halted, and fewer were
 abbrev pub TellsRefusal : KnownPass → KnownPass → PlaceError → ℕ → CommitError → Type 0
 TellsRefusal old new why at error =
     ((error ≡ refused why at) × (at ≤ new.view.least.durable))
-    ⊎ ((cause : JournalError) × (error ≡ halted cause None) × ExplainsHalt old new cause)
+    ⊎ ((cause : JournalError) × (error ≡ halted cause None) × ExplainsHalt old new cause × SawFewer old new at)
 
 -- what wasn't placed is told
 abbrev pub TellsNotPlaced : KnownPass → KnownPass → NotPlaced → CommitError → Type 0

@@ -14,9 +14,9 @@ faults_told (Err halts.DiskFault) = 1
 faults_told (Err (halts.Stopped faults)) = 0
 faults_told (Err halts.Memory) = 0
 
--- why a number isn't durable
+-- why a number isn't durable: a call of the disk failed, which the pass knows, or calls had failed, or memory ran out
 abbrev pub ExplainsHalt : KnownPass → KnownPass → JournalError → Type 0
-ExplainsHalt old new halts.DiskFault = Unit {0}
+ExplainsHalt old new halts.DiskFault = 1 ≤ new.view.least.failed
 ExplainsHalt old new (halts.Stopped faults) = SawFailures old new faults
 ExplainsHalt old new halts.Memory = Unit {0}
 
@@ -42,10 +42,10 @@ pub record IsWithin (old new : KnownPass) (n : ℕ) : Type 0 where
   pub within : n ≤ placed
 
 -- what `settle` answers of number n: it is beyond what is placed, as it was loaded in the call, exactly where that is told; on success
--- it is durable; and the journal stops only where calls of the disk had failed
+-- it is durable; of a call that failed the pass knows; and the journal stops only where calls of the disk had failed
 abbrev pub AnswersSettle : {T : Type 0} → KnownPass → KnownPass → ℕ → Result T SettleError → Type 0
 AnswersSettle old new n (Ok u) = IsWithin old new n × (n ≤ new.view.least.durable)
 AnswersSettle old new n (Err (Beyond placed)) = IsLoaded old.view.looks.placed new.view.looks.placed placed × (placed < n)
-AnswersSettle old new n (Err DiskFault) = IsWithin old new n
+AnswersSettle old new n (Err DiskFault) = IsWithin old new n × (1 ≤ new.view.least.failed)
 AnswersSettle old new n (Err (Stopped faults)) = IsWithin old new n × SawFailures old new faults
 AnswersSettle old new n (Err Memory) = IsWithin old new n

@@ -78,6 +78,13 @@ impl<'h, H: Hash32, D: Disk, C: Clock, L: Law, N: TipName> Store<'h, H, D, C, L,
         }
     }
 
+    /// The hash function by which digests are made.
+    pub fn hash(&self) -> &H
+        ensures { H.digest result.now ≡ N.digest }
+    {
+        self.hash
+    }
+
     /// Another pass, for another thread: it has seen and knows as much, and has placed nothing. Of the weight of the given one, which
     /// is at least 2, it gets 1.
     pub fn pass(&self, pass: &mut Pass) -> Pass

@@ -39,7 +39,8 @@ impl<'h, H: Hash32, D: Disk, C: Clock, L: Law, N: TipName> Store<'h, H, D, C, L,
     /// `Full` where the limit is reached, and else `Missing`, `Exists` or `Modified` by the first precondition that doesn't hold, in
     /// the order given: once the `at` transactions behind which that was judged are durable. `DiskFault` where a call of the disk failed
     /// in this call, `Stopped` where one had failed before, and `Memory`: with the number of the transaction where it was placed all the
-    /// same, so that `settle` may be asked for it. Without a number nothing is placed.
+    /// same, so that `settle` may be asked for it. Without a number nothing is placed: but for `Memory` it was refused behind
+    /// transactions of which some weren't durable yet, as loaded in the call.
     pub fn commit<R: Wait>(
         &self,
         rt: &R,

@@ -1,9 +1,10 @@
 // What is placed becomes durable: whoever has the journal's lock writes for all who were placed before.
-ghost use Rattle.std.specs.Prelude.{◌≡◌, ◌<◌, ◌≤◌, [], ℕ, length, IfErr, IfNone, IsErrOf, OnErr, OnOk};
+ghost use Rattle.std.specs.Prelude.{◌≡◌, ◌<◌, ◌≤◌, [], ℕ, length, IfErr, IfNone, OnErr, OnOk, OnSome};
 ghost use Rattle.im_journal.specs.declared.batches.Step.TheVariants.{Idle};
 ghost use Rattle.im_journal.specs.declared.errors.JournalError.TheVariants as halts;
 ghost use Rattle.im_table.specs.Passes.{IsPassOf, Later};
 ghost use Rattle.im_store.specs.Gains.{HasStepped, Gains};
+ghost use Rattle.im_store.specs.Loads.{SawFewer};
 ghost use Rattle.im_store.specs.Settling.{ExplainsHalt, HasHalted, AnswersSettle, faults_settling, faults_told};
 
 use crate::errors::SettleError;
@@ -72,6 +73,7 @@ impl<'h, H: Hash32, D: Disk, C: Clock, L: Law, N: TipName> Store<'h, H, D, C, L,
         ensures follows { HasStepped (faults_told result) pass.old pass.new }
         ensures ok { OnOk result (n ≤ pass.new.view.least.durable) }
         ensures err { IfErr result (λ cause. ExplainsHalt pass.old pass.new cause) }
+        ensures fewer { OnErr result (SawFewer pass.old pass.new n) }
         ensures failed { (HasHalted result → ⊥) → pass.new.view.looks.failed ≡ pass.old.view.looks.failed }
         ensures placed { n ≤ pass.old.view.looks.placed.last → n ≤ pass.new.view.looks.placed.last }
     {
@@ -92,6 +94,7 @@ impl<'h, H: Hash32, D: Disk, C: Clock, L: Law, N: TipName> Store<'h, H, D, C, L,
         requires pass { IsPassOf N.table pass.old }
         ensures follows { HasStepped 0 pass.old pass.new }
         ensures none { IfNone result (n ≤ pass.new.view.least.durable) }
+        ensures some { OnSome result (SawFewer pass.old pass.new n) }
         ensures failed { pass.new.view.looks.failed ≡ pass.old.view.looks.failed }
         ensures placed { pass.new.view.looks.placed ≡ pass.old.view.looks.placed }
     {
@@ -123,6 +126,7 @@ impl<'h, H: Hash32, D: Disk, C: Clock, L: Law, N: TipName> Store<'h, H, D, C, L,
         ensures ok { OnOk result (n ≤ pass.new.view.least.durable) }
         ensures err { IfErr result (λ cause. ExplainsHalt pass.old pass.new cause) }
         ensures failed { (HasHalted result → ⊥) → pass.new.view.looks.failed ≡ pass.old.view.looks.failed }
+        ensures durable { pass.new.view.looks.durable ≡ pass.old.view.looks.durable }
         ensures placed { n ≤ pass.old.view.looks.placed.last → n ≤ pass.new.view.looks.placed.last }
     {
         for _ in rt.forever() {
@@ -149,6 +153,7 @@ impl<'h, H: Hash32, D: Disk, C: Clock, L: Law, N: TipName> Store<'h, H, D, C, L,
         ensures words { OnOk result ((pass.new.view.least.durable ≡ journal.new.durable) × (pass.new.view.least.failed ≡ journal.new.failures)) }
         ensures err { IfErr result (λ cause. ExplainsHalt pass.old pass.new cause) }
         ensures failed { (HasHalted result → ⊥) → pass.new.view.looks.failed ≡ pass.old.view.looks.failed }
+        ensures durable { pass.new.view.looks.durable ≡ pass.old.view.looks.durable }
         ensures placed { (n : ℕ) → n ≤ length pass.old.view.seen → n ≤ pass.old.view.looks.placed.last → n ≤ pass.new.view.looks.placed.last }
     {
         if journal.journal().failures() > 0 {
@@ -175,8 +180,9 @@ impl<'h, H: Hash32, D: Disk, C: Clock, L: Law, N: TipName> Store<'h, H, D, C, L,
         requires some { journal.old.durable < length pass.old.view.seen }
         ensures follows { HasStepped (faults_told result) pass.old pass.new }
         ensures words { OnOk result ((pass.new.view.least.durable ≡ journal.new.durable) × (pass.new.view.least.failed ≡ journal.new.failures)) }
-        ensures going { (faults : ℕ) → IsErrOf result (halts.Stopped faults) → ⊥ }
+        ensures err { IfErr result (λ cause. ExplainsHalt pass.old pass.new cause) }
         ensures failed { pass.new.view.looks.failed ≡ pass.old.view.looks.failed }
+        ensures durable { pass.new.view.looks.durable ≡ pass.old.view.looks.durable }
         ensures placed { length pass.old.view.seen ≤ pass.new.view.looks.placed.last }
     {
         self.begin(rt, alloc, pass, journal)?;
@@ -202,6 +208,7 @@ impl<'h, H: Hash32, D: Disk, C: Clock, L: Law, N: TipName> Store<'h, H, D, C, L,
         ensures going { journal.new.failures ≡ 0 }
         ensures memory { IfErr result (λ cause. cause ≡ halts.Memory) }
         ensures failed { pass.new.view.looks.failed ≡ pass.old.view.looks.failed }
+        ensures durable { pass.new.view.looks.durable ≡ pass.old.view.looks.durable }
         ensures placed { length pass.old.view.seen ≤ pass.new.view.looks.placed.last }
     {
         let mut book = self.book.lock(rt);
@@ -236,6 +243,7 @@ impl<'h, H: Hash32, D: Disk, C: Clock, L: Law, N: TipName> Store<'h, H, D, C, L,
         ensures err { OnErr result (journal.new ≡ journal.old) }
         ensures memory { IfErr result (λ cause. cause ≡ halts.Memory) }
         ensures failed { pass.new.view.looks.failed ≡ pass.old.view.looks.failed }
+        ensures durable { pass.new.view.looks.durable ≡ pass.old.view.looks.durable }
         ensures placed { length pass.old.view.seen ≤ pass.new.view.looks.placed.last }
     {
         let placed = book.show(&self.tip, pass);
@@ -259,7 +267,7 @@ impl<'h, H: Hash32, D: Disk, C: Clock, L: Law, N: TipName> Store<'h, H, D, C, L,
         requires begun { journal.old.batch.step ≡ Idle → ⊥ }
         ensures follows { HasStepped (faults_told result) pass.old pass.new }
         ensures words { (pass.new.view.least.durable ≡ journal.new.durable) × (pass.new.view.least.failed ≡ journal.new.failures) }
-        ensures going { (faults : ℕ) → IsErrOf result (halts.Stopped faults) → ⊥ }
+        ensures err { IfErr result (λ cause. ExplainsHalt pass.old pass.new cause) }
         ensures looks { pass.new.view.looks ≡ pass.old.view.looks }
     {
         journal.stage(alloc, &self.tip, pass)?;

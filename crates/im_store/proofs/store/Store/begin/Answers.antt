@@ -4,7 +4,7 @@ use Rattle.im_store.proofs.GainLemmas.{follows_self, follows_then}
 use Rattle.im_store.proofs.store.Store.begin.Goals as goal
 
 pub loop-halvings-init : goal.loop-halvings-init
-loop-halvings-init g c = record { follows = follows_self c.args.pass.now; same = refl; failed = refl; placed = λ some. absurd (omega (arith, some)) }
+loop-halvings-init g c = record { follows = follows_self c.args.pass.now; same = refl; failed = refl; durable = refl; placed = λ some. absurd (omega (arith, some)) }
 
 pub begin_part-requires-clause-going : goal.begin_part-requires-clause-going
 begin_part-requires-clause-going g c = ap (λ k. k.failures) c.loop-halvings.invariant.same ∙ c.requires.going
@@ -26,6 +26,7 @@ loop-halvings-preserved g c =
       follows = follows_then 0 c.args.pass.now c.loop-halvings.pass p.new.pass i.follows p.ensures.follows;
       same = c.in-Err.ensures.err ∙ i.same;
       failed = p.ensures.failed ∙ i.failed;
+      durable = p.ensures.durable ∙ i.durable;
       placed = λ some. omega (arith, p.ensures.placed, prefix_length c.args.pass.now.view.seen c.loop-halvings.pass.view.seen i.follows.later.seen);
     }
 
@@ -36,6 +37,9 @@ returns-clause-follows g c =
 
 pub returns-clause-failed : goal.returns-clause-failed
 returns-clause-failed g c = c.begin_part.ensures.failed ∙ c.loop-halvings.invariant.failed
+
+pub returns-clause-durable : goal.returns-clause-durable
+returns-clause-durable g c = c.begin_part.ensures.durable ∙ c.loop-halvings.invariant.durable
 
 pub returns-clause-placed : goal.returns-clause-placed
 returns-clause-placed g c =

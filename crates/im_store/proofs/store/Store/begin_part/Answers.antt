@@ -76,6 +76,10 @@ pub returns-clause-failed : goal.returns-clause-failed
 returns-clause-failed g c =
     ap (λ (l : AllLooks). l.failed) c.begin-begun.ensures.looks.2 ∙ ap (λ (l : AllLooks). l.failed) c.show-placed.ensures.looks
 
+pub returns-clause-durable : goal.returns-clause-durable
+returns-clause-durable g c =
+    ap (λ (l : AllLooks). l.durable) c.begin-begun.ensures.looks.2 ∙ ap (λ (l : AllLooks). l.durable) c.show-placed.ensures.looks
+
 pub returns-in_err-records-clause-follows : goal.returns-in_err-records-clause-follows
 returns-in_err-records-clause-follows g c =
     let show = c.show-placed in
@@ -94,6 +98,9 @@ returns-in_err-records-clause-placed g c =
 
 pub returns-in_err-records-clause-failed : goal.returns-in_err-records-clause-failed
 returns-in_err-records-clause-failed g c = ap (λ (l : AllLooks). l.failed) c.show-placed.ensures.looks
+
+pub returns-in_err-records-clause-durable : goal.returns-in_err-records-clause-durable
+returns-in_err-records-clause-durable g c = ap (λ (l : AllLooks). l.durable) c.show-placed.ensures.looks
 
 pub returns-in_err-records-clause-memory : goal.returns-in_err-records-clause-memory
 returns-in_err-records-clause-memory g c = if-err (λ cause. cause ≡ halts.Memory) c.from_residual.result halts.Memory c.from_residual.ensures.1 refl

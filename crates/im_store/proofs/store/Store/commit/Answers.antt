@@ -50,7 +50,7 @@ pub returns-in-Err-clause-err : goal.returns-in-Err-clause-err
 returns-in-Err-clause-err g c =
     let looks = c.place.ensures.looks in
     tells_explains g.N.TipName.time c.args.prepared c.args.pass.now c.place.new.pass c.refuse.new.pass c.in-Err.unplaced c.refuse.result c.in-Err.ensures.refused
-    c.refuse.ensures.follows.later (looks_placed c.args.pass.now.view c.place.new.pass.view.looks looks.0 looks.1) c.refuse.ensures.told
+    c.place.ensures.later c.refuse.ensures.follows.later (looks_placed c.args.pass.now.view c.place.new.pass.view.looks looks.0 looks.1) c.refuse.ensures.told
 
 pub returns-in-Err-clause-failed : goal.returns-in-Err-clause-failed
 returns-in-Err-clause-failed g c going = c.refuse.ensures.failed going ∙ ap (λ (l : AllLooks). l.failed) c.place.ensures.looks.1

@@ -1,6 +1,9 @@
 use Rattle.std.proofs.Common.{◌≡◌, ◌-◌, ◌∙◌, ℕ, arith, subst}
+use Rattle.im_journal.specs.declared.errors.JournalError.{JournalError}
+use Rattle.im_octet.proofs.Common.{if-err}
 use Rattle.im_store.specs.Gains.{HasStepped}
-use Rattle.im_store.proofs.FlushLemmas.{counted_told, passed_stop, passed_told}
+use Rattle.im_store.specs.Settling.{ExplainsHalt}
+use Rattle.im_store.proofs.FlushLemmas.{counted_explains, counted_halt, counted_told, passed_told}
 use Rattle.im_store.proofs.GainLemmas.{follows_then, follows_told}
 use Rattle.im_store.proofs.store.Store.finish.Goals as goal
 
@@ -33,9 +36,13 @@ returns-in_err-stage-clause-follows g c =
     subst (λ (k : ℕ). HasStepped k c.args.pass.now stage.new.pass) (told ∙ passed_told _ _ c.in_err-stage.field-0.0 c.from_residual.result c.from_residual.ensures.1)
     (follows_told (stage.new.self.failures - c.args.journal.now.failures) c.args.pass.now stage.new.pass stage.ensures.later stage.ensures.adds stage.ensures.looks)
 
-pub returns-in_err-stage-clause-going : goal.returns-in_err-stage-clause-going
-returns-in_err-stage-clause-going g c n stop =
-    absurd (omega (arith, c.requires.going, c.in_err-stage.ensures.going n (passed_stop _ _ c.in_err-stage.field-0.0 c.from_residual.result n c.from_residual.ensures.1 stop)))
+pub returns-in_err-stage-clause-err : goal.returns-in_err-stage-clause-err
+returns-in_err-stage-clause-err g c =
+    let stage = c.stage in
+    let cause : JournalError = c.in_err-stage.field-0.0 in
+    if-err (λ why. ExplainsHalt c.args.pass.now stage.new.pass why) c.from_residual.result cause c.from_residual.ensures.1
+    (counted_halt _ c.args.pass.now stage.new.pass _ _ _ _ cause c.in_err-stage.ensures.counted stage.ensures.words.1
+    (λ n stop. absurd (omega (arith, c.requires.going, c.in_err-stage.ensures.going n stop))))
 
 -- the second does
 pub returns-in_err-seal-clause-follows : goal.returns-in_err-seal-clause-follows
@@ -52,17 +59,23 @@ returns-in_err-seal-clause-follows g c =
     (follows_told (seal.new.self.failures - stage.new.self.failures) stage.new.pass seal.new.pass seal.ensures.later seal.ensures.adds seal.ensures.looks) in
     follows_then _ c.args.pass.now stage.new.pass seal.new.pass a b
 
-pub returns-in_err-seal-clause-going : goal.returns-in_err-seal-clause-going
-returns-in_err-seal-clause-going g c n stop =
+pub returns-in_err-seal-clause-err : goal.returns-in_err-seal-clause-err
+returns-in_err-seal-clause-err g c =
+    let seal = c.seal in
+    let cause : JournalError = c.in_err-seal.field-0.0 in
     let none : c.stage.new.self.failures ≡ 0 = c.in_ok-stage.ensures.counted.failures (λ e. absurd (cc (e))) ∙ c.requires.going in
-    absurd (omega (arith, none, c.in_err-seal.ensures.going n (passed_stop _ _ c.in_err-seal.field-0.0 c.from_residual-in_err-seal.result n c.from_residual-in_err-seal.ensures.1 stop)))
+    if-err (λ why. ExplainsHalt c.args.pass.now seal.new.pass why) c.from_residual-in_err-seal.result cause c.from_residual-in_err-seal.ensures.1
+    (counted_halt _ c.args.pass.now seal.new.pass _ _ _ _ cause c.in_err-seal.ensures.counted seal.ensures.words.1
+    (λ n stop. absurd (omega (arith, none, c.in_err-seal.ensures.going n stop))))
 
 pub returns-in_err-seal-clause-looks : goal.returns-in_err-seal-clause-looks
 returns-in_err-seal-clause-looks g c = c.seal.ensures.looks ∙ c.stage.ensures.looks
 
 -- the third doesn't stop
-pub returns-clause-going : goal.returns-clause-going
-returns-clause-going g c n stop =
+pub returns-clause-err : goal.returns-clause-err
+returns-clause-err g c =
+    let settle = c.settle in
     let none : c.stage.new.self.failures ≡ 0 = c.in_ok-stage.ensures.counted.failures (λ e. absurd (cc (e))) ∙ c.requires.going in
     let still : c.seal.new.self.failures ≡ 0 = c.in_ok-seal.ensures.counted.failures (λ e. absurd (cc (e))) ∙ none in
-    absurd (omega (arith, still, c.settle.ensures.going n stop))
+    counted_explains c.args.pass.now settle.new.pass _ _ _ _ settle.result settle.ensures.counted settle.ensures.words.1
+    (λ n stop. absurd (omega (arith, still, settle.ensures.going n stop)))

@@ -1,7 +1,7 @@
 use Rattle.std.proofs.Common.{ap, arith}
 use Rattle.im_table.specs.declared.view.AllLooks.{AllLooks}
 use Rattle.im_table.specs.declared.view.View.{View}
-use Rattle.im_store.proofs.FlushLemmas.{always_ok, explains_going}
+use Rattle.im_store.proofs.FlushLemmas.{always_ok}
 use Rattle.im_store.proofs.GainLemmas.{load_failed_follows, load_failed_saw}
 use Rattle.im_store.proofs.store.Store.flush.Goals as goal
 
@@ -18,21 +18,20 @@ returns-clause-err g c =
     (omega (arith, l.ensures.finds.least, c.requires.words.1, c.failures.ensures))
 
 -- a batch is begun and finished
-pub returns-2-clause-err : goal.returns-2-clause-err
-returns-2-clause-err g c = explains_going c.args.pass.now c.flush_placed.new.pass c.flush_placed.result (λ n e. c.flush_placed.ensures.going n e)
-
 pub returns-2-clause-placed : goal.returns-2-clause-placed
 returns-2-clause-placed g c n seen last = omega (arith, seen, c.flush_placed.ensures.placed)
 
 -- or the one in progress is finished
-pub returns-3-clause-err : goal.returns-3-clause-err
-returns-3-clause-err g c = explains_going c.args.pass.now c.finish.new.pass c.finish.result (λ n e. c.finish.ensures.going n e)
-
+pub returns-3-clause-durable : goal.returns-3-clause-durable
+returns-3-clause-durable g c = ap (λ (l : AllLooks). l.durable) c.finish.ensures.looks
 pub returns-clause-failed : goal.returns-clause-failed
 returns-clause-failed g c going = absurd (going tt)
 
 pub returns-clause-placed : goal.returns-clause-placed
 returns-clause-placed g c n seen last = omega (arith, last, ap (λ (v : View). v.looks.placed.last) c.load_failed-faults.ensures.view)
+
+pub returns-clause-durable : goal.returns-clause-durable
+returns-clause-durable g c = ap (λ (v : View). v.looks.durable) c.load_failed-faults.ensures.view
 
 pub returns-2-clause-failed : goal.returns-2-clause-failed
 returns-2-clause-failed g c going = c.flush_placed.ensures.failed

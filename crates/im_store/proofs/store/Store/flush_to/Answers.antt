@@ -15,6 +15,7 @@ loop-init g c = record {
   follows = follows_self c.args.pass.now;
   words = c.requires.words;
   failed = refl;
+  durable = refl;
   placed = λ last. last;
 }
 
@@ -36,6 +37,7 @@ loop-preserved g c =
       follows = follows_then 0 c.args.pass.now c.loop.pass f.new.pass i.follows f.ensures.follows;
       words = c.in_ok-flush.ensures.words;
       failed = f.ensures.failed (λ h. h) ∙ i.failed;
+      durable = f.ensures.durable ∙ i.durable;
       placed = λ last. f.ensures.placed c.args.n seen (i.placed last);
     }
 
@@ -54,6 +56,9 @@ returns-in_err-flush-clause-err g c =
 pub returns-in_err-flush-clause-failed : goal.returns-in_err-flush-clause-failed
 returns-in_err-flush-clause-failed g c going =
     c.in_err-flush.ensures.failed (passed_going _ _ c.in_err-flush.field-0.0 c.from_residual.result c.from_residual.ensures.1 going) ∙ c.loop.invariant.failed
+
+pub returns-in_err-flush-clause-durable : goal.returns-in_err-flush-clause-durable
+returns-in_err-flush-clause-durable g c = c.flush.ensures.durable ∙ c.loop.invariant.durable
 
 pub returns-in_err-flush-clause-placed : goal.returns-in_err-flush-clause-placed
 returns-in_err-flush-clause-placed g c last =

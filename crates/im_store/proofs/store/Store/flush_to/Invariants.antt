@@ -9,5 +9,6 @@ invariant-loop g l = record {
   follows : HasStepped 0 l.initial.pass l.pass;
   words : (l.pass.view.least.durable ≡ l.journal.durable) × (l.pass.view.least.failed ≡ l.journal.failures);
   failed : l.pass.view.looks.failed ≡ l.initial.pass.view.looks.failed;
+  durable : l.pass.view.looks.durable ≡ l.initial.pass.view.looks.durable;
   placed : l.n ≤ l.initial.pass.view.looks.placed.last → l.n ≤ l.pass.view.looks.placed.last;
 }

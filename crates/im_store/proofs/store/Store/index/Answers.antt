@@ -18,6 +18,7 @@ returns-clause-ok g c =
         saw = saw;
         known = omega (arith, show.ensures.later.indexed, show.ensures.taken.1);
         is = omega arith;
+        grows = omega (arith, show.ensures.durable, load.ensures.finds.least);
         shown = c.in_ok-take_to.ensures.taken;
       },
     )

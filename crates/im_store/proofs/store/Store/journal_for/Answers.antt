@@ -1,10 +1,10 @@
-use Rattle.std.proofs.Common.{◌∙◌, ap, refl}
+use Rattle.std.proofs.Common.{◌<◌, ◌∙◌, ap, refl, arith}
 use Rattle.im_table.specs.declared.view.View.{View}
-use Rattle.im_store.proofs.GainLemmas.{follows_self, follows_then, load_durable_follows}
+use Rattle.im_store.proofs.GainLemmas.{follows_self, follows_then, later_self, load_durable_follows, load_durable_saw, saw_durable_on}
 use Rattle.im_store.proofs.store.Store.journal_for.Goals as goal
 
 pub loop-look-init : goal.loop-look-init
-loop-look-init g c = record { follows = follows_self c.args.pass.now; failed = refl; placed = refl }
+loop-look-init g c = record { follows = follows_self c.args.pass.now; failed = refl; fewer = λ some. absurd (omega (arith, some)); placed = refl }
 
 -- each turn is one load of the word durable
 pub loop-look-preserved : goal.loop-look-preserved
@@ -15,6 +15,12 @@ loop-look-preserved g c =
       follows = follows_then 0 c.args.pass.now c.loop-look.pass l.new.pass i.follows
           (load_durable_follows c.loop-look.pass l.new.pass l.result l.ensures.table l.ensures.view l.ensures.finds.least);
       failed = ap (λ (v : View). v.looks.failed) l.ensures.view ∙ i.failed;
+      fewer = λ some. record {
+        durable = l.result;
+        saw = saw_durable_on c.args.pass.now c.loop-look.pass l.new.pass l.new.pass l.result i.follows
+            (load_durable_saw c.loop-look.pass l.new.pass l.result l.ensures.table l.ensures.view l.ensures.finds.least) (later_self l.new.pass) refl;
+        fewer = omega arith;
+      };
       placed = ap (λ (v : View). v.looks.placed) l.ensures.view ∙ i.placed;
     }
 
@@ -43,3 +49,17 @@ returns-2-clause-failed g c = ap (λ (v : View). v.looks.failed) c.load_durable.
 
 pub returns-2-clause-placed : goal.returns-2-clause-placed
 returns-2-clause-placed g c = ap (λ (v : View). v.looks.placed) c.load_durable.ensures.view ∙ c.loop-look.invariant.placed
+
+pub returns-2-clause-some : goal.returns-2-clause-some
+returns-2-clause-some g c =
+    let l = c.load_durable in
+    record {
+      durable = l.result;
+      saw = saw_durable_on c.args.pass.now c.loop-look.pass l.new.pass l.new.pass l.result c.loop-look.invariant.follows
+          (load_durable_saw c.loop-look.pass l.new.pass l.result l.ensures.table l.ensures.view l.ensures.finds.least) (later_self l.new.pass) refl;
+      fewer = omega arith;
+    }
+
+-- the lock was waited for
+pub returns-3-clause-some : goal.returns-3-clause-some
+returns-3-clause-some g c = c.loop-look.invariant.fewer (omega arith)

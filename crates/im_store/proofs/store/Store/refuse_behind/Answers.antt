@@ -30,7 +30,7 @@ returns-in-Err-clause-follows g c =
     subst (λ (e : CommitError). HasStepped (faults_of_error e) c.args.pass.now c.settle_to.new.pass) (sym c.halted.ensures) told
 
 pub returns-in-Err-clause-told : goal.returns-in-Err-clause-told
-returns-in-Err-clause-told g c = inr (c.in-Err.cause, c.halted.ensures, c.in-Err.ensures.err)
+returns-in-Err-clause-told g c = inr (c.in-Err.cause, c.halted.ensures, c.in-Err.ensures.err, c.in-Err.ensures.fewer)
 
 pub returns-in-Err-clause-failed : goal.returns-in-Err-clause-failed
 returns-in-Err-clause-failed g c going =

@@ -1,7 +1,8 @@
 use Rattle.std.proofs.Common.{◌∙◌, ap, arith}
 use Rattle.im_table.specs.declared.view.AllLooks.{AllLooks}
-use Rattle.im_store.proofs.FlushLemmas.{explains_on}
-use Rattle.im_store.proofs.GainLemmas.{follows_shown, follows_then}
+use Rattle.im_table.proofs.PassLemmas.{later_both}
+use Rattle.im_store.proofs.FlushLemmas.{always_err, explains_on}
+use Rattle.im_store.proofs.GainLemmas.{follows_shown, follows_then, saw_fewer_still}
 use Rattle.im_store.proofs.store.Store.settle_to.Goals as goal
 
 -- the journal is shown, behind the wait for its lock
@@ -24,6 +25,16 @@ returns-2-clause-err g c =
 pub returns-2-clause-failed : goal.returns-2-clause-failed
 returns-2-clause-failed g c going =
     c.flush_to.ensures.failed going ∙ ap (λ (l : AllLooks). l.failed) c.show.ensures.looks ∙ c.journal_for.ensures.failed
+
+-- fewer were durable when the lock was had
+pub returns-2-clause-fewer : goal.returns-2-clause-fewer
+returns-2-clause-fewer g c =
+    let wait = c.journal_for in
+    let show = c.show in
+    let last = c.flush_to in
+    let saw = saw_fewer_still c.args.pass.now wait.new.pass last.new.pass c.args.n c.in-Some.ensures.some (later_both wait.new.pass show.new.pass last.new.pass show.ensures.later last.ensures.follows.later)
+    (last.ensures.durable ∙ ap (λ (l : AllLooks). l.durable) show.ensures.looks) in
+    always_err last.result _ saw
 
 pub returns-2-clause-placed : goal.returns-2-clause-placed
 returns-2-clause-placed g c last =
