@@ -18,6 +18,7 @@ use Rattle.im_accept.specs.Taken.{line_text, HaveSessions}
 use Rattle.im_accept.proofs.DigitLemmas.{decimal-lacks}
 use Rattle.im_accept.proofs.LfLemmas.{digits-lack}
 use Rattle.im_accept.proofs.TakenLemmas.{sessions-are}
+use Rattle.im_octet.proofs.Common.{heads-are, tails-are}
 pub use Rattle.im_accept.proofs.ReplyLemmas.{answer-lacks}
 
 -- an answered line has no LF, as its reply has none
@@ -51,12 +52,6 @@ report-texts hash h0 h lines octets report names =
     let a : Answered = get_or report.answers k d in
     line-lacks a (named k d within) (answer-lacks hash h a.line.command a.number a.reply (report.each k d within))))
 
-heads : {A : Type 0} (x y : A) (xs ys : List A) → x ∷ xs ≡ y ∷ ys → x ≡ y
-heads x y xs ys e = cc
-
-tails : {A : Type 0} (x y : A) (xs ys : List A) → x ∷ xs ≡ y ∷ ys → xs ≡ ys
-tails x y xs ys e = cc
-
 -- a line's parts behind its session
 line-is : (a : Answered) → line_text a ≡ a.line.session ++ 32 ∷ (decimal a.number ++ 32 ∷ a.reply)
 line-is a = simp append_assoc
@@ -81,8 +76,8 @@ answers-same [] [] lines texts few_x few_y = refl
 answers-same [] (y ∷ ys) lines texts few_x few_y = absurd cc
 answers-same (x ∷ xs) [] lines texts few_x few_y = absurd cc
 answers-same (x ∷ xs) (y ∷ ys) lines texts few_x few_y =
-    let first : x ≡ y = answer-same x y (heads x.line y.line _ _ lines) (few_x 0 x (omega arith)) (few_y 0 y (omega arith)) (heads (line_text x) (line_text y) _ _ texts) in
-    let others : xs ≡ ys = answers-same xs ys (tails x.line y.line _ _ lines) (tails (line_text x) (line_text y) _ _ texts)
+    let first : x ≡ y = answer-same x y (heads-are x.line y.line _ _ lines) (few_x 0 x (omega arith)) (few_y 0 y (omega arith)) (heads-are (line_text x) (line_text y) _ _ texts) in
+    let others : xs ≡ ys = answers-same xs ys (tails-are x.line y.line _ _ lines) (tails-are (line_text x) (line_text y) _ _ texts)
     (λ k d within. few_x (suc k) d (omega arith)) (λ k d within. few_y (suc k) d (omega arith)) in
     ap (λ (a : Answered). a ∷ xs) first ∙ ap (λ (rest : List Answered). y ∷ rest) others
 

@@ -1,5 +1,5 @@
 -- The tree that the script of `gen` leaves.
-use Rattle.std.proofs.Common.{◌≡◌, ◌∙◌, ◌+◌, ◌-◌, ◌*◌, ◌/◌, ◌%◌, ◌<◌, ◌≤◌, ◌==◌, cond, ℕ, zero, suc, Bool, true, false, List, [], ◌∷◌, ◌++◌, filter, get_or, length, map, Option, Some, None, refl, sym, ap, subst, arith}
+use Rattle.std.proofs.Common.{◌≡◌, ◌∙◌, ◌+◌, ◌-◌, ◌*◌, ◌/◌, ◌%◌, ◌<◌, ◌≤◌, ◌==◌, cond, ℕ, zero, suc, Bool, true, false, List, [], ◌∷◌, ◌++◌, filter, get_or, length, map, Some, None, refl, sym, ap, subst, arith}
 use Rattle.std.proofs.lemmas.List.{length-map}
 use Rattle.std.proofs.lemmas.Bool.{both_ways, eqb-false, eqb-true, false≢true}
 use Rattle.std.proofs.lemmas.List.Elements.{All-head, All-tail}
@@ -18,6 +18,7 @@ use Rattle.im_script.specs.declared.commands.Command.{Command}
 use Rattle.im_script.specs.declared.commands.Command.TheVariants.{Set, Get, Scan, History, Header, State, Prove, Advance, Item, Link}
 use Rattle.im_script.specs.declared.commands.Line.{Line}
 use Rattle.im_app.specs.GeneratedLines.{asked_commands, behind_commands, generated_entry, generated_key, generated_line, own_command, script_commands, script_lines}
+use Rattle.im_text.proofs.CutLemmas.{head-is}
 
 -- the command asks for a transaction
 abbrev sets : Command → Bool
@@ -168,9 +169,6 @@ Follow p told = map (λ (a : Answered). a.number) (filter is_placed told) ≡ ra
 abbrev Next : ℕ → Bool → List Answered → Type 0
 Next p placed told = Above (p + cond placed 1 0) told × Follow (p + cond placed 1 0) told
 
-heads : (x y : ℕ) (xs ys : List ℕ) → x ∷ xs ≡ y ∷ ys → (x ≡ y) × (xs ≡ ys)
-heads x y xs ys e = (cc, cc)
-
 next : (p : ℕ) (a : Answered) (told : List Answered) → Above p (a ∷ told) → Above a.number told → Follow p (a ∷ told) → Next p (is_placed a) told
 next p a told above later follow = go (is_placed a) follow
   where
@@ -178,7 +176,7 @@ next p a told above later follow = go (is_placed a) follow
         → map (λ (x : Answered). x.number) (cond b (a ∷ filter is_placed told) (filter is_placed told)) ≡ range_with_len (p + 1) (length (cond b (a ∷ filter is_placed told) (filter is_placed told)))
         → Next p b told
     go true e =
-        let both = heads a.number (p + 1) _ _ e in
+        let both = head-is a.number (p + 1) _ _ e in
         (subst (λ (m : ℕ). Above m told) both.0 later, both.1)
     go false e =
         let same : p ≡ p + 0 = omega arith in

@@ -1,11 +1,10 @@
 -- Preconditions that are judged one after the other.
-use Rattle.std.proofs.Common.{◌≡◌, ◌<◌, length, ℕ, ◌+◌, List, [], ◌∷◌, ◌++◌, take, drop, refl, ap, ◌∙◌, sym, inl, inr, get_or, Some, None, true, false, cond, nat_le}
-use Rattle.std.proofs.lemmas.Bool.{cases_Bool, leb-false}
+use Rattle.std.proofs.Common.{◌≡◌, ◌<◌, length, ℕ, ◌+◌, List, [], ◌∷◌, ◌++◌, take, drop, refl, ap, ◌∙◌, sym, inl, inr, get_or, Some, None, true, false, cond}
+use Rattle.std.proofs.lemmas.Bool.{cases_Bool}
 use Rattle.std.proofs.lemmas.List.{drop_more, take-append-drop}
 use Rattle.im_model.specs.declared.transactions.Transaction.{Transaction}
 use Rattle.im_draft.specs.declared.preconditions.Pre.{Pre}
-use Rattle.im_versions.specs.Admits.{first_refusal, holds, place_refusal, refusal_of}
-use Rattle.im_versions.specs.declared.refusals.PlaceError.TheVariants.{Full}
+use Rattle.im_versions.specs.Admits.{first_refusal, holds, refusal_of}
 
 -- where each of the first holds, the refusal is that of the others
 refusal-behind : (history : List Transaction) (first others : List Pre) → first_refusal history first ≡ None → first_refusal history (first ++ others) ≡ first_refusal history others
@@ -32,12 +31,3 @@ refused-at history pres n pre none within is broken =
     let own : drop n pres ≡ pre ∷ later = drop_more pres n pre within ∙ ap (λ (x : Pre). x ∷ later) (sym is) in
     ap (first_refusal history) (sym (take-append-drop n pres)) ∙ refusal-behind history (take n pres) (drop n pres) none
     ∙ ap (first_refusal history) own ∙ ap (λ b. cond b (first_refusal history later) (Some (refusal_of history pre))) broken
-
--- preconditions are admitted only where there is room
-pub admitted-room : (history : List Transaction) (pres : List Pre) → place_refusal history pres ≡ None → length history < 1048576
-admitted-room history pres none = elim (cases_Bool (nat_le 1048576 (length history))) [
-  | inl full ↦ absurd (
-      let some : Some Full ≡ None = sym (ap (λ b. cond b (Some Full) (first_refusal history pres)) full) ∙ none in
-      cc)
-  | inr room ↦ leb-false 1048576 (length history) room
-]

@@ -1,21 +1,13 @@
 -- The leaves of a tree that is raised, and its root.
 use Rattle.std.proofs.Common.{◌≡◌, ◌<◌, ◌≤◌, ◌+◌, ◌==◌, ℕ, List, [], ◌∷◌, ◌++◌, zero, suc, length, take, refl, arith, ap, subst, ◌∙◌, sym, get_or, if◌then◌else◌}
-use Rattle.std.proofs.Math.Seq.{take-length}
 use Rattle.std.proofs.lemmas.List.{length-take-le, take-append-le}
 use Rattle.im_digest.specs.Digests.{Hash}
 use Rattle.im_mtree.specs.Kept.{IsFrontier, KeptRoots}
-use Rattle.im_model.specs.History.{bl_root_of, no_digest, Follow, IsHistory, IsTransaction}
+use Rattle.im_model.specs.History.{Follow, IsHistory, IsTransaction}
 use Rattle.im_model.specs.Trees.{root}
 use Rattle.im_model.specs.declared.transactions.Transaction.{Transaction}
 use Rattle.im_model.proofs.HistoryLemmas.{Follow-item}
 use Rattle.im_book.specs.Booked.{last_bl, last_bl_or}
-
--- the root over the first n leaves, told of them alone
-pub root-of-first : (hash : Hash) (leaves : List (List ℕ)) (n : ℕ) → n ≤ length leaves → bl_root_of hash (take n leaves) (length (take n leaves)) ≡ bl_root_of hash leaves n
-root-of-first hash leaves n within =
-    let first : List (List ℕ) = take n leaves in
-    ap (λ (ls : List (List ℕ)). if length first == 0 then no_digest else root hash ls) (take-length first)
-    ∙ ap (λ (m : ℕ). if m == 0 then no_digest else root hash first) (length-take-le n leaves within)
 
 -- the tree of a transaction is no smaller than that of the last one before it
 last-bl-at : (n bl : ℕ) (txs : List Transaction) (i : ℕ) (tx : Transaction) → Follow n bl txs → i < length txs → last_bl_or bl (take i txs) ≤ (get_or txs i tx).bl

@@ -11,9 +11,8 @@ use Rattle.std.proofs.lemmas.Slice.Eq.{bytes_eq-Decides}
 use Rattle.std.specs.Cmp.{IsStrictWeakOrder}
 use Rattle.std.specs.List.{All, AllZip, count_by, IsAmong}
 use Rattle.std.specs.List.Sorted.{ties}
-use Rattle.std.specs.Ordering.{is_lt, is_eq, ordering_reverse}
+use Rattle.std.specs.Ordering.{is_lt}
 use Rattle.std.specs.declared.cmp.Ordering.{Ordering}
-use Rattle.std.specs.declared.cmp.Ordering.TheVariants.{Less, Equal, Greater}
 use Rattle.im_model.specs.History.{IsHistory}
 use Rattle.im_model.specs.declared.transactions.Transaction.{Transaction}
 use Rattle.im_versions.specs.Versions.{is_of, all_versions, versions_of, begins_with}
@@ -32,6 +31,7 @@ use Rattle.im_catalog.specs.Rows.{IsRowIfLive}
 use Rattle.im_catalog.proofs.FoundLemmas.{begins-is}
 use Rattle.im_catalog.proofs.FrontLemmas.{among-kept}
 use Rattle.im_catalog.proofs.HistoryLemmas.{version-row, versions-few}
+use Rattle.im_octet.proofs.Common.{filter-swap, tied-by}
 
 abbrev pub Pair : Type 0
 Pair = ℕ × Version
@@ -49,19 +49,6 @@ abbrev key_below : Pair → Pair → Bool
 key_below a b = is_lt (by_key a b)
 
 -- ---- filters
-
-filter-swap : {A : Type 0} (p q : A → Bool) (xs : List A) → filter p (filter q xs) ≡ filter q (filter p xs)
-filter-swap p q [] = refl
-filter-swap {A} p q (x ∷ xs) = elim (q x) as (λ (b : Bool). q x ≡ b → filter p (cond b (x ∷ filter q xs) (filter q xs)) ≡ filter q (cond (p x) (x ∷ filter p xs) (filter p xs))) [
-  | true ↦ λ e. elim (p x) as (λ (c : Bool). cond c (x ∷ filter p (filter q xs)) (filter p (filter q xs)) ≡ filter q (cond c (x ∷ filter p xs) (filter p xs))) [
-    | true ↦ ap (λ (ys : List A). x ∷ ys) (filter-swap p q xs) ∙ ap (λ (d : Bool). cond d (x ∷ filter q (filter p xs)) (filter q (filter p xs))) (sym e)
-    | false ↦ filter-swap p q xs
-  ]
-  | false ↦ λ e. elim (p x) as (λ (c : Bool). filter p (filter q xs) ≡ filter q (cond c (x ∷ filter p xs) (filter p xs))) [
-    | true ↦ filter-swap p q xs ∙ ap (λ (d : Bool). cond d (x ∷ filter q (filter p xs)) (filter q (filter p xs))) (sym e)
-    | false ↦ filter-swap p q xs
-  ]
-] refl
 
 -- ---- the versions of one key
 
@@ -120,11 +107,6 @@ numbered-own key before (v ∷ vs) = elim (is_of key v) as (λ (b : Bool). is_of
     ] refl
 
 -- ---- sorted by key they are one list
-
-tied-by : (o : Ordering) → (not (is_lt (ordering_reverse o)) && not (is_lt o)) ≡ is_eq o
-tied-by Less = refl
-tied-by Equal = refl
-tied-by Greater = refl
 
 tied-is : (p q : Pair) → ties key_below p q ≡ is_at p.1.key q
 tied-is p q =

@@ -1,6 +1,5 @@
 -- Each version of a row's key that isn't a deletion is a row of the table, also where it isn't the last one.
-use Rattle.std.proofs.Common.{◌≡◌, ◌≢◌, ◌≤◌, ◌<◌, ◌+◌, ◌||◌, inl, inr, ◌⊎◌, ℕ, zero, suc, Bool, true, false, not, cond, pos, List, [], ◌∷◌, ◌++◌, length, take, filter, map, get_or, bytes_eq, AllPairs, Option, Some, None, refl, sym, ap, ◌∙◌, subst, arith}
-use Rattle.std.proofs.lemmas.Bool.{cases_Bool}
+use Rattle.std.proofs.Common.{◌≡◌, ◌≢◌, ◌≤◌, ◌<◌, ◌+◌, ◌||◌, inl, inr, ◌⊎◌, ℕ, zero, suc, Bool, true, false, not, cond, pos, List, [], ◌∷◌, ◌++◌, length, take, filter, map, get_or, AllPairs, Some, None, refl, sym, ap, ◌∙◌, subst, arith}
 use Rattle.std.proofs.lemmas.List.{take_more, take_all, length-append, length-take-le}
 use Rattle.std.proofs.lemmas.List.Elements.{All-from_recursion, recursion_from_All, filter-append}
 use Rattle.std.proofs.lemmas.Slice.Eq.{bytes_eq-Decides}
@@ -28,6 +27,7 @@ use Rattle.im_catalog.specs.Rows.{HasRowText, IsRowIfLive}
 use Rattle.im_catalog.proofs.FoundLemmas.{begins-is}
 use Rattle.im_catalog.proofs.FrontLemmas.{begins-from}
 use Rattle.im_catalog.proofs.RowLemmas.{row-of-text}
+use Rattle.im_octet.proofs.Common.{bytes-other, last-push}
 
 -- ---- versions of one transaction have distinct keys
 
@@ -66,16 +66,10 @@ apart-versions k (e ∷ es) apart = elim (is_shown e) as (λ (b : Bool). ApartVe
 
 -- ---- one version of a key among them
 
-differs : (a b : List ℕ) → a ≢ b → bytes_eq a b ≡ false
-differs a b apart = elim (cases_Bool (bytes_eq a b)) [
-  | inl same ↦ absurd (apart ((bytes_eq-Decides a b).0 same))
-  | inr other ↦ other
-]
-
 none-of : (key : List ℕ) (vs : List Version) → AllByRecursion (λ (w : Version). w.key ≢ key) vs → filter (is_of key) vs ≡ []
 none-of key [] all = refl
 none-of key (w ∷ ws) all =
-    ap (λ (b : Bool). cond b (w ∷ filter (is_of key) ws) (filter (is_of key) ws)) (differs w.key key all.0) ∙ none-of key ws all.1
+    ap (λ (b : Bool). cond b (w ∷ filter (is_of key) ws) (filter (is_of key) ws)) (bytes-other w.key key all.0) ∙ none-of key ws all.1
 
 one-of : (vs : List Version) (v : Version) → ApartVersions vs → IsAmong vs v → filter (is_of v.key) vs ≡ v ∷ []
 one-of [] v apart m = absurd (let no : ⊥ = (let few : m.0 < 0 = m.1.0 in omega (arith, few)) in no)
@@ -84,12 +78,8 @@ one-of (w ∷ ws) v apart m = elim (among-cons w ws v m) [
       (ap (λ (b : Bool). cond b (w ∷ filter (is_of w.key) ws) (filter (is_of w.key) ws)) ((bytes_eq-Decides w.key w.key).1 refl) ∙ ap (λ us. w ∷ us) (none-of w.key ws apart.0))
   | inr rest ↦ (
       let other : v.key ≢ w.key = All-among (λ (u : Version). u.key ≢ w.key) ws v (All-from_recursion (λ (u : Version). u.key ≢ w.key) ws apart.0) rest in
-      ap (λ (b : Bool). cond b (w ∷ filter (is_of v.key) ws) (filter (is_of v.key) ws)) (differs w.key v.key (λ same. other (sym same))) ∙ one-of ws v apart.1 rest)
+      ap (λ (b : Bool). cond b (w ∷ filter (is_of v.key) ws) (filter (is_of v.key) ws)) (bytes-other w.key v.key (λ same. other (sym same))) ∙ one-of ws v apart.1 rest)
 ]
-
-last-pushed : {A : Type 0} (o : Option A) (xs : List A) (v : A) → last_or o (xs ++ v ∷ []) ≡ Some v
-last-pushed o [] v = refl
-last-pushed o (x ∷ xs) v = last-pushed (Some x) xs v
 
 among-either : {A : Type 0} (xs ys : List A) (v : A) → IsAmong (xs ++ ys) v → IsAmong xs v ⊎ IsAmong ys v
 among-either [] ys v m = inr m
@@ -142,7 +132,7 @@ behind-own history tx v apart m =
     ap (λ (vs : List Version). last_or None (filter (is_of v.key) vs)) (versions-push history tx)
     ∙ ap (λ (vs : List Version). last_or None vs) (filter-append (is_of v.key) (all_versions history) added)
     ∙ ap (λ (vs : List Version). last_or None (versions_of history v.key ++ vs)) (one-of added v (apart-versions (length history + 1) tx.entries (apart-entries tx.entries apart)) m)
-    ∙ last-pushed None (versions_of history v.key) v
+    ∙ last-push None (versions_of history v.key) v
 
 last-up-to : (history : List Transaction) → IsHistory history → (n : ℕ) → n ≤ length history → (v : Version) → IsAmong (all_versions (take n history)) v
     → last_version (take v.tx history) v.key ≡ Some v

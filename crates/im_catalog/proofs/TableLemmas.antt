@@ -8,7 +8,7 @@ use Rattle.std.proofs.lemmas.Map.Made.{IsDistinct-from_AllPairs}
 use Rattle.std.proofs.lemmas.Bool.Decides.{Decides-eqb, eqb_tells}
 use Rattle.im_octet.specs.Fields.{field2, field4}
 use Rattle.im_octet.proofs.FieldLemmas.{length-field4, same-field4}
-use Rattle.im_sqlmodel.specs.Tables.{AreColumns, IsTable, IsTableIndex, column_text, numbers_text, table_text, index_text}
+use Rattle.im_sqlmodel.specs.Tables.{AreColumns, IsTable, column_text, numbers_text, table_text, index_text}
 use Rattle.im_sqlmodel.specs.declared.tables.Column.{Column}
 use Rattle.im_sqlmodel.specs.declared.tables.SqlIndex.{SqlIndex}
 use Rattle.im_sqlmodel.specs.declared.tables.Table.{Table}
@@ -17,6 +17,7 @@ use Rattle.im_catalog.specs.Parts.{IsFlag, flag_text, FitsFour, FitsTwo, AreColu
 use Rattle.im_catalog.proofs.CutLemmas.{Cuts, same-fronts, many-cut}
 use Rattle.im_catalog.proofs.PartLemmas.{number-cut, flag-cut}
 use Rattle.im_catalog.proofs.ColumnLemmas.{column-cut, list-cut}
+use Rattle.im_octet.proofs.Common.{no-octets}
 
 -- ---- the number of a table
 
@@ -37,14 +38,10 @@ tid-cut m n a b p q e =
 
 pub ruleset tids = (tid-stands, tid-none)
 
--- ---- numbers behind which nothing stands
-
-nothing : (text : List ℕ) → length text ≡ 0 → text ≡ []
-nothing [] h = refl
-nothing (x ∷ text) h = absurd (let no : ⊥ = omega (arith, h) in no)
+-- ---- numbers behind which no-octets stands
 
 pub key-is : (text rest numbers : List ℕ) → StandsFirst AreColumnNumbers numbers_text text numbers rest → length rest ≡ 0 → AreColumnNumbers numbers × (text ≡ numbers_text numbers)
-key-is text rest numbers stands none = (stands.is, stands.split ∙ ap (λ s. numbers_text numbers ++ s) (nothing rest none) ∙ append-nil (numbers_text numbers))
+key-is text rest numbers stands none = (stands.is, stands.split ∙ ap (λ s. numbers_text numbers ++ s) (no-octets rest none) ∙ append-nil (numbers_text numbers))
 
 pub key-none : (text : List ℕ) → NoneStandsFirst AreColumnNumbers numbers_text text → HasNoNumbers text
 key-none text absent = record { none = λ numbers p e. absent.none numbers [] p (e ∙ sym (append-nil (numbers_text numbers))) }

@@ -1,5 +1,5 @@
 -- Crashes and openings.
-use Rattle.std.proofs.Common.{◌≡◌, ◌<◌, ◌≤◌, ◌+◌, ◌-◌, ◌∙◌, ℕ, List, [], ◌∷◌, length, map, get_or, Bool, true, false, refl, sym, ap, subst, arith, inl, inr, All, Option, Some, None, if◌then◌else◌, ◌&&◌, ◌||◌}
+use Rattle.std.proofs.Common.{◌≡◌, ◌<◌, ◌≤◌, ◌+◌, ◌-◌, ◌∙◌, ℕ, List, [], ◌∷◌, length, map, Bool, true, false, refl, sym, ap, subst, arith, inl, inr, Option, Some, None, if◌then◌else◌, ◌&&◌, ◌||◌}
 use Rattle.std.proofs.lemmas.Bool.{and_right, eq-eqb, le-leb, lt-leb, ne_eqb, or_left, or_right, true≢false}
 use Rattle.std.specs.Prelude.{nat_eq, nat_le, slice_index_or}
 use Rattle.im_octet.proofs.Common.{some-is}
@@ -29,9 +29,9 @@ use Rattle.im_machine.specs.declared.events.Event.TheVariants as on
 use Rattle.im_machine.specs.declared.outputs.Output.{Output}
 use Rattle.im_machine.specs.declared.outputs.Output.TheVariants as says
 use Rattle.im_machine.proofs.StartLemmas.{stands-none}
-use Rattle.im_model.specs.History.{IsHistory, IsTransaction}
+use Rattle.im_model.specs.History.{IsHistory}
 use Rattle.im_model.specs.declared.transactions.Transaction.{Transaction}
-use Rattle.im_model.proofs.HistoryLemmas.{Follow-at}
+use Rattle.im_model.proofs.HistoryLemmas.{linked-all}
 use Rattle.im_opening.specs.Cut.{repaired, shut_at, IsOpenedBy}
 
 -- where the store isn't open, no event but an opening is allowed
@@ -83,13 +83,6 @@ opens-some hash m store now output o is told =
       inl ((o.0, (found.0, found.1)), (found.0, found.1, told ∙ ap (λ (n : ℕ). says.Opened n) found.2, refl)),
       subst (λ (x : Core). IsCore hash x next) (sym is) found.3,
     )
-
--- no transaction was placed over a tree larger than all of them
-linked-all : (history : List Transaction) → IsHistory history → All (λ tx. tx.bl ≤ length history) history
-linked-all history is = λ i d less.
-    let tx : IsTransaction (0 + i) (get_or history i d) = Follow-at 0 0 history i d is.follow less in
-    let linked : (get_or history i d).bl ≤ 0 + i = tx.linked in
-    omega (arith, linked, less)
 
 -- the parts behind an opening are those of the machine behind it
 opened-up : (hash : Hash) (m : Machine) (history : List Transaction) (batches : List (List Record)) (store : OpenStore) → IsHistory history → IsOpened hash m.disk history batches store

@@ -1,6 +1,6 @@
 -- Placing, linking and indexing.
 use Rattle.std.proofs.Common.{◌≡◌, ◌<◌, ◌≤◌, ◌+◌, ◌-◌, ◌==◌, ◌∙◌, ℕ, suc, ℤ, List, [], ◌∷◌, ◌++◌, length, take, get_or, true, refl, sym, ap, subst, arith, inl, All, Option, Some, None, length-append, if◌then◌else◌}
-use Rattle.std.proofs.lemmas.List.{get_or-map, length-take-le, take-append-le, take-take, take_more}
+use Rattle.std.proofs.lemmas.List.{get_or-map, take-append-le, take_more}
 use Rattle.std.proofs.lemmas.List.Elements.{All-push, All-weaker}
 use Rattle.im_book.specs.Booked.{last_bl, last_bl_or, Booked, IsBook}
 use Rattle.im_core.specs.Parts.{tells, Answers, IsAsFar, IsUp}
@@ -19,8 +19,7 @@ use Rattle.im_machine.specs.Steps.{Places, Steps}
 use Rattle.im_machine.specs.declared.events.Event.TheVariants as on
 use Rattle.im_machine.specs.declared.outputs.Output.TheVariants as says
 use Rattle.im_model.specs.Headers.{alh}
-use Rattle.im_model.specs.History.{alhs_of, bl_root_of, header_of, next_header, no_digest, no_transaction, transaction_of, IsHistory}
-use Rattle.im_model.specs.Trees.{root}
+use Rattle.im_model.specs.History.{alhs_of, header_of, next_header, no_transaction, transaction_of, IsHistory}
 use Rattle.im_model.specs.declared.headers.Header.{Header}
 use Rattle.im_model.specs.declared.transactions.Transaction.{Transaction}
 use Rattle.im_model.proofs.HeaderLemmas.{alhs-next}
@@ -37,12 +36,6 @@ last-least bl most (t ∷ txs) le each = last-least t.bl most txs (each 0 t (ome
 
 pub last-within : (most : ℕ) (txs : List Transaction) → All (λ t. t.bl ≤ most) txs → last_bl txs ≤ most
 last-within most txs each = last-least 0 most txs (omega arith) each
-
--- the root of a tree of the first Alh is that at their number
-pub root-front : (hash : Hash) (alhs : List (List ℕ)) (n : ℕ) → n ≤ length alhs → bl_root_of hash (take n alhs) (length (take n alhs)) ≡ bl_root_of hash alhs n
-root-front hash alhs n within =
-    ap (λ (k : ℕ). bl_root_of hash (take n alhs) k) (length-take-le n alhs within)
-    ∙ ap (λ (l : List (List ℕ)). if n == 0 then no_digest else root hash l) (take-take n n alhs (omega arith))
 
 -- what the journal has of the history stays as the history goes on
 far-longer : (hash : Hash) (placed more : List Transaction) (batches : List (List Record)) (progress : Option Progress) (k : Kept Recorded) → IsHistory (placed ++ more)

@@ -1,11 +1,11 @@
 -- Keys that differ: one by one as they are read, and pair by pair.
 use Rattle.std.proofs.Common.{◌≡◌, ◌≢◌, ◌+◌, suc, zero, ℕ, List, [], ◌∷◌, ◌++◌, length, refl, ap, ◌∙◌, arith, true, false, if◌then◌else◌, All, AllPairs, inl, inr}
 use Rattle.std.specs.Prelude.{bytes_eq}
-use Rattle.std.proofs.lemmas.Bool.{cases_Bool, false_from_ne_true}
+use Rattle.std.proofs.lemmas.Bool.{cases_Bool}
 use Rattle.std.proofs.lemmas.Slice.Eq.{bytes_eq-Decides}
 use Rattle.im_model.specs.declared.entries.Entry.{Entry}
 use Rattle.im_format.specs.Damages.{index_of}
-use Rattle.im_octet.proofs.Common.{bytes-same}
+use Rattle.im_octet.proofs.Common.{bytes-same, bytes-other}
 
 -- the key is none of these
 abbrev pub IsFresh : List ℕ → List (List ℕ) → Type 0
@@ -19,9 +19,6 @@ AreApart keys (entry ∷ entries) = IsFresh entry.key keys × AreApart (keys ++ 
 
 pub same-bytes : (a b : List ℕ) → bytes_eq a b ≡ true → a ≡ b
 same-bytes a b e = (bytes_eq-Decides a b).0 e
-
-bytes-other : (a b : List ℕ) → a ≢ b → bytes_eq a b ≡ false
-bytes-other a b ne = false_from_ne_true (bytes_eq a b) (λ e. ne (same-bytes a b e))
 
 -- a key that is none of these has no number among them
 pub fresh-index : (key : List ℕ) (keys : List (List ℕ)) → IsFresh key keys → index_of key keys ≡ length keys

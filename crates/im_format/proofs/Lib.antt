@@ -1,4 +1,3 @@
-pub mod AllLemmas
 pub mod BatchReads
 pub mod BatchesBack
 pub mod EmptyLemmas

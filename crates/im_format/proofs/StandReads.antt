@@ -15,7 +15,6 @@ use Rattle.im_format.specs.Spans.{Reads, octet_span}
 use Rattle.im_format.specs.Standing.{Stands}
 use Rattle.im_format.specs.declared.records.Record.{Record}
 use Rattle.im_format.specs.declared.spans.Span.{Span}
-use Rattle.im_format.proofs.AllLemmas.{all-left, all-right}
 use Rattle.im_format.proofs.BatchReads.{BatchesRead, batches-read}
 use Rattle.im_format.proofs.HeldBatches.{HoldsBatches}
 use Rattle.im_format.proofs.HeldRecords.{Has32, grown_by, length-grown_by, place-grown_by}
@@ -24,6 +23,7 @@ use Rattle.im_format.proofs.StandSplits.{Goes, SplitRecords, reads-holds, record
 use Rattle.im_octet.proofs.FieldLemmas.{length-field8}
 use Rattle.im_format.proofs.LengthLemmas.{length-record}
 use Rattle.im_mtree.proofs.CheckLemmas.{none-fails}
+use Rattle.im_octet.proofs.Common.{all-left, all-right}
 
 -- the octets of a batch that is filled
 fields-some : (first count end : ℕ) → 1 ≤ length (batch_fields first count end)

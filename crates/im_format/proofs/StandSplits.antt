@@ -20,13 +20,13 @@ use Rattle.im_format.specs.Standing.{LiesIn}
 use Rattle.im_format.specs.declared.records.Record.{Record}
 use Rattle.im_format.specs.declared.references.ValueRef.{ValueRef}
 use Rattle.im_format.specs.declared.spans.Span.{Span}
-use Rattle.im_format.proofs.AllLemmas.{all-left, all-right}
 use Rattle.im_format.proofs.EntryLemmas.{entry-split}
 use Rattle.im_format.proofs.HeldEntries.{HoldsEntries, entries_end, entry_end}
 use Rattle.im_format.proofs.HeldRecords.{Has32, HoldsRecord, HoldsRecords, grown, grown_by, entries-end, length-grown}
 use Rattle.im_format.proofs.HoldLemmas.{Holds, holds-at, holds-left, holds-right}
 use Rattle.im_format.proofs.LengthLemmas.{length-entry}
 use Rattle.im_octet.proofs.FieldLemmas.{length-field4, length-field8, length-signed}
+use Rattle.im_octet.proofs.Common.{all-left, all-right}
 
 -- octets that are read lie within the file, where there are any
 pub reads-holds : (image : Files) (s : Span) → 1 ≤ length s.octets → Reads image s → Holds (image s.file) s.at s.octets

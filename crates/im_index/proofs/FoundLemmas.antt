@@ -2,8 +2,8 @@
 use Rattle.std.proofs.Common.{◌≡◌, ◌≤◌, ◌+◌, ◌-◌, ◌*◌, ℕ, Bool, true, false, ◌&&◌, cond, List, [], ◌∷◌, ◌++◌, length, get_or, take, drop, nat_le, refl, arith, ap, sym, subst, ◌∙◌, inl, inr, Option, Some, None}
 use Rattle.std.proofs.lemmas.Bool.{and_from, and_parts, and_right, both_ways, cases_Bool, cases_lt, cond-false, false_from_ne_true, false≢true, true≢false}
 use Rattle.std.proofs.lemmas.Cmp.{nat_list_cmp_total, tied_itself}
-use Rattle.std.proofs.lemmas.List.{append-nil, get_or-drop, get_or_append_left, get_or_at, get_or_read, length-append, length-drop, nil_from_length, take-append-drop, take_more}
-use Rattle.std.proofs.lemmas.List.Elements.{filter-append, filter_agree}
+use Rattle.std.proofs.lemmas.List.{append-nil, get_or-drop, get_or_at, get_or_read, length-append, length-drop, nil_from_length, take-append-drop, take_more}
+use Rattle.std.proofs.lemmas.List.Elements.{filter-append}
 use Rattle.std.proofs.lemmas.Slice.Eq.{bytes_eq-Decides}
 use Rattle.std.specs.Cmp.Lexicographic.{slice_cmp}
 use Rattle.std.specs.List.{All, filter, last_or}
@@ -15,7 +15,7 @@ use Rattle.im_model.specs.declared.transactions.Transaction.{Transaction}
 use Rattle.im_versions.specs.Versions.{all_versions, is_of, last_version, versions_of}
 use Rattle.im_versions.specs.declared.versions.Version.{Version}
 use Rattle.im_versions.proofs.ListLemmas.{filter-none}
-use Rattle.im_octet.proofs.Common.{last-push}
+use Rattle.im_octet.proofs.Common.{last-push, all-left, filter-swap}
 use Rattle.im_versions.proofs.ScanLemmas.{same-key}
 use Rattle.im_versions.proofs.VersionLemmas.{versions-upto}
 use Rattle.im_index.specs.Marks.{found, is_upto, numbered, upto_by}
@@ -50,13 +50,6 @@ filter-both {X} p q (x ∷ xs) =
           ∙ sym (cond-false (p x && q x) (x ∷ rest) rest (and_right (p x) (q x) unmet)))
     ]
 
--- in either order
-pub filter-turned : {X : Type 0} (p q : X → Bool) (xs : List X) → filter p (filter q xs) ≡ filter q (filter p xs)
-filter-turned {X} p q xs =
-    filter-both p q xs
-    ∙ filter_agree (λ (x : X). p x && q x) (λ (x : X). q x && p x) (λ x. and-turned (p x) (q x)) xs
-    ∙ sym (filter-both q p xs)
-
 -- it is a version of the key, and its number is at most n
 abbrev pub is_found : List ℕ → ℕ → Version → Bool
 is_found key n v = is_of key v && nat_le v.tx n
@@ -78,9 +71,9 @@ pub found-held : (runs : List (List Version)) (history : List Transaction) (key 
     → found key n (joined runs) ≡ versions_of (take n history) key
 found-held runs history key n are =
     let p : Version → Bool = λ v. nat_le v.tx n in
-    filter-turned (is_of key) p (joined runs)
+    filter-swap (is_of key) p (joined runs)
     ∙ ap (filter p) (held-same runs (all_versions history) key are.holds)
-    ∙ filter-turned p (is_of key) (all_versions history)
+    ∙ filter-swap p (is_of key) (all_versions history)
     ∙ found-versions history key n
 
 -- the last of them is the key's last version
@@ -224,10 +217,6 @@ pub record IsLooked (runs older : List (List Version)) (key : List ℕ) (n old s
 pub looked-first : (runs : List (List Version)) (key : List ℕ) (n old : ℕ) → All (IsSorted numbered) runs → IsLooked runs runs key n old old
 looked-first runs key n old sorted = record { sorted = sorted; last = refl; cost = λ b all. (all, omega arith) }
 
--- what holds of each of some items holds of those in front
-pub all-front : {X : Type 0} (P : X → Type 0) (xs ys : List X) → All P (xs ++ ys) → All P xs
-all-front P xs ys all = λ k d l. subst P (get_or_append_left xs ys d k l) (all k d (omega (arith, length-append xs ys)))
-
 -- and of the last
 pub all-last : {X : Type 0} (P : X → Type 0) (xs : List X) (x : X) → All P (xs ++ x ∷ []) → P x
 all-last P xs x all = subst P (get_or_at xs x [] x (length xs) refl) (all (length xs) x (omega (arith, length-append xs (x ∷ []))))
@@ -249,14 +238,14 @@ looked-cost runs older before run key n old steps more so split step b fits =
     let all : All P (before ++ run ∷ []) = subst (λ (rs : List (List Version)). All P rs) split now.0 in
     let here : more ≤ steps + (b + 1) = step b (all-last P before run all) in
     let long : length older ≡ length before + 1 = ap length split ∙ length-append before (run ∷ []) in
-    (all-front P before (run ∷ []) all, omega (arith, now.1, here, ap (λ (m : ℕ). m * (b + 1)) long))
+    (all-left P before (run ∷ []) all, omega (arith, now.1, here, ap (λ (m : ℕ). m * (b + 1)) long))
 
 -- none was found in it
 pub looked-next : (runs older before : List (List Version)) (run : List Version) (key : List ℕ) (n old steps more : ℕ) → IsLooked runs older key n old steps
     → older ≡ before ++ run ∷ [] → last_or None (found key n run) ≡ None → ((b : ℕ) → HasDigits b (length run) → more ≤ steps + (b + 1))
     → IsLooked runs before key n old more
 looked-next runs older before run key n old steps more so split none step = record {
-  sorted = all-front (IsSorted numbered) before (run ∷ []) (subst (λ (rs : List (List Version)). All (IsSorted numbered) rs) split so.sorted);
+  sorted = all-left (IsSorted numbered) before (run ∷ []) (subst (λ (rs : List (List Version)). All (IsSorted numbered) rs) split so.sorted);
   last = so.last ∙ found-older key n older before run split none;
   cost = looked-cost runs older before run key n old steps more so split step;
 }

@@ -11,9 +11,10 @@ use Rattle.im_versions.specs.declared.versions.Version.{Version}
 use Rattle.im_index.specs.Indexed.{AreRunsOf}
 use Rattle.im_index.specs.Marks.{found}
 use Rattle.im_index.specs.Newest.{HasNewest, Newest, PutsNewest, last_of}
-use Rattle.im_index.proofs.FoundLemmas.{filter-both, filter-turned, found-last}
+use Rattle.im_index.proofs.FoundLemmas.{filter-both, found-last}
 use Rattle.im_index.proofs.HoldLemmas.{joined, joined-push}
 use Rattle.im_index.proofs.MapLemmas.{HasNewest-put}
+use Rattle.im_octet.proofs.Common.{filter-swap}
 
 -- a version's number is at most n
 abbrev pub is_within : ℕ → Version → Bool
@@ -84,7 +85,7 @@ filter-within {X} p q xs through =
 looked_at-key : (prefix key : List ℕ) (n : ℕ) (runs : List (List Version)) → begins_with prefix key ≡ true
     → filter (is_of key) (looked_at prefix n runs) ≡ found key n (joined runs)
 looked_at-key prefix key n runs begins =
-    ap (filter (is_of key)) (filter-turned (is_within n) (is_begun prefix) (joined runs))
+    ap (filter (is_of key)) (filter-swap (is_within n) (is_begun prefix) (joined runs))
     ∙ filter-within (is_of key) (is_begun prefix) (filter (is_within n) (joined runs)) (λ v own.
     subst (λ (k : List ℕ). begins_with prefix k ≡ true) (sym ((bytes_eq-Decides v.key key).0 own)) begins)
 

@@ -10,7 +10,7 @@ use Rattle.std.specs.Cmp.{IsStrictWeakOrder, IsTotalOrder}
 use Rattle.std.specs.Cmp.Lexicographic.{slice_cmp}
 use Rattle.std.specs.List.{filter}
 use Rattle.std.specs.List.Sorted.{IsNonDecreasingBy, IsPartitionedBy, IsSorted, IsSortedBy, ties}
-use Rattle.std.specs.Ordering.{is_eq, is_gt, is_lt, nat_cmp, ordering_reverse, ordering_then}
+use Rattle.std.specs.Ordering.{is_gt, is_lt, nat_cmp, ordering_reverse, ordering_then}
 use Rattle.std.specs.declared.cmp.Ordering.{Ordering}
 use Rattle.std.specs.declared.cmp.Ordering.TheVariants.{Less, Equal, Greater}
 use Rattle.im_model.specs.declared.transactions.Transaction.{Transaction}
@@ -19,6 +19,7 @@ use Rattle.im_versions.specs.declared.versions.Version.{Version}
 use Rattle.im_index.proofs.FrontLemmas.{versions-parted}
 use Rattle.im_index.specs.Marks.{is_upto, numbered, upto_by}
 use Rattle.im_index.specs.Runs.{IsRunOf}
+use Rattle.im_octet.proofs.Common.{tied-by}
 
 -- the key of the first is below that of the second
 abbrev pub by_key : Version → Version → Bool
@@ -140,11 +141,6 @@ run-sorted run part is rise k d low l =
     and_from (not (by_key x y)) (not (by_key y x)) (ap (λ o. not (is_lt o)) back) (ap (λ o. not (is_lt o)) same) in
     ltb-false y.tx x.tx
     (ties_stay_sorted (λ (a b : Version). ltb a.tx b.tx) by_key (IsStrictWeakOrder-by_number (λ (v : Version). v.tx)) by_key-order part run up is.stable k d l tie))
-
-tied-by : (o : Ordering) → (not (is_lt (ordering_reverse o)) && not (is_lt o)) ≡ is_eq o
-tied-by Less = refl
-tied-by Equal = refl
-tied-by Greater = refl
 
 -- what ties with a key is of that key
 tied-is : (key : List ℕ) (v : Version) → ties by_key (mark key 0) v ≡ is_of key v

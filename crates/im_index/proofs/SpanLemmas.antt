@@ -1,7 +1,7 @@
 -- The versions of a key in a run stand beside each other: between the place of number 0 and that of n.
 use Rattle.std.proofs.Common.{◌≡◌, ◌<◌, ◌≤◌, ◌+◌, ◌-◌, ℕ, Bool, true, false, List, [], ◌∷◌, ◌++◌, length, get_or, take, drop, nat_le, refl, arith, ap, sym, subst, ◌∙◌, inl, inr}
 use Rattle.std.proofs.lemmas.Bool.{and_from, and_parts, both_ways, cases_lt, false_from_ne_true, false≢true, le-leb, leb-true}
-use Rattle.std.proofs.lemmas.List.{append-nil, get_or-append-add, get_or-drop, get_or-take, length-append, length-drop, length-take, take-append-drop, take_more}
+use Rattle.std.proofs.lemmas.List.{append-nil, get_or-drop, get_or-take, length-drop, length-take, take-append-drop, take_more}
 use Rattle.std.proofs.lemmas.List.Elements.{All-cons, All-nil, All-weaker, filter-append}
 use Rattle.std.proofs.lemmas.List.Sorted.{All-permutation}
 use Rattle.std.proofs.lemmas.Slice.Eq.{bytes_eq-Decides}
@@ -19,13 +19,10 @@ use Rattle.im_versions.proofs.VersionLemmas.{versions-within}
 use Rattle.im_index.specs.Marks.{found, is_upto, upto_by}
 use Rattle.im_index.specs.Indexed.{AreRunsOf}
 use Rattle.im_index.specs.Runs.{IsRunOf}
-use Rattle.im_index.proofs.FoundLemmas.{IsPlace, all-front, behind-not-found, found-append, found-is, is_found, upto-number}
+use Rattle.im_index.proofs.FoundLemmas.{IsPlace, behind-not-found, found-append, found-is, is_found, upto-number}
 use Rattle.im_index.proofs.HoldLemmas.{joined, joined-push}
 use Rattle.im_index.proofs.OrderLemmas.{mark}
-
--- what holds of two lists holds of the second
-all-behind : {X : Type 0} (P : X → Type 0) (xs ys : List X) → All P (xs ++ ys) → All P ys
-all-behind P xs ys all = λ k d l. subst P (get_or-append-add xs ys k d) (all (length xs + k) d (omega (arith, length-append xs ys)))
+use Rattle.im_octet.proofs.Common.{all-left, all-right}
 
 -- what holds of all versions holds of each run's
 all-parts : (P : Version → Type 0) (runs parts : List (List Version)) → AllZip IsRunOf runs parts → All P (joined parts) → All (λ run. All P run) runs
@@ -34,8 +31,8 @@ all-parts P [] (p ∷ ps) each all = absurd each
 all-parts P (r ∷ rs) [] each all = absurd each
 all-parts P (r ∷ rs) (p ∷ ps) each all =
     All-cons (λ (run : List Version). All P run) r rs
-    (All-permutation P p r each.0.moved (all-front P p (joined ps) all))
-    (all-parts P rs ps each.1 (all-behind P p (joined ps) all))
+    (All-permutation P p r each.0.moved (all-left P p (joined ps) all))
+    (all-parts P rs ps each.1 (all-right P p (joined ps) all))
 
 -- no version of a history's runs has number 0
 pub runs-numbered : (runs : List (List Version)) (history : List Transaction) → AreRunsOf runs history → All (λ run. All (λ (v : Version). 0 < v.tx) run) runs

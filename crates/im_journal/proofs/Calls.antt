@@ -1,7 +1,7 @@
 -- What each device call of a batch leaves.
-use Rattle.std.proofs.Common.{◌≡◌, ℕ, ◌+◌, ◌≤◌, ◌<◌, List, [], ◌∷◌, ◌++◌, length, get_or, take, drop, refl, sym, ◌∙◌, ap, subst, arith, inl, inr, append_assoc, length-take, length-drop}
-use Rattle.std.proofs.lemmas.List.{take_at, drop_more, take_more}
-use Rattle.std.proofs.lemmas.List.Elements.{All-weaker, All-nil, All-cons, All-head, All-tail, All-append, All-take}
+use Rattle.std.proofs.Common.{◌≡◌, ℕ, ◌+◌, ◌≤◌, ◌<◌, List, [], ◌∷◌, ◌++◌, length, get_or, take, drop, sym, ◌∙◌, ap, subst, arith, inl, inr, append_assoc, length-take, length-drop}
+use Rattle.std.proofs.lemmas.List.{drop_more, take_more}
+use Rattle.std.proofs.lemmas.List.Elements.{All-weaker, All-nil, All-cons, All-head, All-tail, All-append}
 use Rattle.std.specs.Prelude.{All, Option, IfSome}
 use Rattle.im_disk.specs.Disk.{Files, Told, Images, LiesWithin, TornFile, seen, after}
 use Rattle.im_disk.specs.declared.calls.Call.TheVariants.{Wrote, Synced}
@@ -12,7 +12,7 @@ use Rattle.im_format.specs.declared.spans.Span.{Span}
 use Rattle.im_alog.proofs.Torn.{keeps_all, same_all, same_reads, written_reads}
 use Rattle.im_journal.specs.Phases.{IsClosed, IsSafe, IsClear, AreClear, IsStaging, IsSealed, IsEither, IsGated, IsDone}
 use Rattle.im_journal.proofs.Torn.{keeps_long, keeps_safe, same_long, same_safe}
-use Rattle.im_format.proofs.AllLemmas.{all-left}
+use Rattle.im_octet.proofs.Common.{all-left}
 
 clear_front : (spans done : List Span) (gate : ℕ) (p : Span) → IsClear (spans ++ done) gate p → IsClear spans gate p
 clear_front spans done gate p c = record { misses = all-left (Misses p.file p.at (length p.octets)) spans done c.misses; behind = c.behind }

@@ -19,7 +19,7 @@ use Rattle.im_journal.specs.Pieces.{end_of, log_pieces, pieces_of, value_piece}
 use Rattle.im_journal.specs.declared.ends.Ends.{Ends}
 use Rattle.im_journal.proofs.Prefixes.{octets_more, refs_more}
 use Rattle.im_format.proofs.LengthLemmas.{length-fields}
-use Rattle.im_format.proofs.AllLemmas.{all-left, all-right}
+use Rattle.im_octet.proofs.Common.{all-left, all-right}
 
 -- the span lies below the end of its file
 pub record IsBelow (ends : ℕ → ℕ) (s : Span) : Type 0 where

@@ -59,7 +59,7 @@ settle_here {D} told hash history batches rs k now is mid gated b call =
     call (at_step told hash history batches rs k m Gated (ap (λ (x : Kept D). x.batch.step) is ∙ gated))
 
 -- an image without the batch, or with it, stands for a front part that holds what is durable
-from_either : (hash : Hash) (history : List Transaction) (durable count : ℕ) (image : Files) → durable ≤ length history → durable + count ≤ length history
+pub from_either : (hash : Hash) (history : List Transaction) (durable count : ℕ) (image : Files) → durable ≤ length history → durable + count ≤ length history
     → Stands hash image (take durable history) ⊎ Stands hash image (take (durable + count) history) → StandsFrom hash durable history image
 from_either hash history durable count image placed more (inl h) = record { count = durable; no_fewer = omega arith; no_more = placed; stands = h }
 from_either hash history durable count image placed more (inr h) = record { count = durable + count; no_fewer = omega arith; no_more = more; stands = h }

@@ -19,13 +19,13 @@ use Rattle.im_journal.proofs.Limits.{first_number}
 use Rattle.im_journal.proofs.Prefixes.{alh_front}
 
 -- what follows doesn't change an Alh
-alh_longer : (hash : Hash) (history more : List Transaction) (k : ℕ) → 1 ≤ k → k ≤ length history → alh_of hash history k ≡ alh_of hash (history ++ more) k
+pub alh_longer : (hash : Hash) (history more : List Transaction) (k : ℕ) → 1 ≤ k → k ≤ length history → alh_of hash history k ≡ alh_of hash (history ++ more) k
 alh_longer hash history more k one le =
     ap (λ (h : List Transaction). alh_of hash h k) (sym (take_at history more (length history) refl))
     ∙ alh_front hash (history ++ more) (length history) k one le
 
 -- nor the records
-records_longer : (hash : Hash) (history more : List Transaction) (id : ℕ) (rs : List Record) → 1 ≤ id → id + length rs ≤ length history + 1
+pub records_longer : (hash : Hash) (history more : List Transaction) (id : ℕ) (rs : List Record) → 1 ≤ id → id + length rs ≤ length history + 1
     → AreRecords hash history id rs → AreRecords hash (history ++ more) id rs
 records_longer hash history more id [] one le are = tt
 records_longer hash history more id (r ∷ rs) one le are = (
@@ -83,7 +83,7 @@ batch_longer told hash history more batches rs k is mid = record {
 }
 
 -- nor which images stand for a front part of it
-front_longer : (hash : Hash) (history more : List Transaction) (least : ℕ) (image : Files) → StandsFrom hash least history image → StandsFrom hash least (history ++ more) image
+pub front_longer : (hash : Hash) (history more : List Transaction) (least : ℕ) (image : Files) → StandsFrom hash least history image → StandsFrom hash least (history ++ more) image
 front_longer hash history more least image from = record {
   count = from.count;
   no_fewer = from.no_fewer;

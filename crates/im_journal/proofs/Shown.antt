@@ -25,7 +25,7 @@ use Rattle.im_journal.specs.declared.batches.Step.TheVariants.{Idle, Staging, St
 use Rattle.im_vlog.specs.Showing.{IsCorrupt, shown}
 use Rattle.im_vlog.specs.declared.showing.ValueError.{ValueError}
 use Rattle.im_vlog.specs.declared.showing.ValueError.TheVariants.{Corrupt}
-use Rattle.im_format.proofs.AllLemmas.{all-left, all-right}
+use Rattle.im_octet.proofs.Common.{all-left, all-right}
 
 values_both : (a b : List Record) → values_spans (a ++ b) ≡ values_spans a ++ values_spans b
 values_both [] b = refl

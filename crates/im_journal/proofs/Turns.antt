@@ -24,7 +24,7 @@ use Rattle.im_journal.proofs.Limits.{durable_few, first_number}
 use Rattle.im_journal.proofs.Placing.{IsIn, records_in, refs_below}
 use Rattle.im_journal.proofs.Prefixes.{joined_more, records_both, records_front}
 use Rattle.im_journal.proofs.Whole.{batch_safe}
-use Rattle.im_format.proofs.AllLemmas.{all-right}
+use Rattle.im_octet.proofs.Common.{all-right}
 
 module _ (hash : Hash) (history : List Transaction) (batches : List (List Record)) (durable : ℕ) (first : AreFirst hash history batches durable (ends_of batches)) where
   all_in : All (IsIn (1048576 * 2 ^ 22)) (refs_of (joined batches))

@@ -3,7 +3,6 @@ use Rattle.std.proofs.Common.{◌≡◌, ℕ, suc, zero, ◌+◌, ◌*◌, ◌�
 use Rattle.std.proofs.lemmas.List.{append-nil}
 use Rattle.std.proofs.lemmas.List.Elements.{All-cons, All-head, All-tail, All-append}
 use Rattle.std.specs.Prelude.{All, if◌then◌else◌}
-use Rattle.im_octet.specs.Fields.{field8}
 use Rattle.im_digest.specs.Digests.{Hash}
 use Rattle.im_disk.specs.Disk.{Files}
 use Rattle.im_model.specs.declared.transactions.Transaction.{Transaction}
@@ -23,8 +22,8 @@ use Rattle.im_journal.proofs.Limits.{first_number}
 use Rattle.im_journal.proofs.Parts.{back_reads, front_reads, none_reads, reads_at, reads_long}
 use Rattle.im_journal.proofs.Placing.{records_end, values_read}
 use Rattle.im_journal.proofs.Prefixes.{joined_more, octets_more, refs_more}
-use Rattle.im_format.proofs.AllLemmas.{all-left, all-right}
 use Rattle.im_format.proofs.LengthLemmas.{length-fields}
+use Rattle.im_octet.proofs.Common.{all-left, all-right}
 
 same_batch : (g g2 i i2 e e2 : ℕ) (batch : List Record) → g ≡ g2 → i ≡ i2 → e ≡ e2 → batch_spans g i e batch ≡ batch_spans g2 i2 e2 batch
 same_batch g g2 i i2 e e2 batch p q r =

@@ -19,10 +19,9 @@ use Rattle.im_journal.proofs.Mids.{rest_stands, safe_stands}
 use Rattle.im_model.specs.Headers.{alh}
 use Rattle.im_model.specs.History.{alh_of, alhs_of, next_header}
 use Rattle.im_model.specs.declared.transactions.Transaction.{Transaction}
-use Rattle.im_model.proofs.HistoryLemmas.{length-alhs_of}
+use Rattle.im_model.proofs.HistoryLemmas.{length-alhs_of, alh-at}
 use Rattle.im_model.proofs.HeaderLemmas.{alhs-next}
 use Rattle.im_ledger.specs.Histories.{IsKept, KeptHistory, StandsWithin}
-use Rattle.im_ledger.proofs.ReadLemmas.{alh-at}
 
 -- the Alh of one transaction more
 alh-next : (hash : Hash) (history : List Transaction) (tx : Transaction) → alh_of hash (history ++ tx ∷ []) (length history + 1) ≡ alh hash (next_header hash (alhs_of hash history) tx)

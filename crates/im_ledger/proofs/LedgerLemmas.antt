@@ -5,10 +5,10 @@ use Rattle.std.proofs.lemmas.List.Elements.{All-nil, All-push}
 use Rattle.im_digest.specs.Digests.{Hash}
 use Rattle.im_levels.specs.Leveled.{IsLeveled, Stored}
 use Rattle.im_model.specs.Headers.{alh}
-use Rattle.im_model.specs.History.{alhs_of, header_of, next_header, no_transaction, Follow, IsTransaction}
+use Rattle.im_model.specs.History.{alhs_of, header_of, next_header, no_transaction, IsTransaction}
 use Rattle.im_model.specs.declared.headers.Header.{Header}
 use Rattle.im_model.specs.declared.transactions.Transaction.{Transaction}
-use Rattle.im_model.proofs.HistoryLemmas.{length-alhs_of}
+use Rattle.im_model.proofs.HistoryLemmas.{length-alhs_of, Follow-onward}
 use Rattle.im_proof.specs.Built.{headers_of}
 use Rattle.im_model.proofs.HeaderLemmas.{alhs-next, next-bl}
 use Rattle.im_proof.proofs.HeaderLemmas.{headers-length, headers-next, headers-nth}
@@ -29,18 +29,6 @@ held-same P a b transactions headers alhs tree levels p =
     let D : List (List ℕ) → Type 0 = λ ds. P (record { transactions = b.transactions; headers = b.headers; alhs = b.alhs; tree = ds; levels = a.levels }) in
     let E : Stored → Type 0 = λ k. P (record { transactions = b.transactions; headers = b.headers; alhs = b.alhs; tree = b.tree; levels = k }) in
     subst A (sym transactions) (subst B (sym headers) (subst C (sym alhs) (subst D (sym tree) (subst E (sym levels) p))))
-
--- a transaction behind others that were placed over no larger trees
-pub Follow-onward : (n bl : ℕ) (txs : List Transaction) (tx : Transaction) → Follow n bl txs → bl ≤ tx.bl → All (λ t. t.bl ≤ tx.bl) txs → IsTransaction (n + length txs) tx → Follow n bl (txs ++ tx ∷ [])
-Follow-onward n bl [] tx f below each is =
-    let same : n + 0 ≡ n = omega arith in
-    let P : ℕ → Type 0 = λ m. IsTransaction m tx in
-    (subst P same is, below, tt)
-Follow-onward n bl (t ∷ txs) tx f below each is =
-    let same : n + suc (length txs) ≡ n + 1 + length txs = omega arith in
-    let P : ℕ → Type 0 = λ m. IsTransaction m tx in
-    let head : t.bl ≤ tx.bl = each 0 t (omega arith) in
-    (f.0, f.1, Follow-onward (n + 1) t.bl txs tx f.2 head (λ i d h. each (suc i) d (omega arith)) (subst P same is))
 
 -- the lists with those of one transaction more
 abbrev pub grown_by : Hash → Held → Transaction → Held

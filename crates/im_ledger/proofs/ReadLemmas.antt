@@ -1,28 +1,17 @@
 -- The ledger of a history that was found.
-use Rattle.std.proofs.Common.{◌≡◌, ◌≤◌, ◌+◌, ◌-◌, ℕ, List, [], length, get_or, refl, arith, ap, subst, ◌∙◌, sym, ne_eqb, if◌then◌else◌, All}
+use Rattle.std.proofs.Common.{◌≡◌, ◌≤◌, ◌+◌, ◌-◌, ℕ, List, [], length, refl, arith, subst, ◌∙◌, sym, if◌then◌else◌}
 use Rattle.std.proofs.Math.Seq.{take-length}
 use Rattle.im_digest.specs.Digests.{Hash}
 use Rattle.im_levels.specs.Leveled.{IsLeveled, Stored}
-use Rattle.im_model.specs.History.{alh_of, alhs_of, first_alh, IsHistory}
+use Rattle.im_model.specs.History.{alhs_of, IsHistory}
 use Rattle.im_model.specs.declared.transactions.Transaction.{Transaction}
-use Rattle.im_model.proofs.HistoryLemmas.{Follow-at, length-alhs_of}
+use Rattle.im_model.proofs.HistoryLemmas.{length-alhs_of, linked-all}
 use Rattle.im_proof.specs.Built.{headers_of}
 use Rattle.im_opening.specs.Opening.{IsOneHistory}
 use Rattle.im_opening.specs.Reach.{txs_of}
 use Rattle.im_opening.specs.declared.found.FoundHistory.{FoundHistory}
 use Rattle.im_ledger.specs.Ledgers.{Held, IsLedger}
 use Rattle.im_ledger.proofs.LedgerLemmas.{held-same}
-
--- the Alh of a number from 1 on
-pub alh-at : (hash : Hash) (history : List Transaction) (n : ℕ) → alh_of hash history (n + 1) ≡ get_or (alhs_of hash history) n []
-alh-at hash history n =
-    let place : n + 1 - 1 ≡ n = omega arith in
-    ap (λ b. if b then first_alh hash else get_or (alhs_of hash history) (n + 1 - 1) []) (ne_eqb (n + 1) 0 (λ e. omega arith))
-    ∙ ap (λ (i : ℕ). get_or (alhs_of hash history) i []) place
-
--- no transaction of a history has a larger tree than the whole
-linked-all : (txs : List Transaction) → IsHistory txs → All (λ tx. tx.bl ≤ length txs) txs
-linked-all txs h = λ i d lt. omega (arith, lt, (Follow-at 0 0 txs i d h.follow lt).linked)
 
 -- the lists of a history whose tree has it all, and this kept of the tree
 abbrev full : Hash → List Transaction → Stored → Held

@@ -1,15 +1,15 @@
 -- The tree of a list that goes on, and its root.
-use Rattle.std.proofs.Common.{◌≡◌, ℕ, ◌+◌, ◌≤◌, ◌<◌, ◌==◌, List, [], ◌∷◌, ◌++◌, length, take, drop, refl, ap, sym, subst, ◌∙◌, arith, ne_eqb, if◌then◌else◌}
-use Rattle.std.proofs.Math.Seq.{take-add, take-length}
-use Rattle.std.proofs.lemmas.List.{length-take, length-take-le}
+use Rattle.std.proofs.Common.{◌≡◌, ℕ, ◌+◌, ◌≤◌, ◌<◌, ◌==◌, List, [], ◌∷◌, ◌++◌, length, take, drop, refl, ap, sym, subst, ◌∙◌, arith, if◌then◌else◌}
+use Rattle.std.proofs.Math.Seq.{take-add}
+use Rattle.std.proofs.lemmas.List.{length-take}
 use mathlib.Core.List.{IsPrefix}
 use Rattle.im_digest.specs.Digests.{Hash}
 use Rattle.im_levels.specs.Leveled.{IsLeveled, Stored}
 use Rattle.im_model.specs.Headers.{alh}
-use Rattle.im_model.specs.History.{alhs_from, bl_root_of, next_header, no_digest}
+use Rattle.im_model.specs.History.{alhs_from, bl_root_of, next_header}
 use Rattle.im_model.specs.Trees.{root}
 use Rattle.im_model.specs.declared.transactions.Transaction.{Transaction}
-use Rattle.im_model.proofs.HistoryLemmas.{length-alhs_of}
+use Rattle.im_model.proofs.HistoryLemmas.{length-alhs_of, root-of-first}
 use Rattle.im_table.specs.Histories.{history_of}
 use Rattle.im_table.specs.declared.items.LogItem.{LogItem}
 use Rattle.im_table.proofs.FrontLemmas.{prefix_self, prefix_trans}
@@ -68,21 +68,9 @@ tree_linked hash before mine all alhs old new h p q next le size leveled =
     ∙ sym (take-add n m leaves) ∙ ap (λ (k : ℕ). take k leaves) (sym size) in
     subst (λ (l : List (List ℕ)). IsLeveled hash l new) seam leveled
 
--- the root over the first leaves, told of them alone
-pub first_root : (hash : Hash) (leaves : List (List ℕ)) (n : ℕ) → n ≤ length leaves → bl_root_of hash (take n leaves) (length (take n leaves)) ≡ bl_root_of hash leaves n
-first_root hash leaves n within =
-    let first : List (List ℕ) = take n leaves in
-    ap (λ (ls : List (List ℕ)). if length first == 0 then no_digest else root hash ls) (take-length first)
-    ∙ ap (λ (m : ℕ). if m == 0 then no_digest else root hash first) (length-take-le n leaves within)
-
 -- the root of a tree of items
 pub tree_root : (hash : Hash) (xs : List LogItem) (tree : Stored) (made : List ℕ) → IsTreeOf hash xs tree
     → ((leaves : List (List ℕ)) → IsLeveled hash leaves tree → made ≡ bl_root_of hash leaves (length leaves)) → made ≡ bl_root_of hash (alhs_in hash xs) tree.size
 tree_root hash xs tree made h is =
     let within : tree.size ≤ length (alhs_in hash xs) = omega (arith, tree_within hash xs tree h, alhs_in_length hash xs) in
-    is (take tree.size (alhs_in hash xs)) h ∙ first_root hash (alhs_in hash xs) tree.size within
-
--- the root over some leaves isn't that of none
-pub some_root : (hash : Hash) (leaves : List (List ℕ)) (n : ℕ) (made : List ℕ) → 0 < n → made ≡ root hash (take n leaves) → made ≡ bl_root_of hash leaves n
-some_root hash leaves n made some is =
-    is ∙ sym (ap (λ b. if b then no_digest else root hash (take n leaves)) (ne_eqb n 0 (λ e. omega (arith, e))))
+    is (take tree.size (alhs_in hash xs)) h ∙ root-of-first hash (alhs_in hash xs) tree.size within

@@ -4,7 +4,6 @@ use Rattle.std.proofs.lemmas.List.{length-take-le}
 use Rattle.im_digest.specs.Digests.{Hash}
 use Rattle.im_disk.specs.Disk.{Files, Images}
 use Rattle.im_format.specs.Standing.{Stands, StandsFrom}
-use Rattle.im_format.proofs.AllLemmas.{all-left, all-right}
 use Rattle.im_machine.specs.Machines.{start, Machine}
 use Rattle.im_machine.specs.Runs.{Run}
 use Rattle.im_machine.specs.Steps.{Steps}
@@ -21,6 +20,7 @@ use Rattle.im_model.specs.History.{header_of}
 use Rattle.im_model.specs.declared.headers.Header.{Header}
 use Rattle.im_model.specs.declared.transactions.Transaction.{Transaction}
 use Rattle.im_model.proofs.HeaderLemmas.{header-prefix}
+use Rattle.im_octet.proofs.Common.{all-left, all-right}
 
 -- a run is that of its first events, and then that of the others
 abbrev Splits : Hash → Machine → List Event → List Output → List Event → List Output → Machine → Type 0

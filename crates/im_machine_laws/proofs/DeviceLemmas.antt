@@ -1,5 +1,5 @@
 -- Events that call the disk.
-use Rattle.std.proofs.Common.{◌≡◌, ◌≤◌, ◌<◌, ◌+◌, ◌-◌, ◌++◌, ◌∷◌, ◌∙◌, [], ℕ, List, length, take, drop, get_or, true, false, Bool, refl, sym, ap, subst, arith, inl, inr, Option, Some, None, length-drop}
+use Rattle.std.proofs.Common.{◌≡◌, ◌≤◌, ◌<◌, ◌+◌, ◌-◌, ◌++◌, ◌∷◌, ◌∙◌, [], ℕ, List, length, take, drop, get_or, true, false, Bool, refl, sym, ap, subst, arith, Option, Some, None, length-drop}
 use Rattle.std.proofs.lemmas.Bool.{ltb-false, ltb-true, true≢false}
 use Rattle.std.proofs.lemmas.List.{length-map, length-take-le}
 use Rattle.std.proofs.lemmas.Option.{slice_get-get_or}
@@ -12,7 +12,7 @@ use Rattle.im_disk.specs.declared.calls.Call.{Call}
 use Rattle.im_disk.specs.declared.calls.Call.TheVariants.{Synced, Tore, Wrote}
 use Rattle.im_disk.proofs.Leaving.{leaves_more, leaves_nothing}
 use Rattle.im_format.specs.Batches.{gate_of, spans_of}
-use Rattle.im_format.specs.Standing.{Stands, StandsFrom}
+use Rattle.im_format.specs.Standing.{StandsFrom}
 use Rattle.im_format.specs.declared.records.Record.{Record}
 use Rattle.im_format.specs.declared.spans.Span.{Span}
 use Rattle.im_journal.specs.Holding.{ends_of, AreFirst, AreNext, IsResting}
@@ -32,12 +32,7 @@ use Rattle.im_machine.specs.Steps.{Calls, Gates, Seals, Settles, Stages, Writes}
 use Rattle.im_machine.specs.declared.outputs.Output.{Output}
 use Rattle.im_machine_laws.proofs.Sound.{kept_as, telling, IsAsFar, IsDone, IsSound}
 use Rattle.im_model.specs.declared.transactions.Transaction.{Transaction}
-
--- an image without the batch in progress, or with it, stands for a front part that holds what is durable
-from-either : (hash : Hash) (history : List Transaction) (durable count : ℕ) (image : Files) → durable ≤ length history → durable + count ≤ length history
-    → Stands hash image (take durable history) ⊎ Stands hash image (take (durable + count) history) → StandsFrom hash durable history image
-from-either hash history durable count image placed more (inl h) = record { count = durable; no_fewer = omega arith; no_more = placed; stands = h }
-from-either hash history durable count image placed more (inr h) = record { count = durable + count; no_fewer = omega arith; no_more = more; stands = h }
+use Rattle.im_journal.proofs.Held.{from_either}
 
 -- so does each image of a disk that is as far as the batch in progress
 pub far-images : (hash : Hash) (m : Machine) (progress : Option Progress) (b : Batch) (image : Files) → IsAsFar hash m progress b → Images m.disk image
@@ -49,7 +44,7 @@ far-images hash m None b image far now = record {
   stands = rest_stands telling hash m.placed m.batches (kept_as m b) far image now;
 }
 far-images hash m (Some p) b image far now =
-    from-either hash m.placed m.durable (length p.records) image far.0.first.placed far.0.next.placed
+    from_either hash m.placed m.durable (length p.records) image far.0.first.placed far.0.next.placed
     (gated_at_last b.step hash m.placed m.durable (length p.records) image (mid_stands telling hash m.placed m.batches p.records (kept_as m b) far.0 image now))
 
 -- the machine behind a call that succeeded, with this batch in progress
@@ -285,7 +280,7 @@ sound-gate hash m next fails (Some p) b output s up is far may does =
         leaves_either telling hash m.placed m.batches p.records (kept_as m b) far.0 (Some m.disk) (Some t)
         (one-more (IsEither ends (spans_of m.batches) (gate_of (length m.batches)) b.pieces) m.disk (Tore 1 (gate_due m) 1) either) in
         subst (IsSound hash) (sym does2.1)
-        (falls hash m m.progress t s up (λ image now. from-either hash m.placed m.durable (length p.records) image far.0.first.placed far.0.next.placed (leaves.1 image now)))
+        (falls hash m m.progress t s up (λ image now. from_either hash m.placed m.durable (length p.records) image far.0.first.placed far.0.next.placed (leaves.1 image now)))
     go false durable done does2 =
         let t : Told = after (Wrote 1 (gate_due m) (1 ∷ [])) m.disk in
         let mid = far.0 in

@@ -11,17 +11,14 @@ use Rattle.im_disk.specs.Moments.{Leaves}
 use Rattle.im_disk.specs.Records.{files_of, told_of}
 use Rattle.im_disk.specs.declared.calls.Call.TheVariants.{Synced, Wrote}
 use Rattle.im_disk.proofs.Leaving.{leaves_both, leaves_weaker}
-use Rattle.im_disk.proofs.Tearing.{decide_same, written_torn}
+use Rattle.im_disk.proofs.Tearing.{written_torn}
 use Rattle.im_format.specs.Batches.{batch_spans, gate_of, joined, spans_from, spans_of, Counts}
-use Rattle.im_format.specs.Places.{log_end, refs_of}
+use Rattle.im_format.specs.Places.{refs_of}
 use Rattle.im_format.specs.Records.{records_octets}
 use Rattle.im_format.specs.Spans.{Reads}
-use Rattle.im_format.specs.Standing.{LiesIn, Stands, StandsFrom}
+use Rattle.im_format.specs.Standing.{Stands, StandsFrom}
 use Rattle.im_format.specs.declared.records.Record.{Record}
-use Rattle.im_format.specs.declared.references.ValueRef.{ValueRef}
 use Rattle.im_format.specs.declared.spans.Span.{Span}
-use Rattle.im_format.proofs.AllLemmas.{all-right}
-use Rattle.im_format.proofs.EndLemmas.{other_end, own_end}
 use Rattle.im_format.proofs.StandReads.{stands-once}
 use Rattle.im_journal.specs.Holding.{ends_of, AreFirst, IsResting}
 use Rattle.im_journal.specs.Kept.{Batch}
@@ -36,11 +33,12 @@ use Rattle.im_machine.proofs.StartLemmas.{stands-none}
 use Rattle.im_machine_laws.specs.Reached.{Gives32}
 use Rattle.im_machine_laws.proofs.DeviceLemmas.{far-images, one-more}
 use Rattle.im_machine_laws.proofs.Sound.{IsAsFar, IsSound}
-use Rattle.im_model.specs.History.{IsHistory, IsTransaction}
 use Rattle.im_model.specs.declared.transactions.Transaction.{Transaction}
-use Rattle.im_model.proofs.HistoryLemmas.{Follow-at}
+use Rattle.im_model.proofs.HistoryLemmas.{linked-all}
 use Rattle.im_opening.specs.Cut.{shut_at, IsCutOff, IsShut}
 use Rattle.im_opening.proofs.GateLemmas.{cut-kept, shut-read, spans-miss, stands-same}
+use Rattle.im_octet.proofs.Common.{all-right}
+use Rattle.im_opening.proofs.PlaceLemmas.{ends-lie}
 
 -- the transaction log reaches to the end of the records
 records-long : (image : Files) (gate id end : ℕ) (batches : List (List Record)) → All (Reads image) (spans_from gate id end batches) → end ≤ length (image 0)
@@ -64,24 +62,14 @@ gates-long image (b ∷ bs) counted =
     let whole : gate_of (length bs) + 25 < length (image 1) = (counted (length bs) (omega arith)).whole in
     omega (arith, whole)
 
--- and a value log to the end of its values
-values-long : (image : Files) (v : ℕ) (refs : List ValueRef) → All (LiesIn image) refs → log_end v refs ≤ length (image (2 + v))
-values-long image v [] lie = omega arith
-values-long image v (ref ∷ refs) lie =
-    let rest : log_end v refs ≤ length (image (2 + v)) = values-long image v refs (λ i d less. lie (suc i) d (omega (arith, less))) in
-    let here : ref.at + ref.len ≤ length (image (2 + ref.log)) = (lie 0 ref (omega arith)).within in
-    decide_same ref.log v
-    (λ same. let there : ref.at + ref.len ≤ length (image (2 + v)) = subst (λ (k : ℕ). ref.at + ref.len ≤ length (image (2 + k))) same here in omega (arith, own_end v ref refs same, there, rest))
-    (λ other. omega (arith, other_end v ref refs other, rest))
-
 -- no file of an image that stands is shorter than its end
 ends-long : (hash : Hash) (image : Files) (history : List Transaction) (s : Stands hash image history) → (k : ℕ) → end_of (ends_of s.batches) k ≤ length (image k)
 ends-long hash image history s zero = omega (arith, records-long image 0 1 0 s.batches s.there.reads (omega arith))
 ends-long hash image history s (suc zero) = gates-long image s.batches s.there.counted
-ends-long hash image history s (suc (suc zero)) = values-long image 0 (refs_of (joined s.batches)) s.there.lie
-ends-long hash image history s (suc (suc (suc zero))) = values-long image 1 (refs_of (joined s.batches)) s.there.lie
-ends-long hash image history s (suc (suc (suc (suc zero)))) = values-long image 2 (refs_of (joined s.batches)) s.there.lie
-ends-long hash image history s (suc (suc (suc (suc (suc zero))))) = values-long image 3 (refs_of (joined s.batches)) s.there.lie
+ends-long hash image history s (suc (suc zero)) = ends-lie image 0 (refs_of (joined s.batches)) s.there.lie
+ends-long hash image history s (suc (suc (suc zero))) = ends-lie image 1 (refs_of (joined s.batches)) s.there.lie
+ends-long hash image history s (suc (suc (suc (suc zero)))) = ends-lie image 2 (refs_of (joined s.batches)) s.there.lie
+ends-long hash image history s (suc (suc (suc (suc (suc zero))))) = ends-lie image 3 (refs_of (joined s.batches)) s.there.lie
 ends-long hash image history s (suc (suc (suc (suc (suc (suc k)))))) = omega arith
 
 -- where the log isn't cut at the gate, an octet stands there
@@ -222,13 +210,6 @@ front-is hash m history gives s down stands =
       front = same;
       size = ap (λ (l : List Transaction). length l) same ∙ length-take-le from.count m.placed from.no_more;
     }
-
--- no transaction was placed over a tree larger than all of them
-linked-all : (history : List Transaction) → IsHistory history → All (λ tx. tx.bl ≤ length history) history
-linked-all history is = λ i d less.
-    let tx : IsTransaction (0 + i) (get_or history i d) = Follow-at 0 0 history i d is.follow less in
-    let linked : (get_or history i d).bl ≤ 0 + i = tx.linked in
-    omega (arith, linked, less)
 
 abbrev batch_none : List (List Record) → Batch
 batch_none batches = record { step = Idle; pieces = []; written = 0; ends = ends_of batches; count = 0 }

@@ -1,14 +1,13 @@
 -- Events that leave the disk, and a crash.
 use Rattle.std.proofs.Common.{◌≡◌, ◌==◌, ◌≤◌, ◌<◌, ◌+◌, ◌++◌, ◌∷◌, [], ℕ, List, length, true, false, Bool, max, refl, sym, subst, arith, ◌∙◌, if◌then◌else◌, Option, Some, None, length-append}
 use Rattle.std.proofs.lemmas.Bool.{true≢false}
-use Rattle.std.proofs.lemmas.List.{take-append-le}
 use Rattle.std.proofs.lemmas.List.Elements.{All-push, All-weaker}
 use Rattle.im_digest.specs.Digests.{Hash}
-use Rattle.im_disk.specs.Disk.{Files, Images}
+use Rattle.im_disk.specs.Disk.{Images}
 use Rattle.im_disk.specs.Records.{files_of, told_of}
-use Rattle.im_format.specs.Standing.{Stands, StandsFrom}
+use Rattle.im_format.specs.Standing.{StandsFrom}
 use Rattle.im_journal.specs.Kept.{Batch}
-use Rattle.im_journal.proofs.Longer.{batch_longer, rest_longer}
+use Rattle.im_journal.proofs.Longer.{batch_longer, rest_longer, front_longer}
 use Rattle.im_machine.specs.Machines.{raised, Machine, Progress}
 use Rattle.im_machine.specs.Steps.{loaded}
 use Rattle.im_machine.specs.declared.words.Word.{Word}
@@ -16,15 +15,6 @@ use Rattle.im_machine.specs.declared.words.Word.TheVariants.{Placed, Durable, Li
 use Rattle.im_machine_laws.proofs.Sound.{kept_as, telling, IsAsFar, IsHeld, IsSound}
 use Rattle.im_model.specs.History.{IsHistory}
 use Rattle.im_model.specs.declared.transactions.Transaction.{Transaction}
-
--- an image that stands for a front part of a history does so as the history goes on
-pub front-longer : (hash : Hash) (history more : List Transaction) (least : ℕ) (image : Files) → StandsFrom hash least history image → StandsFrom hash least (history ++ more) image
-front-longer hash history more least image from = record {
-  count = from.count;
-  no_fewer = from.no_fewer;
-  no_more = omega (arith, from.no_more, length-append history more);
-  stands = subst (λ (l : List Transaction). Stands hash image l) (sym (take-append-le from.count history more from.no_more)) from.stands;
-}
 
 -- the machine with one transaction more
 abbrev pub with_tx : Machine → Transaction → Machine
@@ -51,7 +41,7 @@ sound-placed hash m tx s up is over =
         durable_placed = omega (arith, placed, length-append m.placed one);
       };
       sessions = s.sessions;
-      images = λ image now. front-longer hash m.placed one m.durable image (s.images image now);
+      images = λ image now. front_longer hash m.placed one m.durable image (s.images image now);
       held = λ opened going. let h : IsHeld hash m = s.held opened going in (h.0, far-longer hash m tx m.progress h.0 is h.1);
       closed = λ down. absurd (true≢false (sym up ∙ down));
     }

@@ -1,9 +1,11 @@
 -- Histories that grow and are cut, and the number of their Alh.
 use Rattle.std.proofs.Common.{◌≡◌, ◌<◌, ◌≤◌, length, ℕ, suc, zero, ◌+◌, List, [], ◌∷◌, ◌++◌, take, arith, subst, ◌∙◌, sym, get_or, length-append, zero-add, All}
-use Rattle.std.proofs.lemmas.List.{length-take}
+use Rattle.std.proofs.Math.Seq.{take-length}
+use Rattle.std.proofs.lemmas.List.{length-take, length-take-le}
 use Rattle.im_digest.specs.Digests.{Hash}
 use Rattle.im_model.specs.Headers.{alh}
-use Rattle.im_model.specs.History.{next_header, alhs_from, alhs_of, Follow, IsTransaction, IsHistory}
+use Rattle.im_model.specs.History.{next_header, alh_of, alhs_from, alhs_of, bl_root_of, first_alh, no_digest, Follow, IsTransaction, IsHistory}
+use Rattle.im_model.specs.Trees.{root}
 use Rattle.im_model.specs.declared.transactions.Transaction.{Transaction}
 
 -- a transaction of those that follow each other lies within the limits
@@ -58,3 +60,38 @@ length-alhs_from hash alhs (tx ∷ txs) =
 -- there is an Alh for each transaction
 pub length-alhs_of : (hash : Hash) (txs : List Transaction) → length (alhs_of hash txs) ≡ length txs
 length-alhs_of hash txs = length-alhs_from hash [] txs ∙ zero-add (length txs)
+
+-- a transaction behind others that were placed over no larger trees
+pub Follow-onward : (n bl : ℕ) (txs : List Transaction) (tx : Transaction) → Follow n bl txs → bl ≤ tx.bl → All (λ t. t.bl ≤ tx.bl) txs → IsTransaction (n + length txs) tx → Follow n bl (txs ++ tx ∷ [])
+Follow-onward n bl [] tx f below each is =
+    let same : n + 0 ≡ n = omega arith in
+    let P : ℕ → Type 0 = λ m. IsTransaction m tx in
+    (subst P same is, below, tt)
+Follow-onward n bl (t ∷ txs) tx f below each is =
+    let same : n + suc (length txs) ≡ n + 1 + length txs = omega arith in
+    let P : ℕ → Type 0 = λ m. IsTransaction m tx in
+    let head : t.bl ≤ tx.bl = each 0 t (omega arith) in
+    (f.0, f.1, Follow-onward (n + 1) t.bl txs tx f.2 head (λ i d h. each (suc i) d (omega arith)) (subst P same is))
+
+-- no transaction of a history has a larger tree than the whole
+pub linked-all : (txs : List Transaction) → IsHistory txs → All (λ (tx : Transaction). tx.bl ≤ length txs) txs
+linked-all txs h = λ i d lt. omega (arith, lt, (Follow-at 0 0 txs i d h.follow lt).linked)
+
+-- the Alh of a number from 1 on
+pub alh-at : (hash : Hash) (history : List Transaction) (n : ℕ) → alh_of hash history (n + 1) ≡ get_or (alhs_of hash history) n []
+alh-at hash history n =
+    let place : n + 1 - 1 ≡ n = omega arith in
+    ap (λ b. if b then first_alh hash else get_or (alhs_of hash history) (n + 1 - 1) []) (ne_eqb (n + 1) 0 (λ e. omega arith))
+    ∙ ap (λ (i : ℕ). get_or (alhs_of hash history) i []) place
+
+-- the root over the first n leaves, told of them alone
+pub root-of-first : (hash : Hash) (leaves : List (List ℕ)) (n : ℕ) → n ≤ length leaves → bl_root_of hash (take n leaves) (length (take n leaves)) ≡ bl_root_of hash leaves n
+root-of-first hash leaves n within =
+    let first : List (List ℕ) = take n leaves in
+    ap (λ (ls : List (List ℕ)). if length first == 0 then no_digest else root hash ls) (take-length first)
+    ∙ ap (λ (m : ℕ). if m == 0 then no_digest else root hash first) (length-take-le n leaves within)
+
+-- the root of a tree that isn't empty
+pub root-of-some : (hash : Hash) (alhs : List (List ℕ)) (bl : ℕ) (made : List ℕ) → 0 < bl → made ≡ root hash (take bl alhs) → made ≡ bl_root_of hash alhs bl
+root-of-some hash alhs bl made some is =
+    is ∙ sym (ap (λ b. if b then no_digest else root hash (take bl alhs)) (ne_eqb bl 0 (λ e. omega (arith, e))))

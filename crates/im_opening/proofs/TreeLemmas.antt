@@ -1,20 +1,13 @@
 -- The tree of a history's Alh, while it grows.
-use Rattle.std.proofs.Common.{◌≡◌, ◌<◌, ◌≤◌, ℕ, List, length, take, sym, ◌∙◌, ap, subst, arith, ne_eqb, if◌then◌else◌}
+use Rattle.std.proofs.Common.{◌≡◌, ◌<◌, ◌≤◌, ℕ, List, length, take, sym, ◌∙◌, subst, arith, if◌then◌else◌}
 use Rattle.std.proofs.lemmas.List.{length-take-le}
 use Rattle.im_digest.specs.Digests.{Hash}
 use Rattle.im_levels.specs.Leveled.{Stored, IsLeveled}
-use Rattle.im_model.specs.History.{bl_root_of, no_digest}
-use Rattle.im_model.specs.Trees.{root}
 use Rattle.im_proof.specs.Built.{headers_of}
 use Rattle.im_opening.specs.Opening.{IsOneHistory}
 use Rattle.im_opening.specs.Reach.{IsConsistent, txs_of}
 use Rattle.im_opening.specs.declared.found.FoundHistory.{FoundHistory}
 use Rattle.im_opening.proofs.RecordGrows.{consistent-records}
-
--- the root of a tree that isn't empty
-pub grown-root : (hash : Hash) (alhs : List (List ℕ)) (bl : ℕ) (made : List ℕ) → 0 < bl → made ≡ root hash (take bl alhs) → made ≡ bl_root_of hash alhs bl
-grown-root hash alhs bl made some is =
-    is ∙ sym (ap (λ b. if b then no_digest else root hash (take bl alhs)) (ne_eqb bl 0 (λ e. omega (arith, e))))
 
 -- the size of the tree is the number of its leaves
 pub tree-size : (hash : Hash) (alhs : List (List ℕ)) (bl : ℕ) (tree : Stored) → bl ≤ length alhs → IsLeveled hash (take bl alhs) tree → bl ≡ tree.size

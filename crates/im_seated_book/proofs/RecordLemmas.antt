@@ -1,14 +1,14 @@
 -- The records of items, copied.
-use Rattle.std.proofs.Common.{◌≡◌, ℕ, zero, suc, ◌+◌, ◌-◌, ◌<◌, ◌≤◌, ◌∙◌, List, [], ◌∷◌, ◌++◌, length, map, take, drop, get_or, refl, sym, ap, subst, arith, ne_eqb, if◌then◌else◌, Result, Ok, Err}
+use Rattle.std.proofs.Common.{◌≡◌, ℕ, zero, suc, ◌+◌, ◌-◌, ◌<◌, ◌≤◌, ◌∙◌, List, [], ◌∷◌, ◌++◌, length, map, take, drop, get_or, refl, sym, ap, subst, arith, if◌then◌else◌, Result, Ok, Err}
 use Rattle.std.specs.Prelude.{IfOk}
 use Rattle.std.proofs.lemmas.List.{drop_more, length-drop, length-map, length-take-le, map-append, take_more}
 use Rattle.im_digest.specs.Digests.{Hash}
 use Rattle.im_format.specs.Records.{AreRecords, AreReferences}
 use Rattle.im_format.specs.declared.records.Record.{Record}
 use Rattle.im_format.specs.declared.references.ValueRef.{ValueRef}
-use Rattle.im_model.specs.History.{alh_of, alhs_of, first_alh}
+use Rattle.im_model.specs.History.{alhs_of}
 use Rattle.im_model.specs.declared.transactions.Transaction.{Transaction}
-use Rattle.im_model.proofs.HistoryLemmas.{length-alhs_of}
+use Rattle.im_model.proofs.HistoryLemmas.{length-alhs_of, alh-at}
 use Rattle.im_table.specs.Histories.{history_of}
 use Rattle.im_table.specs.Records.{AreRecordsOf}
 use Rattle.im_table.specs.declared.items.LogItem.{LogItem}
@@ -35,13 +35,6 @@ referred_drop hash m (suc n) (x ∷ items) are =
     let same : m + 1 + n ≡ m + suc n = omega arith in
     subst (λ (k : ℕ). HaveReferences hash k (drop n items)) same (referred_drop hash (m + 1) n items are.1)
 
--- the Alh of number n + 1
-alh_at : (hash : Hash) (history : List Transaction) (n : ℕ) → alh_of hash history (n + 1) ≡ get_or (alhs_of hash history) n []
-alh_at hash history n =
-    let place : n + 1 - 1 ≡ n = omega arith in
-    ap (λ b. if b then first_alh hash else get_or (alhs_of hash history) (n + 1 - 1) []) (ne_eqb (n + 1) 0 (λ e. omega arith))
-    ∙ ap (λ (i : ℕ). get_or (alhs_of hash history) i []) place
-
 -- records of the first of some items, of which the first has number n + 1
 rows : (hash : Hash) (history : List Transaction) (n : ℕ) (items : List LogItem) (rs : List Record) → HaveReferences hash (n + 1) items → map (λ (r : Record). r.tx) rs ≡ take (length rs) (history_of items)
     → map (λ (r : Record). r.refs) rs ≡ take (length rs) (map (λ (x : LogItem). x.refs) items) → map (λ (r : Record). r.alh) rs ≡ take (length rs) (drop n (alhs_of hash history)) → n + length rs ≤ length history
@@ -57,7 +50,7 @@ rows hash history n (x ∷ items) (r ∷ rs) are txs refs alhs le =
     alhs ∙ ap (λ (l : List (List ℕ)). take (suc (length rs)) l) split in
     let head : r.alh ≡ get_or (alhs_of hash history) n [] = cc (told) in
     let fits = subst (λ (l : List ValueRef). AreReferences hash (n + 1) r.tx.entries l) ref (subst (λ (t : Transaction). AreReferences hash (n + 1) t.entries x.refs) tx are.0) in (
-      record { refs = fits; alh = head ∙ sym (alh_at hash history n) },
+      record { refs = fits; alh = head ∙ sym (alh-at hash history n) },
       rows hash history (n + 1) items rs are.1 (cc (txs)) (cc (refs)) (cc (told)) (omega (arith, le)),
     )
 

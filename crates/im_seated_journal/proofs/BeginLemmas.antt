@@ -31,8 +31,7 @@ use Rattle.im_journal.specs.declared.batches.Step.{Step}
 use Rattle.im_journal.specs.declared.batches.Step.TheVariants.{Idle}
 use Rattle.im_journal.specs.declared.errors.JournalError.{JournalError}
 use Rattle.im_journal.specs.declared.errors.JournalError.TheVariants.{Stopped}
-use Rattle.im_journal.proofs.Longer.{rest_longer}
-use Rattle.im_seated_journal.proofs.Longer.{records_longer}
+use Rattle.im_journal.proofs.Longer.{rest_longer, records_longer}
 use Rattle.im_journal.proofs.Mids.{ok_isnt}
 use Rattle.im_seated_journal.proofs.ServeLemmas.{stands_more}
 

@@ -29,9 +29,10 @@ use Rattle.im_journal.specs.declared.ends.Ends.{Ends}
 use Rattle.im_journal.specs.declared.batches.Step.TheVariants.{Gated, Idle}
 use Rattle.im_journal.specs.declared.errors.JournalError.{JournalError}
 use Rattle.im_journal.specs.declared.errors.JournalError.TheVariants.{DiskFault, Memory, Stopped}
-use Rattle.im_seated_journal.proofs.Longer.{front_longer, from_either}
 use Rattle.im_journal.proofs.Mids.{gated_at_last, mid_stands, ok_isnt, rest_stands}
 use Rattle.im_journal.proofs.Prefixes.{joined_more}
+use Rattle.im_journal.proofs.Longer.{front_longer}
+use Rattle.im_journal.proofs.Held.{from_either}
 
 -- what a journal answers is one of four
 by_answer : {T : Type 0} (r : Result T JournalError) (P : Type 0) → OnOk r P → (IsErrOf r Memory → P) → (IsErrOf r DiskFault → P) → ((n : ℕ) → IsErrOf r (Stopped n) → P) → P

@@ -45,15 +45,12 @@ kept-sound history kept =
     let within : length history ≤ length history = omega arith in
     subst IsSqlSound (take_all (length history) history within) (kept (length history) within)
 
-length-taken : (n : ℕ) (history : List Transaction) → n ≤ length history → length (take n history) ≡ n
-length-taken n history h = length-take-le n history h
-
 pub kept-at : (m n : ℕ) (history : List Transaction) → m ≤ n → n ≤ length history → IsSqlKept (take n history) → IsSqlSound (take m history)
 kept-at m n history h within kept =
-    subst IsSqlSound (take-take m n history h) (kept m (let few : length (take n history) ≡ n = length-taken n history within in omega (arith, few, h)))
+    subst IsSqlSound (take-take m n history h) (kept m (let few : length (take n history) ≡ n = length-take-le n history within in omega (arith, few, h)))
 
 -- and so after each of fewer
 pub kept-up : (m n : ℕ) (history : List Transaction) → m ≤ n → n ≤ length history → IsSqlKept (take n history) → IsSqlKept (take m history)
 kept-up m n history h within kept k few =
-    let long : length (take m history) ≡ m = length-taken m history (omega (arith, h, within)) in
+    let long : length (take m history) ≡ m = length-take-le m history (omega (arith, h, within)) in
     subst IsSqlSound (sym (take-take k m history (omega (arith, few, long)))) (kept-at k n history (omega (arith, few, long, h)) within kept)

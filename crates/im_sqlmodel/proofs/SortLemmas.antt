@@ -1,5 +1,5 @@
 -- A stable sort is the one of the definitions.
-use Rattle.std.proofs.Common.{◌≡◌, ◌≤◌, ◌<◌, ◌&&◌, inl, inr, ℕ, suc, Bool, true, false, not, cond, if◌then◌else◌, List, [], ◌∷◌, length, drop, get_or, map, filter, refl, sym, ap, ap₂, ◌∙◌, subst, arith}
+use Rattle.std.proofs.Common.{◌≡◌, ◌≤◌, ◌<◌, ◌&&◌, inl, inr, ℕ, suc, Bool, true, false, not, cond, if◌then◌else◌, List, [], ◌∷◌, length, get_or, map, filter, refl, sym, ap, ap₂, ◌∙◌, subst, arith}
 use Rattle.std.proofs.lemmas.Bool.{true≢false, and_parts, not-true, cases_Bool}
 use Rattle.std.specs.Cmp.{IsStrictWeakOrder}
 use Rattle.std.specs.List.{AllByRecursion}
@@ -9,29 +9,24 @@ use Rattle.std.specs.Ordering.{is_lt}
 use Rattle.std.specs.declared.cmp.Ordering.{Ordering}
 use Rattle.std.proofs.lemmas.List.Sorted.{sorted_far}
 use Rattle.im_sqlmodel.specs.Sorts.{put_sorted, sorted}
+use Rattle.im_octet.proofs.Common.{heads-are, tails-are}
 
 -- ---- lists
 
 nil-cons : {A : Type 0} (x : A) (xs : List A) → [] ≡ x ∷ xs → ⊥
 nil-cons x xs e = (let long : 0 ≡ suc (length xs) = ap length e in omega (arith, long))
 
-heads : {A : Type 0} (x y : A) (xs ys : List A) → x ∷ xs ≡ y ∷ ys → x ≡ y
-heads {A} x y xs ys e = ap (λ (zs : List A). get_or zs 0 x) e
-
-tails : {A : Type 0} (x y : A) (xs ys : List A) → x ∷ xs ≡ y ∷ ys → xs ≡ ys
-tails {A} x y xs ys e = ap (λ (zs : List A). drop 1 zs) e
-
 -- what holds of each holds of the first that passes
 member : {A : Type 0} (p : A → Bool) (P : A → Type 0) (zs : List A) (y : A) (rest : List A) → filter p zs ≡ y ∷ rest → AllByRecursion P zs → P y
 member p P [] y rest e all = absurd (nil-cons y rest e)
 member {A} p P (w ∷ ws) y rest e all = elim (p w) as (λ (b : Bool). cond b (w ∷ filter p ws) (filter p ws) ≡ y ∷ rest → P y) [
-  | true ↦ λ h. subst P (heads w y (filter p ws) rest h) all.0
+  | true ↦ λ h. subst P (heads-are w y (filter p ws) rest h) all.0
   | false ↦ λ h. member p P ws y rest h all.1
 ] e
 
 -- without a first that is one, the filters of the rest are one
 cancel : {A : Type 0} (b : Bool) (x : A) (xs ys : List A) → cond b (x ∷ xs) xs ≡ cond b (x ∷ ys) ys → xs ≡ ys
-cancel true x xs ys e = tails x x xs ys e
+cancel true x xs ys e = tails-are x x xs ys e
 cancel false x xs ys e = e
 
 -- ---- lists in order
@@ -69,7 +64,7 @@ module _ {A : Type 0} (lt : A → A → Bool) where
       let low : lt y z ≡ false = first-low y z zs (filter (ties lt y) ys) q (sym (same y) ∙ begins o y ys) in
       let high : lt z y ≡ false = first-low z y ys (filter (ties lt z) zs) p (same z ∙ begins o z zs) in
       let tied : ties lt y z ≡ true = (λ i. not (low i) && not (high i)) in
-      heads y z (filter (ties lt y) ys) (filter (ties lt y) zs)
+      heads-are y z (filter (ties lt y) ys) (filter (ties lt y) zs)
       (sym (begins o y ys) ∙ same y ∙ ap (λ (b : Bool). cond b (z ∷ filter (ties lt y) zs) (filter (ties lt y) zs)) tied)
 
   -- two that rise, with the same ties in the same order, are one

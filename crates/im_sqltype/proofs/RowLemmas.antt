@@ -9,14 +9,11 @@ use Rattle.im_sqltype.specs.Texts.{value_text, row_text}
 use Rattle.im_sqltype.specs.declared.kinds.ValueKind.{ValueKind}
 use Rattle.im_sqltype.specs.declared.values.Value.{Value}
 use Rattle.im_sqltype.proofs.FrontLemmas.{value-front, row-front}
+use Rattle.im_octet.proofs.Common.{no-octets}
 
-nothing : (text : List ℕ) → length text ≡ 0 → text ≡ []
-nothing [] h = refl
-nothing (x ∷ text) h = absurd (let no : ⊥ = omega (arith, h) in no)
-
--- behind a text there is nothing, so it is the whole
+-- behind a text there is no-octets, so it is the whole
 whole : (text front rest : List ℕ) → text ≡ front ++ rest → length rest ≡ 0 → text ≡ front
-whole text front rest e h = e ∙ ap (λ s. front ++ s) (nothing rest h) ∙ append-nil front
+whole text front rest e h = e ∙ ap (λ s. front ++ s) (no-octets rest h) ∙ append-nil front
 
 pub whole_value : (kind : ValueKind) (text : List ℕ) (value : Value) (rest : List ℕ) → BeginsWith kind text value rest → length rest ≡ 0 → text ≡ value_text value
 whole_value kind text value rest b h = whole text (value_text value) rest b.1 h

@@ -1,30 +1,20 @@
 -- What is read of the pass's list.
-use Rattle.std.proofs.Common.{◌≡◌, ◌≤◌, ◌+◌, ◌-◌, ◌^◌, ℕ, List, length, ◌∙◌, ap, arith, inl, inr, Result, Ok, Err}
+use Rattle.std.proofs.Common.{◌≡◌, ◌≤◌, ◌+◌, ◌-◌, ◌^◌, ℕ, ◌∙◌, ap, arith, inl, inr, Result, Ok, Err}
 use Rattle.std.proofs.lemmas.Bool.{cases_lt}
 use Rattle.std.specs.Prelude.{IfErr, IsErrOf, None, Option}
-use Rattle.std.proofs.lemmas.List.{length-take}
 use Rattle.im_digest.specs.Digests.{Hash}
 use Rattle.im_disk.specs.Disk.{Told}
 use Rattle.im_format.specs.declared.references.ValueRef.{ValueRef}
-use Rattle.im_index.specs.Indexed.{Indexed}
 use Rattle.im_journal.specs.Faults.{IsReadCounted}
-use Rattle.im_seated_index.specs.Seats.{HasTaken}
-use Rattle.im_table.specs.Histories.{history_of}
 use Rattle.im_table.specs.Known.{KnownPass}
 use Rattle.im_table.specs.Passes.{AddsFaults}
 use Rattle.im_table.specs.Views.{looked_failed}
-use Rattle.im_table.specs.declared.items.LogItem.{LogItem}
 use Rattle.im_table.specs.declared.view.AllLooks.{AllLooks}
 use Rattle.im_table.specs.declared.view.View.{View}
-use Rattle.im_table.proofs.HistoryLemmas.{history_length}
 use Rattle.im_vlog.specs.Showing.{IsCorrupt}
 use Rattle.im_vlog.specs.declared.showing.ValueError.{ValueError}
 use Rattle.im_vlog.specs.declared.showing.ValueError.TheVariants as Read
 use Rattle.im_store.specs.Reading.{IsReadFault}
-
--- an index has no more transactions than there are items
-pub taken_within : (items : List LogItem) (index : Indexed) → HasTaken items index → index.taken ≤ length items
-taken_within items index h = omega (arith, h.taken, length-take index.taken (history_of items), history_length items)
 
 -- an octet string of another digest is one, whatever the disk told
 pub corrupt_untold : {T : Type 0} (hash : Hash) (told : Option Told) (value : ValueRef) (r : Result T ValueError)

@@ -1,4 +1,5 @@
 pub mod ListLemmas
 pub mod ReadingLemmas
+pub mod RoomLemmas
 pub mod ScanLemmas
 pub mod VersionLemmas

@@ -1,6 +1,6 @@
 use Rattle.im_book.proofs.BookLemmas.{history-behind, last-bl-behind}
-use Rattle.im_book.proofs.JudgeLemmas.{admitted-room}
 use Rattle.im_book.proofs.laws.placed_is_a_history.Goals as goal
+use Rattle.im_versions.proofs.RoomLemmas.{admitted-room}
 
 pub returns-clause-history : goal.returns-clause-history
 returns-clause-history c history asked ts bl is fine admitted over within timed =

@@ -1,4 +1,4 @@
-use Rattle.std.proofs.Common.{◌≡◌, ◌∙◌, List, OnOk, Ok, Err, Result, ap, rules}
+use Rattle.std.proofs.Common.{◌≡◌, ◌∙◌, ap, rules}
 use Rattle.std.proofs.lemmas.Cmp.{nat_list_cmp_total}
 use Rattle.std.proofs.lemmas.List.Sorted.{answers_always, ranks_by}
 use Rattle.std.specs.Ordering.{is_lt}
@@ -8,10 +8,7 @@ use Rattle.im_catalog.specs.Numbered.{pair_of, pairs_of}
 use Rattle.im_catalog.specs.declared.histories.Numbered.{Numbered}
 use Rattle.im_catalog.proofs.ChangeLemmas.{by_key}
 use Rattle.im_catalog.proofs.histories.sort_by_key.Goals as goal
-
-on-ok : {A E : Type 0} (P Q : Type 0) (r : Result A E) → (P → Q) → OnOk r P → OnOk r Q
-on-ok P Q (Ok x) f p = f p
-on-ok P Q (Err e) f p = tt
+use Rattle.im_octet.proofs.Common.{on-ok}
 
 pub returns : goal.returns
 returns c =

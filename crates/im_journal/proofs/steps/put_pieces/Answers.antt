@@ -1,9 +1,8 @@
 use Rattle.std.proofs.Common.{rules, ◌+◌, List, take, drop, subst, sym, Err}
 use Rattle.std.specs.Prelude.{IfSome}
-use Rattle.im_octet.proofs.Common.{ok-isnt}
+use Rattle.im_octet.proofs.Common.{ok-isnt, all-left}
 use Rattle.im_disk.proofs.Leaving.{if_told, leaves_both}
 use Rattle.im_disk.specs.Disk.{seen}
-use Rattle.im_format.proofs.AllLemmas.{all-left}
 use Rattle.im_format.specs.Spans.{Reads}
 use Rattle.im_format.specs.declared.spans.Span.{Span}
 use Rattle.im_journal.specs.Phases.{IsSafe, IsStaging, ReadsAll}

@@ -3,13 +3,13 @@ use Rattle.std.specs.Prelude.{Option, IfSome}
 use Rattle.im_disk.specs.Disk.{Told, after, seen}
 use Rattle.im_disk.specs.declared.calls.Call.TheVariants.{Synced, Missed}
 use Rattle.im_disk.proofs.Leaving.{by_answer, if_told, leaves_by_answer, on_ok_after}
-use Rattle.im_format.proofs.AllLemmas.{all-left}
 use Rattle.im_format.specs.Spans.{Reads}
 use Rattle.im_alog.proofs.Outcomes.{if_mapped}
 use Rattle.im_journal.specs.Phases.{IsSafe, IsSealed, IsStaging, ReadsAll}
 use Rattle.im_journal.proofs.Calls.{sealed, safe_front}
 use Rattle.im_journal.proofs.Making.{one_makes}
 use Rattle.im_journal.proofs.steps.seal_pieces.Goals as goal
+use Rattle.im_octet.proofs.Common.{all-left}
 
 pub returns-clause-ok : goal.returns-clause-ok
 returns-clause-ok g c ends spans gate pieces s =

@@ -3,8 +3,8 @@ use Rattle.std.proofs.lemmas.List.{take-take}
 use Rattle.im_levels.specs.Leveled.{IsLeveled}
 use Rattle.im_model.specs.Trees.{root}
 use Rattle.im_octet.proofs.Common.{take-up}
-use Rattle.im_opening.proofs.TreeLemmas.{grown-root}
 use Rattle.im_opening.proofs.records.grow.Goals as goal
+use Rattle.im_model.proofs.HistoryLemmas.{root-of-some}
 
 pub returns-clause-tree : goal.returns-clause-tree
 returns-clause-tree g c =
@@ -21,5 +21,5 @@ returns-clause-root g c =
     let hash = g.H.Hash32.digest c.args.hash.now in
     let alhs = c.args.alhs.now in
     let bl = c.args.bl in
-    grown-root hash alhs bl c.root_at.result (omega arith)
+    root-of-some hash alhs bl c.root_at.result (omega arith)
     (c.root_at.ensures (take bl alhs) (returns-clause-tree g c) ∙ ap (λ (l : List (List ℕ)). root hash l) (take-take bl bl alhs (omega arith)))

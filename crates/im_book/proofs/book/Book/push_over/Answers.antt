@@ -5,8 +5,9 @@ use Rattle.im_mtree.specs.Kept.{IsFrontier}
 use Rattle.im_model.specs.declared.transactions.Transaction.{Transaction}
 use Rattle.im_book.specs.Booked.{last_bl}
 use Rattle.im_book.proofs.BookLemmas.{alhs-counted, last-bl-behind}
-use Rattle.im_book.proofs.RootLemmas.{kept-behind, root-of-first}
+use Rattle.im_book.proofs.RootLemmas.{kept-behind}
 use Rattle.im_book.proofs.book.Book.push_over.Goals as goal
+use Rattle.im_model.proofs.HistoryLemmas.{root-of-first}
 
 pub extend_to-requires-clause-within : goal.extend_to-requires-clause-within
 extend_to-requires-clause-within g c =

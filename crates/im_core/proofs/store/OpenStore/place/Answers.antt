@@ -3,7 +3,7 @@ use Rattle.std.proofs.lemmas.Int.{to_z-of_z}
 use Rattle.std.proofs.lemmas.Result.{IfOk-weaker}
 use Rattle.im_book.specs.Booked.{last_bl, Booked}
 use Rattle.im_core.specs.Parts.{Answers, IsUp}
-use Rattle.im_core.proofs.PlaceLemmas.{last-within, placed-step, refused-step, root-front, tx_of, up-placed, with_tx}
+use Rattle.im_core.proofs.PlaceLemmas.{last-within, placed-step, refused-step, tx_of, up-placed, with_tx}
 use Rattle.im_core.proofs.UpLemmas.{alhs-count, placed-count, tree-size}
 use Rattle.im_core.specs.declared.store.OpenStore.{OpenStore}
 use Rattle.im_digest.specs.Digests.{Hash}
@@ -19,6 +19,7 @@ use Rattle.im_versions.specs.Admits.{place_refusal}
 use Rattle.im_versions.specs.declared.refusals.PlaceError.TheVariants.{Memory}
 use Rattle.std.specs.Prelude.{None, Some}
 use Rattle.im_core.proofs.store.OpenStore.place.Goals as goal
+use Rattle.im_model.proofs.HistoryLemmas.{root-of-first}
 
 pub place-requires-clause-book : goal.place-requires-clause-book
 place-requires-clause-book g c = c.requires.1.lists.book_is
@@ -46,7 +47,7 @@ place-requires-clause-root g c =
     let bl : c.size-bl.result ≡ m.linked = c.size-bl.ensures ∙ tree-size hash s m u in
     let kept : s.book.alhs ≡ alhs = u.lists.book_is.alhs ∙ ap (alhs_of hash) u.lists.placed_is in
     c.root_of-root.ensures _ u.lists.tree_is
-    ∙ root-front hash alhs m.linked (omega (arith, alhs-count hash s m u, u.order.linked_durable, u.order.durable_placed))
+    ∙ root-of-first hash alhs m.linked (omega (arith, alhs-count hash s m u, u.order.linked_durable, u.order.durable_placed))
     ∙ ap (λ l. bl_root_of hash l m.linked) (sym kept) ∙ ap (λ n. bl_root_of hash s.book.alhs n) (sym bl)
 
 pub returns-in-Ok : goal.returns-in-Ok

@@ -6,8 +6,8 @@ use Rattle.im_table.specs.declared.view.AllLooks.{AllLooks}
 use Rattle.im_table.specs.declared.view.View.{View}
 use Rattle.im_table.proofs.PassLemmas.{later_both}
 use Rattle.im_store.proofs.GainLemmas.{follows_self, follows_shown, follows_then, later_self, load_durable_follows, load_durable_saw, load_indexed_follows, load_indexed_saw, saw_durable_on, saw_indexed_on}
-use Rattle.im_store.proofs.ReadLemmas.{taken_within}
 use Rattle.im_store.proofs.store.Store.snapshot.Goals as goal
+use Rattle.im_seated_index.proofs.SeatLemmas.{taken_within}
 
 -- fewer are durable
 pub returns-clause-later : goal.returns-clause-later
