@@ -1,5 +1,5 @@
 -- The script that `gen` runs is in the grammar, and says its lines.
-use Rattle.std.proofs.Common.{◌≡◌, ◌⊎◌, ◌∙◌, ◌+◌, ◌-◌, ◌*◌, ◌/◌, ◌%◌, ◌^◌, ◌<◌, ◌≤◌, ◌==◌, ◌&&◌, ◌||◌, cond, nat_le, ℕ, zero, suc, Bool, true, false, List, [], ◌∷◌, ◌++◌, length, map, Option, None, codes, refl, sym, ap, subst, inl, inr, arith, append_assoc}
+use Rattle.std.proofs.Common.{◌≡◌, ◌⊎◌, ◌∙◌, ◌+◌, ◌-◌, ◌*◌, ◌/◌, ◌%◌, ◌^◌, ◌<◌, ◌≤◌, ◌==◌, ◌&&◌, ◌||◌, cond, nat_le, ℕ, zero, suc, Bool, true, false, List, [], ◌∷◌, ◌++◌, length, map, None, codes, refl, sym, ap, subst, inl, inr, arith, append_assoc}
 use Rattle.std.proofs.lemmas.Bool.{and_from, and_parts, false≢true, le-leb, leb-true}
 use Rattle.std.proofs.lemmas.Fmt.{decimal_by_steps}
 use Rattle.std.proofs.lemmas.Grind.{fold-append}
@@ -13,7 +13,6 @@ use Rattle.im_text.specs.Fields.{IsOctets, IsSession, is_bare, is_bare_octet}
 use Rattle.im_text.specs.Lines.{AreTexts}
 use Rattle.im_text.specs.Words.{IsNumber, is_word, number_value}
 use Rattle.im_text.proofs.CutLemmas.{Lacks-append}
-use Rattle.im_draft.specs.Drafts.{no_attributes}
 use Rattle.im_accept.proofs.DigitLemmas.{decimal-digits, decimal-lacks, decimal-word}
 use Rattle.im_gen.specs.Generator.{advance_text, asked_text, behind_text, generator_after, item_text, key_of, own_text, script_text, source_of}
 use Rattle.im_script.specs.Script.{deletion, AreNumbers, IsCommand, IsScript, IsScriptLine, MayFollow, Say}

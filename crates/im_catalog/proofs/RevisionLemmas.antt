@@ -7,7 +7,7 @@ use Rattle.im_versions.specs.Versions.{is_of}
 use Rattle.im_versions.specs.declared.versions.Version.{Version}
 use Rattle.im_sqltype.specs.Orders.{octets_cmp}
 use Rattle.im_sqltype.specs.declared.values.Value.{Value}
-use Rattle.im_sqlmodel.specs.Rows.{IsRevision, numbered}
+use Rattle.im_sqlmodel.specs.Rows.{numbered}
 use Rattle.im_sqlmodel.specs.Sorts.{sorted}
 use Rattle.im_sqlmodel.specs.declared.tables.Table.{Table}
 use Rattle.im_catalog.specs.Numbered.{pair_of, pairs_of}

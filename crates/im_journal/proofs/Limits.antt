@@ -1,11 +1,9 @@
 -- The limits of a history keep the ends of the files small.
-use Rattle.std.proofs.Common.{◌≡◌, ℕ, suc, zero, ◌+◌, ◌*◌, ◌^◌, ◌≤◌, ◌<◌, List, [], ◌∷◌, ◌++◌, length, map, drop, refl, sym, ◌∙◌, ap, subst, arith, length-append, length-take, get_or, eq-eqb, ne_eqb, ◌-◌, if◌then◌else◌, true, false, Bool}
+use Rattle.std.proofs.Common.{◌≡◌, ℕ, suc, zero, ◌+◌, ◌*◌, ◌^◌, ◌≤◌, ◌<◌, List, [], ◌∷◌, ◌++◌, length, map, drop, refl, sym, ◌∙◌, ap, subst, arith, length-append, length-take, get_or, eq-eqb, ne_eqb, ◌-◌, if◌then◌else◌}
 use Rattle.std.proofs.lemmas.List.Elements.{All-nil, All-cons, All-head, All-tail, All-take, All-drop, All-push}
 use Rattle.std.proofs.lemmas.List.{length-map}
 use Rattle.std.specs.Prelude.{All}
-use Rattle.im_octet.specs.Fields.{field2, field4, field8, signed_field8}
 use Rattle.im_digest.specs.Digests.{Hash}
-use Rattle.im_model.specs.Entries.{attributes}
 use Rattle.im_model.specs.History.{Follow, IsEntry, IsHistory}
 use Rattle.im_model.specs.History.{alh_of, alhs_from, alhs_of, first_alh, next_header}
 use Rattle.im_model.specs.Headers.{alh, alh_string}
@@ -14,7 +12,7 @@ use Rattle.im_model.specs.declared.transactions.Transaction.{Transaction}
 use Rattle.im_disk.proofs.Tearing.{decide_same}
 use Rattle.im_format.specs.Batches.{joined}
 use Rattle.im_format.specs.Places.{log_end, refs_of}
-use Rattle.im_format.specs.Records.{AreRecords, AreReferences, entries_octets, entry_octets, head_octets, record_octets, records_octets, reference_octets}
+use Rattle.im_format.specs.Records.{AreRecords, AreReferences, entries_octets, entry_octets, record_octets, records_octets}
 use Rattle.im_format.specs.declared.records.Record.{Record}
 use Rattle.im_format.specs.declared.references.ValueRef.{ValueRef}
 use Rattle.im_journal.specs.Holding.{AreFirst, AreNext, ends_of}

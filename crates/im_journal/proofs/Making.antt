@@ -1,7 +1,7 @@
 -- How the calls that a step makes follow each other.
 use Rattle.std.proofs.Common.{◌≡◌, ℕ, ◌+◌, List, [], ◌∷◌, ◌++◌, drop, refl, sym, ◌∙◌, ap, subst, append_assoc}
 use Rattle.std.proofs.lemmas.List.{append-nil}
-use Rattle.std.specs.Prelude.{Option, Some, None, Result, Ok, Err, OnOk, IsErrAnd, IsErrOf}
+use Rattle.std.specs.Prelude.{Option, Result, Ok, Err, OnOk, IsErrAnd, IsErrOf}
 use Rattle.std.specs.Option.{option_map}
 use Rattle.im_octet.proofs.Common.{ok-isnt}
 use Rattle.im_disk.specs.Disk.{Told, after}

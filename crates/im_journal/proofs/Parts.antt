@@ -1,8 +1,6 @@
 -- Parts of what reads.
 use Rattle.std.proofs.Common.{◌≡◌, ℕ, ◌+◌, ◌≤◌, List, [], ◌++◌, length, drop, refl, sym, ap, subst, arith, length-take, length-drop}
-use Rattle.std.proofs.lemmas.List.{append-nil, drop_at, nil_from_length}
-use Rattle.std.proofs.lemmas.List.Elements.{All-drop}
-use Rattle.std.specs.Prelude.{All}
+use Rattle.std.proofs.lemmas.List.{append-nil, nil_from_length}
 use Rattle.im_disk.specs.Disk.{Files}
 use Rattle.im_format.specs.Spans.{Reads}
 use Rattle.im_alog.proofs.Torn.{part_reads}

@@ -1,5 +1,5 @@
 -- What a journal holds of what is durable, whatever became of the batch in progress.
-use Rattle.std.specs.Prelude.{ℕ, List, Option, IfSome}
+use Rattle.std.specs.Prelude.{List, Option, IfSome}
 use Rattle.im_digest.specs.Digests.{Hash}
 use Rattle.im_disk.specs.Disk.{Told}
 use Rattle.im_disk.specs.Moments.{LeavesNow}

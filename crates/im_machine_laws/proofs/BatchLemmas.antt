@@ -11,6 +11,7 @@ use Rattle.im_model.specs.History.{alh_of, IsEntry, IsHistory, IsTransaction}
 use Rattle.im_model.specs.declared.entries.Entry.{Entry}
 use Rattle.im_model.specs.declared.transactions.Transaction.{Transaction}
 use Rattle.im_model.proofs.HistoryLemmas.{Follow-at}
+use Rattle.im_journal.proofs.Limits.{IsSmall}
 
 -- the references of values that are put at the end of one log
 abbrev refs_for : Hash → List Entry → List ValueRef → List ValueRef
@@ -37,11 +38,6 @@ refs-fit hash id (entry ∷ entries) before each room =
       record { hval = refl; len = refl; log = omega arith; room = omega (arith, room, short) },
       refs-fit hash id entries (before ++ ref ∷ []) (All-tail IsEntry entry entries each) (omega (arith, room, short, end)),
     )
-
--- a transaction with few entries, each within the limits
-record IsSmall (tx : Transaction) : Type 0 where
-  pub few : length tx.entries ≤ 1024
-  pub entries : All IsEntry tx.entries
 
 all-small : (history : List Transaction) → IsHistory history → All IsSmall history
 all-small history is = λ i d less.

@@ -53,8 +53,8 @@ pub fn a_crash_can_be_opened()
         → Leaves (λ image. Stands hash image next.placed) (Some m.disk) (Some next.disk) }
 {}
 
-/// While the gate of a batch isn't written each image stands for what is durable and for no more; so an opening behind a crash then
-/// gives just that.
+/// While the machine is up, its disk may be called and the gate of a batch isn't written, each image stands for what is durable and for
+/// no more; so an opening behind a crash then gives just that.
 pub fn a_closed_gate_keeps_its_batch_out()
     ensures images { (hash : Hash) (m : Machine) (image : Files) → Gives32 hash → IsReached hash m → m.up ≡ true → m.stopped ≡ false → IsUngated m m.progress → Images m.disk image
         → Stands hash image (take m.durable m.placed) }

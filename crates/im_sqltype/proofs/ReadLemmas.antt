@@ -1,5 +1,5 @@
 -- Where no value has its text at the front of a text.
-use Rattle.std.proofs.Common.{◌≡◌, ◌≢◌, ℕ, ◌+◌, ◌<◌, ◌≤◌, Bool, true, false, List, [], ◌∷◌, ◌++◌, refl, sym, ap, ◌∙◌, arith, drop, get_or, length, length-append}
+use Rattle.std.proofs.Common.{◌≡◌, ◌≢◌, ℕ, ◌+◌, ◌<◌, ◌≤◌, Bool, true, false, List, [], ◌∷◌, ◌++◌, sym, ap, ◌∙◌, arith, drop, get_or, length, length-append}
 use Rattle.std.specs.Prelude.{if◌then◌else◌}
 use Rattle.im_octet.specs.Fields.{field8}
 use Rattle.im_sqltype.specs.Kinds.{IsOfKind}

@@ -1,6 +1,6 @@
 //! Tests of the crates that a history stands on: what no run of the program shows.
 //!
-//! `trees` and `chains` have worked values of hash trees and chains, and compare the code with the plain program;
+//! `roots`, `trees` and `chains` have worked values of hash trees and chains, and compare the code with the plain program;
 //! `entries` has what becomes of drafts; `reads` and `refusals` have what is told of keys and preconditions, by the
 //! plain program, by an index and its snapshots, and by a book; `runs` has how many runs an index has; `books` has the
 //! headers of a book; `attack` is the attack that was published against linear proofs; `pairs` has paths that are
@@ -21,6 +21,8 @@ mod pairs;
 mod reads;
 #[cfg(test)]
 mod refusals;
+#[cfg(test)]
+mod roots;
 #[cfg(test)]
 mod runs;
 #[cfg(test)]

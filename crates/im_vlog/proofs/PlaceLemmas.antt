@@ -4,9 +4,8 @@ use Rattle.std.proofs.lemmas.List.{append-nil, get_or-set_same, get_or-set_other
 use Rattle.im_disk.proofs.Tearing.{decide_same}
 use Rattle.im_digest.specs.Digests.{Hash}
 use Rattle.im_format.specs.Places.{AreAppended, log_end}
-use Rattle.im_format.specs.Records.{AreReferences, IsReference}
+use Rattle.im_format.specs.Records.{IsReference}
 use Rattle.im_format.specs.declared.references.ValueRef.{ValueRef}
-use Rattle.im_model.specs.declared.entries.Entry.{Entry}
 use Rattle.im_vlog.specs.Ends.{reference_of, AreEnds}
 use Rattle.im_format.proofs.EndLemmas.{log_end_same, log_end_other}
 

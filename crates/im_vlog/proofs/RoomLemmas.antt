@@ -1,12 +1,10 @@
 -- How far the logs reach behind the records of a history.
-use Rattle.std.proofs.Common.{◌≤◌, ◌+◌, ◌*◌, ◌^◌, ◌==◌, ℕ, Bool, true, false, List, [], ◌∷◌, ◌++◌, length, max, arith}
+use Rattle.std.proofs.Common.{◌≤◌, ◌+◌, ◌*◌, ◌^◌, ◌==◌, ℕ, List, [], ◌∷◌, ◌++◌, length, arith}
 use Rattle.std.specs.Prelude.{if◌then◌else◌}
 use Rattle.im_digest.specs.Digests.{Hash}
 use Rattle.im_format.specs.Places.{log_end, refs_of}
-use Rattle.im_format.specs.Records.{AreRecords, AreReferences}
+use Rattle.im_format.specs.Records.{AreRecords}
 use Rattle.im_format.specs.declared.records.Record.{Record}
-use Rattle.im_format.specs.declared.references.ValueRef.{ValueRef}
-use Rattle.im_model.specs.declared.entries.Entry.{Entry}
 use Rattle.im_model.specs.declared.transactions.Transaction.{Transaction}
 use Rattle.im_vlog.specs.Ends.{AreEnds, HaveRoom}
 use Rattle.im_format.proofs.EndLemmas.{log_end_append, references_below}

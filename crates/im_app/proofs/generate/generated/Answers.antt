@@ -1,5 +1,4 @@
 use Rattle.std.proofs.Common.{◌≡◌, ◌∙◌, ℕ, List, [], arith, length, subst}
-use Rattle.im_model.specs.declared.transactions.Transaction.{Transaction}
 use Rattle.im_report.specs.Report.{Report}
 use Rattle.im_script.specs.declared.commands.Line.{Line}
 use Rattle.im_script.proofs.Unique.{script-unique}

@@ -2,7 +2,7 @@ use Rattle.std.proofs.Common.{MatchOption, ◌+◌, subst, sym}
 use Rattle.im_sqlmodel.specs.Tables.{column_text}
 use Rattle.im_catalog.specs.Fronts.{StandsFirst, NoneStandsFirst, AreMany}
 use Rattle.im_catalog.specs.Parts.{IsColumn, columns_text}
-use Rattle.im_catalog.proofs.CutLemmas.{many-first, many-more, many-none}
+use Rattle.im_catalog.proofs.CutLemmas.{many-more, many-none}
 use Rattle.im_catalog.proofs.ColumnLemmas.{column-cut}
 use Rattle.im_catalog.proofs.fields.read_columns.Goals as goal
 

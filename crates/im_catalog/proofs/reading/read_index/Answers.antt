@@ -1,4 +1,4 @@
-use Rattle.std.proofs.Common.{◌≡◌, ◌≤◌, MatchOption, true≢false, length, ◌∙◌, ap, subst, sym, arith}
+use Rattle.std.proofs.Common.{◌≡◌, ◌≤◌, MatchOption, true≢false, length, ◌∙◌, subst, sym, arith}
 use Rattle.im_sqlmodel.specs.Tables.{AreColumns}
 use Rattle.im_sqlmodel.specs.declared.tables.SqlIndex.{SqlIndex}
 use Rattle.im_catalog.specs.Parts.{HasIndexParts, HasNoIndexParts}

@@ -1,4 +1,4 @@
-use Rattle.std.proofs.Common.{arith, true, ℕ, refl, ◌≡◌, ◌∙◌, length, take, sym, ap, subst, List, drop, Ok, Err, ◌+◌}
+use Rattle.std.proofs.Common.{arith, true, ℕ, refl, ◌≡◌, ◌∙◌, length, take, sym, ap, subst, List, drop, Ok, ◌+◌}
 use Rattle.im_disk.specs.Moments.{Leaves}
 use Rattle.im_format.specs.Standing.{Stands}
 use Rattle.im_journal.specs.Kept.{HasStaged, StandsBy}
