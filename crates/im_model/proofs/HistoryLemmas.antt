@@ -1,5 +1,5 @@
 -- Histories that grow and are cut, and the number of their Alh.
-use Rattle.std.proofs.Common.{◌≡◌, ◌<◌, ◌≤◌, length, ℕ, suc, zero, ◌+◌, List, [], ◌∷◌, ◌++◌, take, arith, subst, ◌∙◌, sym, get_or, length-append, zero-add, All}
+use Rattle.std.proofs.Common.{◌≡◌, ◌<◌, ◌≤◌, length, ℕ, suc, zero, ◌+◌, ◌-◌, ◌==◌, if◌then◌else◌, ne_eqb, ap, List, [], ◌∷◌, ◌++◌, take, arith, subst, ◌∙◌, sym, get_or, length-append, zero-add, All}
 use Rattle.std.proofs.Math.Seq.{take-length}
 use Rattle.std.proofs.lemmas.List.{length-take, length-take-le}
 use Rattle.im_digest.specs.Digests.{Hash}
