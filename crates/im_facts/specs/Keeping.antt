@@ -1,6 +1,6 @@
 -- What a client is to its callers. It keeps no message that a line said: of each that it needs it keeps the place of that line,
 -- and of one that was handed to it the message.
-use Rattle.std.specs.Prelude.{◌≡◌, ⊥, Unit, List, [], ◌∷◌, ◌++◌, Option, Some, None}
+use Rattle.std.specs.Prelude.{◌≡◌, List, [], ◌∷◌, ◌++◌, Option, Some, None}
 use Rattle.std.specs.Option.{option_to_list}
 use Rattle.im_digest.specs.Digests.{Hash}
 use Rattle.im_model.specs.declared.headers.Header.{Header}

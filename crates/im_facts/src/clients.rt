@@ -395,7 +395,7 @@ impl<'h, 'l, H: Hash32> FactClient<'h, 'l, H> {
     // Puts in what a message adds, and a note of it: all memory is taken first.
     fn put(&mut self, note: Note<'l>, copies: Copies) -> Result<(), AllocError>
         requires { IsRising (known_of self.old.kept []) }
-        ensures ok { OnOk result (self.new.kept ≡ kept_with self.old.kept note copies) }
+        ensures ok { OnOk result (self.new.kept ≡ kept_with self.old.kept note.entry copies) }
         ensures left { OnErr result (self.new ≡ self.old) }
         ensures hash { self.new.hash ≡ self.old.hash }
     {

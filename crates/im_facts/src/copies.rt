@@ -161,7 +161,7 @@ pub(crate) fn put_entries(facts: &mut Vec<EntryFact>, copy: Option<EntryFact>)
 // Adds a note. There is room for it.
 pub(crate) fn put_note<'l>(notes: &mut Vec<Note<'l>>, note: Note<'l>)
     requires { vec_len notes.old < vec_capacity notes.old }
-    ensures { notes.new.items ≡ notes.old.items ++ note ∷ [] }
+    ensures { notes.new.items ≡ notes.old.items ++ note.entry ∷ [] }
 {
     if let Err(full) = notes.push(note) {
         drop(full);
