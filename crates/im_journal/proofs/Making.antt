@@ -37,7 +37,7 @@ pub all_made : (calls : List Call) (a b : Option Told) → MadeUpTo calls [] a b
 all_made calls a b m = m.told ∙ ap (λ (l : List Call). option_map (after_all l) a) (sym (m.split ∙ append-nil m.made))
 
 -- some of those that are left are made
-made_both : (calls first rest left : List Call) (o m n : Option Told) → MadeUpTo calls (first ++ left) o m → MadeUpTo first rest m n → MadeUpTo calls (rest ++ left) o n
+pub made_both : (calls first rest left : List Call) (o m n : Option Told) → MadeUpTo calls (first ++ left) o m → MadeUpTo first rest m n → MadeUpTo calls (rest ++ left) o n
 made_both calls first rest left o m n h g = record {
   made = h.made ++ g.made;
   split = h.split ∙ ap (λ (l : List Call). h.made ++ l) (ap (λ (l : List Call). l ++ left) g.split ∙ append_assoc g.made rest left) ∙ sym (append_assoc h.made g.made (rest ++ left));

@@ -126,6 +126,7 @@ impl<D: Disk> Journal<D> {
             → HoldsDurable D.told hash history batches self.new }
         ensures kept { (self.new.ends ≡ self.old.ends) × (self.new.durable ≡ self.old.durable) }
         ensures left { IsErrOf result JournalError.DiskFault → self.new.batch.step ≡ Staging }
+        ensures unstaged { IsErrOf result JournalError.Memory → HasStaged self.new.batch.step → ⊥ }
         ensures calls { Makes JournalError.DiskFault JournalError.Memory (calls_to_stage self.old records.now) (calls_to_stage self.new records.now) (D.told self.old.disk) (D.told self.new.disk) result }
         ensures counted { IsCounted (D.faults self.old.disk) (D.faults self.new.disk) self.old.failures self.new.failures result }
         ensures stopped { 0 < self.old.failures → (result ≡ Err (JournalError.Stopped self.old.failures)) × (self.new ≡ self.old) }

@@ -58,6 +58,7 @@ returns-in_default g c =
       held = λ hash history batches rs can e. absurd (ok_isnt tt DiskFault e);
       kept = (refl, refl);
       left = λ e. absurd (ok_isnt tt DiskFault e);
+      unstaged = λ e. absurd (ok_isnt tt Memory e);
       calls = subst (λ (l : List Span). Makes DiskFault Memory (writes_of l) (calls_to_stage now c.args.records.now) (g.D.Disk.told now.disk) (g.D.Disk.told now.disk) (Ok tt))
           (sym (stage_none now.batch.step now c.args.records.now not_idle not_staging)) (none_makes tt (calls_to_stage now c.args.records.now) (g.D.Disk.told now.disk));
       counted = record { later = omega arith; rose = λ e. absurd (ok_isnt tt DiskFault e); more = λ e. absurd (ok_isnt tt DiskFault e); faults = λ n. refl; failures = λ n. refl };
