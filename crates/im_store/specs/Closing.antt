@@ -36,7 +36,8 @@ AreAll passes = sum_by weight_in passes ≡ 1048576
 -- of it, which holds what any of the passes knows to be durable; and at each moment since the disk was opened each image stood for one
 -- not shorter than what was found. The disk has failed since at least as often as any of them knows. Where none of its calls failed, and
 -- all of the list is durable, each image stands for the whole of it. Where the passes have the whole weight, their own numbers are those of
--- all that was not found, each once, and the tree has grown by their leaves. The clock gave the times of what was placed, in order.
+-- all that was not found, each once, and the tree has grown by their leaves. None of them knows of more leaves than the tree has. The clock
+-- gave the times of what was placed, in order.
 pub record ClosesStore {D : Type 0} (told : D → Option Told) (faults : D → ℕ) (hash : Hash) (found : List LogItem) (synced : Option Told) (before : ℕ)
     (time : Option ℤ) (given : Option (List ℤ)) (passes : List KnownPass) (disk : D) (constant : Option ℤ) (now : Option (List ℤ)) : Type 0 where
   pub items : List LogItem
@@ -56,4 +57,5 @@ pub record ClosesStore {D : Type 0} (told : D → Option Told) (faults : D → �
   pub linked : ℕ
   pub tree : linked ≤ durable
   pub grown : AreAll passes → sum_by leaves_linked passes + length found ≡ linked
+  pub raised : All (λ p. p.view.least.linked ≤ linked) passes
   pub timed : HasTimed time constant given now found items

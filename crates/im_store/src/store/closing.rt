@@ -58,6 +58,7 @@ fn take_in<L: Law>(tip: &Tip<L>, keeper: &mut Pass, passes: Vec<Pass>)
     ensures begins { All (λ p. IsPrefix p.view.seen keeper.new.view.seen) passes.items }
     ensures durable { All (λ p. p.view.least.durable ≤ keeper.new.view.least.durable) passes.items }
     ensures failed { All (λ p. p.view.least.failed ≤ keeper.new.view.least.failed) passes.items }
+    ensures linked { All (λ p. p.view.least.linked ≤ keeper.new.view.least.linked) passes.items }
     ensures weight { keeper.new.view.weight ≡ keeper.old.view.weight + sum_by weight_in passes.items }
     ensures leaves { keeper.new.view.leaves ≡ keeper.old.view.leaves + sum_by leaves_linked passes.items }
     ensures own { (k : ℕ) → times k keeper.new.view.own ≡ times k keeper.old.view.own + sum_by (own_count k) passes.items }

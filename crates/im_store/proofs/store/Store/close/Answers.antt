@@ -98,6 +98,7 @@ returns g c =
       tree = omega (arith, tree.size.1, c.join-3.ensures.durable.1, gathered_durable k w i t a b d book.pass.1 journal.pass.1 index.pass.1 tree.pass.1 va vb vd, journal.words.0);
       grown = λ all. (let grew = c.close.ensures.leaves (whole all) (ap (λ (r : Roles). r.tree) c.take_in.ensures.keeper.1) in
           omega (arith, grew, c.take_in.ensures.leaves, bare, linked, ap (λ (l : List LogItem). length l) c.args.self.begun));
+      raised = subst (λ (n : ℕ). All (λ (p : KnownPass). p.view.least.linked ≤ n) c.args.passes.items) linked c.take_in.ensures.linked;
       timed = book.timed;
     } in
     subst (λ disk. ClosesStore told g.D.Disk.faults hash g.N.TipName.found g.N.TipName.synced g.N.TipName.faults g.N.TipName.time g.N.TipName.given c.args.passes.items disk

@@ -36,6 +36,8 @@ loop-pass-preserved g c =
           (all_same (λ (n : Least) (p : KnownPass). p.view.least.durable ≤ n.durable) old.view.least new.view.least c.loop-pass.yielded (sym least) i.durable) j.durable.1;
       failed = All-push (λ (p : KnownPass). p.view.least.failed ≤ new.view.least.failed) c.loop-pass.yielded x
           (all_same (λ (n : Least) (p : KnownPass). p.view.least.failed ≤ n.failed) old.view.least new.view.least c.loop-pass.yielded (sym least) i.failed) j.failed.1;
+      linked = All-push (λ (p : KnownPass). p.view.least.linked ≤ new.view.least.linked) c.loop-pass.yielded x
+          (all_same (λ (n : Least) (p : KnownPass). p.view.least.linked ≤ n.linked) old.view.least new.view.least c.loop-pass.yielded (sym least) i.linked) j.linked.1;
       weight = (let e = ap (λ (v : View). v.weight) j.view in omega (arith, e, i.weight, sum_by_push weight_in c.loop-pass.yielded x));
       leaves = (let e = ap (λ (v : View). v.leaves) j.view in omega (arith, e, i.leaves, sum_by_push leaves_linked c.loop-pass.yielded x));
       own = λ k. (let e = ap (λ (v : View). times k v.own) j.view in omega (arith, e, times_append k old.view.own x.view.own, i.own k, sum_by_push (own_count k) c.loop-pass.yielded x));
@@ -61,6 +63,13 @@ returns-clause-failed g c =
     let none : length rs.items ≡ 0 = search rules in
     let e : c.loop-pass.yielded ≡ c.args.passes.items = sym (c.loop-pass.invariant.all ∙ ap (λ (l : List KnownPass). c.loop-pass.yielded ++ l) (nil_of rs.items none) ∙ append-nil c.loop-pass.yielded) in
     subst (All (λ (p : KnownPass). p.view.least.failed ≤ c.loop-pass.keeper.view.least.failed)) e c.loop-pass.invariant.failed
+
+pub returns-clause-linked : goal.returns-clause-linked
+returns-clause-linked g c =
+    let rs = c.loop-pass.pass-iterator.rest in
+    let none : length rs.items ≡ 0 = search rules in
+    let e : c.loop-pass.yielded ≡ c.args.passes.items = sym (c.loop-pass.invariant.all ∙ ap (λ (l : List KnownPass). c.loop-pass.yielded ++ l) (nil_of rs.items none) ∙ append-nil c.loop-pass.yielded) in
+    subst (All (λ (p : KnownPass). p.view.least.linked ≤ c.loop-pass.keeper.view.least.linked)) e c.loop-pass.invariant.linked
 
 pub returns-clause-weight : goal.returns-clause-weight
 returns-clause-weight g c =

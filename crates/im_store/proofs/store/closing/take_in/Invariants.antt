@@ -15,6 +15,7 @@ invariant-loop-pass g l = record {
   begins : All (λ p. IsPrefix p.view.seen l.keeper.view.seen) l.yielded;
   durable : All (λ p. p.view.least.durable ≤ l.keeper.view.least.durable) l.yielded;
   failed : All (λ p. p.view.least.failed ≤ l.keeper.view.least.failed) l.yielded;
+  linked : All (λ p. p.view.least.linked ≤ l.keeper.view.least.linked) l.yielded;
   weight : l.keeper.view.weight ≡ l.initial.keeper.view.weight + sum_by weight_in l.yielded;
   leaves : l.keeper.view.leaves ≡ l.initial.keeper.view.leaves + sum_by leaves_linked l.yielded;
   own : (k : ℕ) → times k l.keeper.view.own ≡ times k l.initial.keeper.view.own + sum_by (own_count k) l.yielded;
