@@ -5,9 +5,10 @@ use Rattle.std.proofs.lemmas.Bool.{cases_lt, lt-ltb, le-ltb, lt-leb, eq-eqb}
 use Rattle.std.proofs.lemmas.List.{get_or-map, get_or-drop, take_more, take-take, length-map, length-drop}
 use Rattle.im_digest.specs.Digests.{Hash}
 use Rattle.im_model.specs.Headers.{inner, alh}
-use Rattle.im_model.specs.History.{no_digest, no_transaction, transaction_of, alhs_of, header_of, IsTransaction, IsHistory}
+use Rattle.im_model.specs.History.{no_digest, no_transaction, transaction_of, alh_of, alhs_of, header_of, IsTransaction, IsHistory}
 use Rattle.im_model.specs.declared.headers.Header.{Header}
 use Rattle.im_model.specs.declared.transactions.Transaction.{Transaction}
+use Rattle.im_model.proofs.HeaderLemmas.{alh_of-next, header-previous}
 use Rattle.im_model.proofs.HistoryLemmas.{Follow-at}
 use Rattle.im_atree.proofs.PassLemmas.{not-none}
 use Rattle.im_levels.specs.Leveled.{IsLeveled, Stored}
@@ -17,7 +18,7 @@ use Rattle.im_proof.specs.Built.{linear_terms, path_of, paths_from, consistency,
 use Rattle.im_proof.specs.declared.proofs.AdvanceProof.{AdvanceProof}
 use Rattle.im_proof.specs.declared.proofs.DualProof.{DualProof}
 use Rattle.im_proof.proofs.HeaderLemmas.{headers-length, headers-nth, alhs-are, inners-are}
-use Rattle.im_dual.specs.Kept.{no_header, header_at}
+use Rattle.im_dual.specs.Kept.{no_header, header_at, AreChained}
 use Rattle.im_dual.proofs.RecordLemmas.{id-of, bl-of, rising-bl, history-passes}
 
 -- one digest more of those of some headers
@@ -92,6 +93,27 @@ kept-lags hash history headers t h kept some within =
     let is : IsTransaction (0 + (t - 1)) (transaction_of history t) = Follow-at 0 0 history (t - 1) no_transaction h.follow (omega arith) in
     let linked : (transaction_of history t).bl ≤ 0 + (t - 1) = is.linked in
     omega (arith, new, linked, some)
+
+-- each kept header holds the Alh of the one before it
+pub kept-chained : (hash : Hash) (history : List Transaction) (headers : List Header) → headers ≡ headers_of hash history → AreChained hash headers
+kept-chained hash history headers kept k some less =
+    let long : length headers ≡ length history = kept-length hash history headers kept in
+    let before : k - 1 + 1 ≡ k = omega (arith, some) in
+    ap (λ (h : Header). h.prev_alh) (kept-at hash history headers (k + 1) kept (omega arith) (omega (arith, less)))
+    ∙ header-previous hash history k (omega (arith, less, long))
+    ∙ ap (λ (n : ℕ). alh_of hash history n) (sym before)
+    ∙ alh_of-next hash history (k - 1) (omega (arith, some, less, long))
+    ∙ ap (λ (n : ℕ). alh hash (header_of hash history n)) before
+    ∙ ap (λ (h : Header). alh hash h) (sym (kept-at hash history headers k kept some (omega (arith, less))))
+
+-- so what the next one holds is its Alh
+pub chained-alh : (hash : Hash) (headers : List Header) (k : ℕ) → AreChained hash headers → 1 ≤ k → k < length headers
+    → (get_or headers k no_header).prev_alh ≡ get_or (map (alh hash) headers) (k - 1) []
+chained-alh hash headers k chained some less =
+    let same : k + 1 - 1 ≡ k = omega arith in
+    ap (λ (n : ℕ). (get_or headers n no_header).prev_alh) (sym same)
+    ∙ chained k some less
+    ∙ sym (get_or-map (alh hash) headers (k - 1) no_header [] (omega (arith, some, less)))
 
 -- the leaves of a kept tree are Alh of kept headers
 pub kept-leaves : (hash : Hash) (history : List Transaction) (headers : List Header) (tree : Stored) → headers ≡ headers_of hash history

@@ -1,5 +1,7 @@
 -- The headers that a store keeps, by their numbers.
-use Rattle.std.specs.Prelude.{ℕ, ◌-◌, List, [], pos, slice_index_or}
+use Rattle.std.specs.Prelude.{◌≡◌, ◌<◌, ◌≤◌, ℕ, ◌+◌, ◌-◌, List, [], length, pos, slice_index_or}
+use Rattle.im_digest.specs.Digests.{Hash}
+use Rattle.im_model.specs.Headers.{alh}
 use Rattle.im_model.specs.History.{no_digest}
 use Rattle.im_model.specs.declared.headers.Header.{Header}
 
@@ -20,3 +22,7 @@ no_header = record {
 -- header k, for k from 1 to the number of headers
 abbrev pub header_at : List Header → ℕ → Header
 header_at headers k = slice_index_or headers (k - 1) no_header
+
+-- each header holds the Alh of the one before it
+abbrev pub AreChained : Hash → List Header → Type 0
+AreChained hash headers = (k : ℕ) → 1 ≤ k → k < length headers → (header_at headers (k + 1)).prev_alh ≡ alh hash (header_at headers k)

@@ -6,7 +6,7 @@ ghost use Rattle.im_mtree.specs.Checks.{first_fail};
 ghost use Rattle.im_proof.specs.Built.{linear_terms, path_of, paths_from, consistency, advance_of, dual_of, headers_of, inners_of};
 ghost use Rattle.im_proof.specs.Duals.{dual_checks};
 ghost use Rattle.im_levels.specs.Leveled.{IsLeveled};
-ghost use Rattle.im_dual.specs.Kept.{header_at};
+ghost use Rattle.im_dual.specs.Kept.{header_at, AreChained};
 
 use im_atree::trees::Tree;
 use im_digest::{D32, Hash32};
@@ -18,9 +18,9 @@ use im_proof::proofs::{AdvanceProof, DualProof};
 use std::alloc::{AllocError, Global};
 
 /// The dual proof between transactions s and t of a history, from the headers of the history and the tree
-/// of its first Alh. It passes `check`, its twin. Only headers that the proof is about are hashed, the last one in
-/// the target's tree among them, and no leaf: with b binary digits in the tree's size a path or a list costs at most
-/// 4b digests read or hashed. The only error is want of memory.
+/// of its first Alh. It passes `check`, its twin. Hashed are the inner digests that it tells, of the other headers only
+/// the last of all, and no leaf: the Alh of each header but that one is held by the next. With b binary digits in the
+/// tree's size a path or a list costs at most 4b digests read or hashed. The only error is want of memory.
 pub fn build<H: Hash32>(
     alloc: Global,
     hash: &H,
@@ -70,6 +70,7 @@ fn assemble<H: Hash32>(
     requires lag { size < t }
     requires size { size ≡ (header_at headers.now t).bl_tx_id }
     requires tree { size ≤ tree.now.size }
+    requires chained { AreChained (H.digest hash.now) headers.now }
     requires leaves { IsLeveled (H.digest hash.now) (take tree.now.size (map (alh (H.digest hash.now)) headers.now)) tree.now }
     ensures { IfOk result (λ proof. proof ≡ dual_of (H.digest hash.now) (header_at headers.now s) (header_at headers.now t) (map (alh (H.digest hash.now)) headers.now) (map (inner (H.digest hash.now)) headers.now)) }
 {
@@ -144,15 +145,30 @@ fn consistency_of<H: Hash32>(
     }
 }
 
+// The Alh of header k. The next header holds it; that of the last one is hashed.
+fn alh_at<H: Hash32>(hash: &H, headers: &[Header], k: usize) -> D32
+    requires some { 1 ≤ k }
+    requires within { k ≤ length headers.now }
+    requires chained { AreChained (H.digest hash.now) headers.now }
+    ensures { result ≡ slice_index_or (map (alh (H.digest hash.now)) headers.now) (k - 1) [] }
+{
+    if k < headers.len() {
+        headers[k].prev_alh
+    } else {
+        alh(hash, &headers[k - 1])
+    }
+}
+
 // The Alh of header `size`, or zeros where there is none: the last of the first `size` leaves. `check_bl` checks it.
 fn last_of<H: Hash32>(hash: &H, headers: &[Header], size: usize) -> D32
-    requires { size ≤ length headers.now }
+    requires within { size ≤ length headers.now }
+    requires chained { AreChained (H.digest hash.now) headers.now }
     ensures { result ≡ (if nat_eq size 0 then no_digest else slice_index_or (map (alh (H.digest hash.now)) headers.now) (size - 1) []) }
 {
     if size == 0 {
         [0; 32]
     } else {
-        alh(hash, &headers[size - 1])
+        alh_at(hash, headers, size)
     }
 }
 
@@ -174,7 +190,7 @@ fn last_inclusion_of<H: Hash32>(
     }
 }
 
-// The linear terms from transaction s to t. It hashes their headers alone. `check_linear` checks them.
+// The linear terms from transaction s to t. It hashes the inner digests of those behind s. `check_linear` checks them.
 fn linear_of<H: Hash32>(
     alloc: Global,
     hash: &H,
@@ -185,10 +201,11 @@ fn linear_of<H: Hash32>(
     requires some { 1 ≤ s }
     requires order { s ≤ t }
     requires within { t ≤ length headers.now }
+    requires chained { AreChained (H.digest hash.now) headers.now }
     ensures { IfOk result (λ terms. terms ≡ linear_terms (map (alh (H.digest hash.now)) headers.now) (map (inner (H.digest hash.now)) headers.now) s t) }
 {
     let mut terms = Vec::new(alloc);
-    terms.push(alh(hash, &headers[s - 1]))?;
+    terms.push(alh_at(hash, headers, s))?;
     for i in s..t {
         terms.push(inner(hash, &headers[i]))?;
     }
@@ -209,6 +226,7 @@ fn advance<H: Hash32>(
     requires end { e ≤ size }
     requires within { size ≤ tree.now.size }
     requires headers { e ≤ length headers.now }
+    requires chained { AreChained (H.digest hash.now) headers.now }
     requires leaves { IsLeveled (H.digest hash.now) (take tree.now.size (map (alh (H.digest hash.now)) headers.now)) tree.now }
     ensures { IfOk result (λ advance. advance ≡ advance_of (H.digest hash.now) (map (alh (H.digest hash.now)) headers.now) (map (inner (H.digest hash.now)) headers.now) a e size) }
 {

@@ -1,6 +1,6 @@
 use Rattle.std.proofs.Common.{arith, ◌∙◌}
 use Rattle.std.proofs.lemmas.Result.{IfOk-weaker}
-use Rattle.im_dual.proofs.KeptLemmas.{kept-id, kept-rises, kept-lags, kept-leaves, kept-dual, kept-passes}
+use Rattle.im_dual.proofs.KeptLemmas.{kept-id, kept-rises, kept-lags, kept-chained, kept-leaves, kept-dual, kept-passes}
 use Rattle.im_dual.proofs.build.build.Goals as goal
 
 pub assemble-requires-clause-source : goal.assemble-requires-clause-source
@@ -24,6 +24,11 @@ assemble-requires-clause-lag g c =
     let r = c.requires in
     let lags = kept-lags (g.H.Hash32.digest c.args.hash.now) r.history.0 c.args.headers.now c.args.t r.history.1 r.history.2 (omega (arith, r.some, r.order)) r.within in
     omega (arith, lags, c.size_at.ensures)
+
+pub assemble-requires-clause-chained : goal.assemble-requires-clause-chained
+assemble-requires-clause-chained g c =
+    let r = c.requires in
+    kept-chained (g.H.Hash32.digest c.args.hash.now) r.history.0 c.args.headers.now r.history.2
 
 pub assemble-requires-clause-leaves : goal.assemble-requires-clause-leaves
 assemble-requires-clause-leaves g c =
