@@ -5,15 +5,17 @@ ghost use Rattle.im_model.specs.Growth.{consistency_length};
 ghost use Rattle.im_mtree.specs.Checks.{first_fail};
 ghost use Rattle.im_proof.specs.Built.{path_of, consistency};
 ghost use Rattle.im_proof.specs.TreeChecks.{consistency_checks};
+ghost use Rattle.im_levels.specs.Edges.{IsEdgeOf};
 ghost use Rattle.im_levels.specs.Leveled.{IsLeveled};
 
 use im_digest::{D32, Hash32};
+use im_levels::edges::Edge;
 use im_levels::growth::add_leaf;
 use im_levels::parts::Part;
 use im_levels::roots::part_root;
 use im_levels::steps::Steps;
 use im_levels::steps::nodes::Nodes;
-use im_levels::walks::{list_down, path_down};
+use im_levels::walks::{list_down, list_down_along, path_down, path_down_along};
 use im_mtree::digests::Digests;
 use im_mtree::paths::turned;
 use std::alloc::{AllocError, Global};
@@ -64,6 +66,7 @@ impl Tree {
     ghost use Rattle.im_proof.specs.Built.{path_of, consistency};
     ghost use Rattle.im_proof.specs.TreeChecks.{consistency_checks};
     ghost use Rattle.im_levels.specs.Counts.{whole};
+    ghost use Rattle.im_levels.specs.Edges.{IsEdgeOf};
     ghost use Rattle.im_levels.specs.Leveled.{IsLeveled, stored};
 
     /// A tree of no leaves. It takes no memory.
@@ -155,6 +158,33 @@ impl Tree {
         Ok(turned(terms))
     }
 
+    /// The path as `inclusion_steps` gives it, with an edge for all paths and lists in one tree: where the edge has the
+    /// root over the part beside the leaf's whole subtree, nothing is hashed. Its only error is want of memory.
+    pub fn inclusion_along_steps<H: Hash32, L: Ledger>(
+        &self,
+        alloc: Global,
+        hash: &H,
+        i: u64,
+        n: u64,
+        edge: &mut Edge,
+        steps: &mut Steps<L>,
+    ) -> Result<Digests, AllocError>
+        requires some { 1 ≤ i }
+        requires inside { i ≤ n }
+        requires within { n ≤ self.now.size }
+        requires made { IsEdgeOf (H.digest hash.now) self.now.digests edge.old }
+        ensures value { IfOk result (λ path. (leaves : List (List ℕ)) → IsLeveled (H.digest hash.now) leaves self.now
+            → path ≡ path_of (H.digest hash.now) (take n leaves) (i - 1)) }
+        ensures made { OnOk result (IsEdgeOf (H.digest hash.now) self.now.digests edge.new) }
+        ensures bound { (b : ℕ) → n < 2 ^ b → steps.new ≤ steps.old + 4 * b }
+    {
+        self.digests.next_fits(self.size);
+        let digests = &self.digests;
+        let index = (i - 1) as usize;
+        let terms = path_down_along(alloc, hash, digests, n as usize, index, edge, steps)?;
+        Ok(turned(terms))
+    }
+
     /// The consistency list from the first m leaves to the first n: PROOF of RFC 6962, section 2.1.2, with its
     /// first term always there; empty where both are one number. It has the exact length, and passes its check
     /// against the roots of both trees. `checks::check_consistency` is its twin. With b binary digits in n it
@@ -183,6 +213,36 @@ impl Tree {
         }
         self.digests.next_fits(self.size);
         let terms = list_down(alloc, hash, &self.digests, m as usize, n as usize, steps)?;
+        Ok(turned(terms))
+    }
+
+    /// The consistency list as `consistency_steps` gives it, with an edge for all paths and lists in one tree. Its only
+    /// error is want of memory.
+    pub fn consistency_along_steps<H: Hash32, L: Ledger>(
+        &self,
+        alloc: Global,
+        hash: &H,
+        m: u64,
+        n: u64,
+        edge: &mut Edge,
+        steps: &mut Steps<L>,
+    ) -> Result<Digests, AllocError>
+        requires some { 1 ≤ m }
+        requires grows { m ≤ n }
+        requires within { n ≤ self.now.size }
+        requires made { IsEdgeOf (H.digest hash.now) self.now.digests edge.old }
+        ensures value { IfOk result (λ list. (leaves : List (List ℕ)) → IsLeveled (H.digest hash.now) leaves self.now
+            → list ≡ consistency (H.digest hash.now) (take n leaves) m) }
+        ensures made { OnOk result (IsEdgeOf (H.digest hash.now) self.now.digests edge.new) }
+        ensures bound { (b : ℕ) → n < 2 ^ b → steps.new ≤ steps.old + 4 * b }
+    {
+        if m == n {
+            return Ok(Digests::from_vec(Vec::new(alloc)));
+        }
+        self.digests.next_fits(self.size);
+        let digests = &self.digests;
+        let (older, newer) = (m as usize, n as usize);
+        let terms = list_down_along(alloc, hash, digests, older, newer, edge, steps)?;
         Ok(turned(terms))
     }
 
@@ -298,6 +358,46 @@ impl Tree {
     {
         consistency_counted::<H, Brand>(self, alloc, hash, m, n, Blank::new(1))
     }
+
+    /// The path as `inclusion_along_steps` gives it.
+    pub fn inclusion_along<H: Hash32>(
+        &self,
+        alloc: Global,
+        hash: &H,
+        i: u64,
+        n: u64,
+        edge: &mut Edge,
+    ) -> Result<Digests, AllocError>
+        requires some { 1 ≤ i }
+        requires inside { i ≤ n }
+        requires within { n ≤ self.now.size }
+        requires made { IsEdgeOf (H.digest hash.now) self.now.digests edge.old }
+        ensures value { IfOk result (λ path. (leaves : List (List ℕ)) → IsLeveled (H.digest hash.now) leaves self.now
+            → path ≡ path_of (H.digest hash.now) (take n leaves) (i - 1)) }
+        ensures made { OnOk result (IsEdgeOf (H.digest hash.now) self.now.digests edge.new) }
+    {
+        inclusion_along_counted::<H, Brand>(self, alloc, hash, i, n, edge, Blank::new(1))
+    }
+
+    /// The consistency list as `consistency_along_steps` gives it.
+    pub fn consistency_along<H: Hash32>(
+        &self,
+        alloc: Global,
+        hash: &H,
+        m: u64,
+        n: u64,
+        edge: &mut Edge,
+    ) -> Result<Digests, AllocError>
+        requires some { 1 ≤ m }
+        requires grows { m ≤ n }
+        requires within { n ≤ self.now.size }
+        requires made { IsEdgeOf (H.digest hash.now) self.now.digests edge.old }
+        ensures value { IfOk result (λ list. (leaves : List (List ℕ)) → IsLeveled (H.digest hash.now) leaves self.now
+            → list ≡ consistency (H.digest hash.now) (take n leaves) m) }
+        ensures made { OnOk result (IsEdgeOf (H.digest hash.now) self.now.digests edge.new) }
+    {
+        consistency_along_counted::<H, Brand>(self, alloc, hash, m, n, edge, Blank::new(1))
+    }
 }
 
 // `append_steps` with a count of its own.
@@ -385,4 +485,54 @@ fn consistency_counted<H: Hash32, L: Ledger>(
 {
     let mut steps = Steps::<L>::new(blank);
     tree.consistency_steps(alloc, hash, m, n, &mut steps)
+}
+
+// `inclusion_along_steps` with a count of its own.
+fn inclusion_along_counted<H: Hash32, L: Ledger>(
+    tree: &Tree,
+    alloc: Global,
+    hash: &H,
+    i: u64,
+    n: u64,
+    edge: &mut Edge,
+    blank: Blank,
+) -> Result<Digests, AllocError>
+    requires name { blank.name ≡ L.name }
+    requires parts { blank.parts ≡ L.parts }
+    requires one { 0 < blank.parts }
+    requires some { 1 ≤ i }
+    requires inside { i ≤ n }
+    requires within { n ≤ tree.now.size }
+    requires made { IsEdgeOf (H.digest hash.now) tree.now.digests edge.old }
+    ensures value { IfOk result (λ path. (leaves : List (List ℕ)) → IsLeveled (H.digest hash.now) leaves tree.now
+        → path ≡ path_of (H.digest hash.now) (take n leaves) (i - 1)) }
+    ensures made { OnOk result (IsEdgeOf (H.digest hash.now) tree.now.digests edge.new) }
+{
+    let mut steps = Steps::<L>::new(blank);
+    tree.inclusion_along_steps(alloc, hash, i, n, edge, &mut steps)
+}
+
+// `consistency_along_steps` with a count of its own.
+fn consistency_along_counted<H: Hash32, L: Ledger>(
+    tree: &Tree,
+    alloc: Global,
+    hash: &H,
+    m: u64,
+    n: u64,
+    edge: &mut Edge,
+    blank: Blank,
+) -> Result<Digests, AllocError>
+    requires name { blank.name ≡ L.name }
+    requires parts { blank.parts ≡ L.parts }
+    requires one { 0 < blank.parts }
+    requires some { 1 ≤ m }
+    requires grows { m ≤ n }
+    requires within { n ≤ tree.now.size }
+    requires made { IsEdgeOf (H.digest hash.now) tree.now.digests edge.old }
+    ensures value { IfOk result (λ list. (leaves : List (List ℕ)) → IsLeveled (H.digest hash.now) leaves tree.now
+        → list ≡ consistency (H.digest hash.now) (take n leaves) m) }
+    ensures made { OnOk result (IsEdgeOf (H.digest hash.now) tree.now.digests edge.new) }
+{
+    let mut steps = Steps::<L>::new(blank);
+    tree.consistency_along_steps(alloc, hash, m, n, edge, &mut steps)
 }

@@ -1,16 +1,18 @@
-ghost use Rattle.std.specs.Prelude.{◌≡◌, ◌<◌, ◌≤◌, ◌-◌, ℕ, List, [], length, map, take, slice_index_or, nat_eq, nat_lt, if◌then◌else◌, IfOk, Ok};
+ghost use Rattle.std.specs.Prelude.{◌≡◌, ◌<◌, ◌≤◌, ◌-◌, ℕ, List, [], length, map, take, slice_index_or, nat_eq, nat_lt, if◌then◌else◌, IfOk, OnOk, Ok};
 ghost use Rattle.im_model.specs.Headers.{inner, alh};
 ghost use Rattle.im_model.specs.History.{no_digest, alhs_of, header_of, IsHistory};
 ghost use Rattle.im_model.specs.declared.transactions.Transaction.{Transaction};
 ghost use Rattle.im_mtree.specs.Checks.{first_fail};
 ghost use Rattle.im_proof.specs.Built.{linear_terms, path_of, paths_from, consistency, advance_of, dual_of, headers_of, inners_of};
 ghost use Rattle.im_proof.specs.Duals.{dual_checks};
+ghost use Rattle.im_levels.specs.Edges.{IsEdgeOf};
 ghost use Rattle.im_levels.specs.Leveled.{IsLeveled};
 ghost use Rattle.im_dual.specs.Kept.{header_at, AreChained};
 
 use im_atree::trees::Tree;
 use im_digest::{D32, Hash32};
 use im_header::{alh, inner};
+use im_levels::edges::{Edge, no_edge};
 use im_model::headers::Header;
 use im_mtree::digests::Digests;
 use im_proof::digest_lists::DigestLists;
@@ -20,7 +22,8 @@ use std::alloc::{AllocError, Global};
 /// The dual proof between transactions s and t of a history, from the headers of the history and the tree
 /// of its first Alh. It passes `check`, its twin. Hashed are the inner digests that it tells, of the other headers only
 /// the last of all, and no leaf: the Alh of each header but that one is held by the next. With b binary digits in the
-/// tree's size a path or a list costs at most 4b digests read or hashed. The only error is want of memory.
+/// tree's size a path or a list costs at most 4b digests read or hashed, and paths and lists whose leaves are in one whole
+/// subtree of the tree hash what they share once. The only error is want of memory.
 pub fn build<H: Hash32>(
     alloc: Global,
     hash: &H,
@@ -78,11 +81,21 @@ fn assemble<H: Hash32>(
     let target = copy_of(alloc, headers, t)?;
     let old = source.bl_tx_id;
     let end = size as usize;
-    let inclusion = inclusion_of(alloc, hash, tree, s as u64, size)?;
-    let consistency = consistency_of(alloc, hash, tree, old, size)?;
+    let mut edge = no_edge();
+    let inclusion = inclusion_of(alloc, hash, tree, &mut edge, s as u64, size)?;
+    let consistency = consistency_of(alloc, hash, tree, &mut edge, old, size)?;
     let last_inclusion = last_inclusion_of(alloc, hash, tree, size)?;
     let linear = linear_of(alloc, hash, headers, s.max(end), t)?;
-    let linear_advance = advance(alloc, hash, headers, tree, old as usize, s.min(end), size)?;
+    let linear_advance = advance(
+        alloc,
+        hash,
+        headers,
+        tree,
+        &mut edge,
+        old as usize,
+        s.min(end),
+        size,
+    )?;
     Ok(DualProof {
         source,
         target,
@@ -109,16 +122,19 @@ fn inclusion_of<H: Hash32>(
     alloc: Global,
     hash: &H,
     tree: &Tree,
+    edge: &mut Edge,
     s: u64,
     size: u64,
 ) -> Result<Digests, AllocError>
     requires some { 1 ≤ s }
     requires within { size ≤ tree.now.size }
-    ensures { IfOk result (λ path. (leaves : List (List ℕ)) → IsLeveled (H.digest hash.now) leaves tree.now
+    requires made { IsEdgeOf (H.digest hash.now) tree.now.digests edge.old }
+    ensures value { IfOk result (λ path. (leaves : List (List ℕ)) → IsLeveled (H.digest hash.now) leaves tree.now
         → path ≡ (if nat_lt s size then path_of (H.digest hash.now) (take size leaves) (s - 1) else [])) }
+    ensures made { OnOk result (IsEdgeOf (H.digest hash.now) tree.now.digests edge.new) }
 {
     if s < size {
-        tree.inclusion(alloc, hash, s, size)
+        tree.inclusion_along(alloc, hash, s, size, edge)
     } else {
         Ok(Digests::from_vec(Vec::new(alloc)))
     }
@@ -130,18 +146,21 @@ fn consistency_of<H: Hash32>(
     alloc: Global,
     hash: &H,
     tree: &Tree,
+    edge: &mut Edge,
     old: u64,
     size: u64,
 ) -> Result<Digests, AllocError>
     requires grows { old ≤ size }
     requires within { size ≤ tree.now.size }
-    ensures { IfOk result (λ list. (leaves : List (List ℕ)) → IsLeveled (H.digest hash.now) leaves tree.now
+    requires made { IsEdgeOf (H.digest hash.now) tree.now.digests edge.old }
+    ensures value { IfOk result (λ list. (leaves : List (List ℕ)) → IsLeveled (H.digest hash.now) leaves tree.now
         → list ≡ (if nat_eq old 0 then [] else consistency (H.digest hash.now) (take size leaves) old)) }
+    ensures made { OnOk result (IsEdgeOf (H.digest hash.now) tree.now.digests edge.new) }
 {
     if old == 0 {
         Ok(Digests::from_vec(Vec::new(alloc)))
     } else {
-        tree.consistency(alloc, hash, old, size)
+        tree.consistency_along(alloc, hash, old, size, edge)
     }
 }
 
@@ -219,6 +238,7 @@ fn advance<H: Hash32>(
     hash: &H,
     headers: &[Header],
     tree: &Tree,
+    edge: &mut Edge,
     a: usize,
     e: usize,
     size: u64,
@@ -227,6 +247,7 @@ fn advance<H: Hash32>(
     requires within { size ≤ tree.now.size }
     requires headers { e ≤ length headers.now }
     requires chained { AreChained (H.digest hash.now) headers.now }
+    requires made { IsEdgeOf (H.digest hash.now) tree.now.digests edge.old }
     requires leaves { IsLeveled (H.digest hash.now) (take tree.now.size (map (alh (H.digest hash.now)) headers.now)) tree.now }
     ensures { IfOk result (λ advance. advance ≡ advance_of (H.digest hash.now) (map (alh (H.digest hash.now)) headers.now) (map (inner (H.digest hash.now)) headers.now) a e size) }
 {
@@ -237,7 +258,7 @@ fn advance<H: Hash32>(
         });
     }
     let terms = linear_of(alloc, hash, headers, a + 1, e)?;
-    let inclusions = paths(alloc, hash, tree, a as u64, e as u64 - 1, size)?;
+    let inclusions = paths(alloc, hash, tree, edge, a as u64, e as u64 - 1, size)?;
     Ok(AdvanceProof { terms, inclusions })
 }
 
@@ -246,6 +267,7 @@ fn paths<H: Hash32>(
     alloc: Global,
     hash: &H,
     tree: &Tree,
+    edge: &mut Edge,
     from: u64,
     to: u64,
     size: u64,
@@ -253,12 +275,13 @@ fn paths<H: Hash32>(
     requires order { from ≤ to }
     requires end { to ≤ size }
     requires within { size ≤ tree.now.size }
+    requires made { IsEdgeOf (H.digest hash.now) tree.now.digests edge.old }
     ensures { IfOk result (λ paths. (leaves : List (List ℕ)) → IsLeveled (H.digest hash.now) leaves tree.now
         → paths ≡ paths_from (H.digest hash.now) (take size leaves) from (to - from)) }
 {
     let mut paths = Vec::new(alloc);
     for i in from..to {
-        paths.push(tree.inclusion(alloc, hash, i + 1, size)?)?;
+        paths.push(tree.inclusion_along(alloc, hash, i + 1, size, edge)?)?;
     }
     Ok(DigestLists::from_vec(paths))
 }

@@ -1,4 +1,5 @@
 pub mod CountLemmas
+pub mod EdgeLemmas
 pub mod FreshLemmas
 pub mod GrowthLemmas
 pub mod LevelLemmas

@@ -26,7 +26,7 @@ paid-begins before b n h =
 
 -- the root of the part beside is made
 pub paid-step : (before now next b width inside beside : ℕ) → IsPaid before now b width → ((e : ℕ) → width ≤ 2 ^ e → (0 < e) × (inside ≤ 2 ^ (e - 1)))
-    → count_ones inside + count_ones beside ≤ count_ones width + 1 → next + 1 ≡ now + 2 * count_ones beside → IsPaid before next b inside
+    → count_ones inside + count_ones beside ≤ count_ones width + 1 → next + 1 ≤ now + 2 * count_ones beside → IsPaid before next b inside
 paid-step before now next b width inside beside p reach halves made =
     let below : (0 < p.exponent) × (inside ≤ 2 ^ (p.exponent - 1)) = reach p.exponent p.reach in
     let some : 0 < p.exponent = below.0 in
@@ -40,7 +40,7 @@ paid-now before now b width p =
     omega arith
 
 -- also where the root of the part itself is made
-pub paid-last : (before now next b width : ℕ) → IsPaid before now b width → next + 1 ≡ now + 2 * count_ones width → next ≤ before + 4 * b
+pub paid-last : (before now next b width : ℕ) → IsPaid before now b width → next + 1 ≤ now + 2 * count_ones width → next ≤ before + 4 * b
 paid-last before now next b width p made =
     let paid : now + 2 * count_ones width + p.exponent ≤ before + 3 * b = p.paid in
     omega arith

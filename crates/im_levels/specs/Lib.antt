@@ -1,3 +1,4 @@
 pub mod ByLevel
 pub mod Counts
+pub mod Edges
 pub mod Leveled

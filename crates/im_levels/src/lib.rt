@@ -2,6 +2,7 @@
 //! paths and consistency lists are made of them, in steps that grow with the binary digits of its size alone.
 #![tactic(auto)]
 
+pub mod edges;
 pub mod growth;
 pub mod laws;
 pub mod parts;

@@ -1,13 +1,14 @@
-ghost use Rattle.std.specs.Prelude.{◌≡◌, ℕ, ◌<◌, ◌≤◌, ◌+◌, ◌-◌, ◌*◌, ◌^◌, List, [], ◌∷◌, ◌++◌, length, take, IfOk, count_ones};
+ghost use Rattle.std.specs.Prelude.{◌≡◌, ℕ, ◌<◌, ◌≤◌, ◌+◌, ◌-◌, ◌*◌, ◌^◌, List, [], ◌∷◌, ◌++◌, length, take, IfOk, OnOk, count_ones};
 ghost use Rattle.im_digest.specs.Digests.{Hash};
 ghost use Rattle.im_model.specs.Trees.{root};
 ghost use Rattle.im_mtree.specs.Inclusion.{inclusion};
 ghost use Rattle.im_proof.specs.Built.{growth_first, growth_rest};
 ghost use Rattle.im_levels.specs.Counts.{whole};
+ghost use Rattle.im_levels.specs.Edges.{IsEdgeOf};
 ghost use Rattle.im_levels.specs.Leveled.{leaves_of, AreStored, IsPart};
 
+use crate::edges::{Edge, edge_root, no_edge};
 use crate::parts::Part;
-use crate::roots::part_root;
 use crate::steps::Steps;
 use crate::steps::nodes::Nodes;
 use im_digest::{D32, Hash32};
@@ -90,12 +91,38 @@ pub fn path_down<H: Hash32, L: Ledger>(
         → terms.items ≡ inclusion (H.digest hash.now) (take n leaves) i) }
     ensures cost { (b : ℕ) → n < 2 ^ b → steps.new ≤ steps.old + 4 * b }
 {
+    let mut edge = no_edge();
+    let terms = path_down_along(alloc, hash, digests, n, i, &mut edge, steps)?;
+    Ok(terms)
+}
+
+/// The terms that `path_down` gives, with an edge that other walks in the same tree share. It takes at most 4b steps
+/// too; where the edge has the root over the part of the first n beside the leaf's whole subtree, it hashes nothing. Its
+/// only error is want of memory.
+pub fn path_down_along<H: Hash32, L: Ledger>(
+    alloc: Global,
+    hash: &H,
+    digests: &Nodes,
+    n: usize,
+    i: usize,
+    edge: &mut Edge,
+    steps: &mut Steps<L>,
+) -> Result<Vec<D32>, AllocError>
+    requires leaf { i < n }
+    requires fits { n + 1 < 2 ^ 64 }
+    requires inside { whole n ≤ length digests.now }
+    requires made { IsEdgeOf (H.digest hash.now) digests.now edge.old }
+    ensures value { IfOk result (λ terms. (leaves : List (List ℕ)) → n ≤ length leaves → AreStored (H.digest hash.now) leaves digests.now
+        → terms.items ≡ inclusion (H.digest hash.now) (take n leaves) i) }
+    ensures made { OnOk result (IsEdgeOf (H.digest hash.now) digests.now edge.new) }
+    ensures cost { (b : ℕ) → n < 2 ^ b → steps.new ≤ steps.old + 4 * b }
+{
     let mut terms = Vec::new(alloc);
     let mut part = Part { at: 0, width: n };
     let mut index = i;
     while 1 < part.width {
         let sides = sides_of(part, index);
-        let term = part_root(hash, digests, sides.beside, steps);
+        let term = edge_root(hash, digests, sides.beside, edge, steps);
         terms.push(term)?;
         part = sides.inside;
         index = sides.index;
@@ -122,17 +149,43 @@ pub fn list_down<H: Hash32, L: Ledger>(
         → terms.items ≡ growth_rest (H.digest hash.now) (take n leaves) m ++ growth_first (H.digest hash.now) (take n leaves) m ∷ []) }
     ensures cost { (b : ℕ) → n < 2 ^ b → steps.new ≤ steps.old + 4 * b }
 {
+    let mut edge = no_edge();
+    let terms = list_down_along(alloc, hash, digests, m, n, &mut edge, steps)?;
+    Ok(terms)
+}
+
+/// The terms that `list_down` gives, with an edge that other walks in the same tree share. It takes at most 4b steps
+/// too. Its only error is want of memory.
+pub fn list_down_along<H: Hash32, L: Ledger>(
+    alloc: Global,
+    hash: &H,
+    digests: &Nodes,
+    m: usize,
+    n: usize,
+    edge: &mut Edge,
+    steps: &mut Steps<L>,
+) -> Result<Vec<D32>, AllocError>
+    requires some { 0 < m }
+    requires grows { m ≤ n }
+    requires fits { n + 1 < 2 ^ 64 }
+    requires inside { whole n ≤ length digests.now }
+    requires made { IsEdgeOf (H.digest hash.now) digests.now edge.old }
+    ensures value { IfOk result (λ terms. (leaves : List (List ℕ)) → n ≤ length leaves → AreStored (H.digest hash.now) leaves digests.now
+        → terms.items ≡ growth_rest (H.digest hash.now) (take n leaves) m ++ growth_first (H.digest hash.now) (take n leaves) m ∷ []) }
+    ensures made { OnOk result (IsEdgeOf (H.digest hash.now) digests.now edge.new) }
+    ensures cost { (b : ℕ) → n < 2 ^ b → steps.new ≤ steps.old + 4 * b }
+{
     let mut terms = Vec::new(alloc);
     let mut part = Part { at: 0, width: n };
     let mut index = m - 1;
     while index < part.width - 1 {
         let sides = sides_of(part, index);
-        let term = part_root(hash, digests, sides.beside, steps);
+        let term = edge_root(hash, digests, sides.beside, edge, steps);
         terms.push(term)?;
         part = sides.inside;
         index = sides.index;
     }
-    let first = part_root(hash, digests, part, steps);
+    let first = edge_root(hash, digests, part, edge, steps);
     terms.push(first)?;
     Ok(terms)
 }
