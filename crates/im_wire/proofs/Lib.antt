@@ -1,3 +1,4 @@
+pub mod DigitLemmas
 pub mod FieldAgain
 pub mod FitLemmas
 pub mod HeaderText

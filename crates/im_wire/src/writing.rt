@@ -77,7 +77,7 @@ fn put_item_fields(
 {
     put_entry_field(alloc, out, "entry", entry)?;
     put_number_field(out, "index", u64::from(index))?;
-    put_digests_field(alloc, out, "path", path)?;
+    put_digests_field(out, "path", path)?;
     Ok(())
 }
 

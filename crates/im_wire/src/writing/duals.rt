@@ -9,17 +9,13 @@ use json::Writer;
 use std::alloc::{AllocError, Global};
 
 // Adds a linear advance.
-fn put_advance_proof(
-    alloc: Global,
-    out: &mut Writer,
-    advance: &AdvanceProof,
-) -> Result<(), AllocError>
+fn put_advance_proof(out: &mut Writer, advance: &AdvanceProof) -> Result<(), AllocError>
     ensures ok { OnOk result (out.new.tokens ≡ out.old.tokens ++ tokens_of (advance_proof_data advance.now)) }
     ensures before { out.new.before ≡ out.old.before }
 {
     out.begin_object()?;
-    put_digest_lists_field(alloc, out, "inclusions", &advance.inclusions)?;
-    put_digests_field(alloc, out, "terms", &advance.terms)?;
+    put_digest_lists_field(out, "inclusions", &advance.inclusions)?;
+    put_digests_field(out, "terms", &advance.terms)?;
     out.end_object()?;
     Ok(())
 }
@@ -27,7 +23,6 @@ fn put_advance_proof(
 // Adds a member that is a linear advance.
 #[tactic(auto, unfolding(crate::specs::Tokens::field_tokens))]
 pub(crate) fn put_advance_proof_field(
-    alloc: Global,
     out: &mut Writer,
     name: &str,
     advance: &AdvanceProof,
@@ -36,29 +31,29 @@ pub(crate) fn put_advance_proof_field(
     ensures before { out.new.before ≡ out.old.before }
 {
     out.key(name)?;
-    put_advance_proof(alloc, out, advance)
+    put_advance_proof(out, advance)
 }
 
 // Adds the first three members of a dual proof.
 #[tactic(auto, unfolding(crate::specs::Tokens::dual_front_tokens))]
-fn put_dual_front(alloc: Global, out: &mut Writer, dual: &DualProof) -> Result<(), AllocError>
+fn put_dual_front(out: &mut Writer, dual: &DualProof) -> Result<(), AllocError>
     ensures ok { OnOk result (out.new.tokens ≡ out.old.tokens ++ dual_front_tokens dual.now) }
     ensures before { out.new.before ≡ out.old.before }
 {
-    put_digests_field(alloc, out, "consistency", &dual.consistency)?;
-    put_digests_field(alloc, out, "inclusion", &dual.inclusion)?;
-    put_digests_field(alloc, out, "lastInclusion", &dual.last_inclusion)?;
+    put_digests_field(out, "consistency", &dual.consistency)?;
+    put_digests_field(out, "inclusion", &dual.inclusion)?;
+    put_digests_field(out, "lastInclusion", &dual.last_inclusion)?;
     Ok(())
 }
 
 // Adds the next two members.
 #[tactic(auto, unfolding(crate::specs::Tokens::dual_middle_tokens))]
-fn put_dual_middle(alloc: Global, out: &mut Writer, dual: &DualProof) -> Result<(), AllocError>
+fn put_dual_middle(out: &mut Writer, dual: &DualProof) -> Result<(), AllocError>
     ensures ok { OnOk result (out.new.tokens ≡ out.old.tokens ++ dual_middle_tokens dual.now) }
     ensures before { out.new.before ≡ out.old.before }
 {
-    put_digests_field(alloc, out, "linear", &dual.linear)?;
-    put_advance_proof_field(alloc, out, "linearAdvance", &dual.linear_advance)?;
+    put_digests_field(out, "linear", &dual.linear)?;
+    put_advance_proof_field(out, "linearAdvance", &dual.linear_advance)?;
     Ok(())
 }
 
@@ -85,8 +80,8 @@ fn put_dual_proof(alloc: Global, out: &mut Writer, dual: &DualProof) -> Result<(
     ensures before { out.new.before ≡ out.old.before }
 {
     out.begin_object()?;
-    put_dual_front(alloc, out, dual)?;
-    put_dual_middle(alloc, out, dual)?;
+    put_dual_front(out, dual)?;
+    put_dual_middle(out, dual)?;
     put_dual_back(alloc, out, dual)?;
     out.end_object()?;
     Ok(())

@@ -1,4 +1,5 @@
 ghost use Rattle.std.specs.Prelude.{◌≡◌, ◌++◌, OnOk};
+ghost use Rattle.hex.specs.Hex.{encode_lower};
 ghost use Rattle.serde_json.specs.Data.{number, string};
 ghost use Rattle.serde_json.specs.Find.{of_integer};
 ghost use Rattle.im_wire.specs.Texts.{hex_data, number_data, digests_data, digest_lists_data};
@@ -65,15 +66,39 @@ pub(crate) fn put_text_field(out: &mut Writer, name: &str, text: &str) -> Result
     out.string(text)
 }
 
+// The digits of a digest in lower-case hex.
+fn digits_of(digest: &D32) -> [u8; 64]
+    ensures { result ≡ encode_lower digest.now }
+{
+    let mut digits = [0u8; 64];
+    match hex::encode_to_slice(digest.as_slice(), &mut digits) {
+        Ok(()) => digits,
+        Err(_) => unreachable!(),
+    }
+}
+
+// Adds a digest as lower-case hex. It takes no memory but what the writer has.
+#[tactic(auto, unfolding(crate::specs::Tokens::tokens_of))]
+fn put_digest(out: &mut Writer, digest: &D32) -> Result<(), AllocError>
+    ensures ok { OnOk result (out.new.tokens ≡ out.old.tokens ++ tokens_of (hex_data digest.now)) }
+    ensures before { out.new.before ≡ out.old.before }
+{
+    let digits = digits_of(digest);
+    match str::from_utf8(&digits) {
+        Ok(text) => out.string(text),
+        Err(_) => unreachable!(),
+    }
+}
+
 // Adds an array of digests.
 #[tactic(auto, unfolding(crate::specs::Tokens::tokens_of, crate::specs::Tokens::tail_tokens, crate::specs::Texts::digests_data))]
-fn put_digests(alloc: Global, out: &mut Writer, digests: &[D32]) -> Result<(), AllocError>
+fn put_digests(out: &mut Writer, digests: &[D32]) -> Result<(), AllocError>
     ensures ok { OnOk result (out.new.tokens ≡ out.old.tokens ++ tokens_of (digests_data digests.now)) }
     ensures before { out.new.before ≡ out.old.before }
 {
     out.begin_array()?;
     for digest in digests {
-        put_hex(alloc, out, digest.as_slice())?;
+        put_digest(out, digest)?;
     }
     out.end_array()
 }
@@ -81,7 +106,6 @@ fn put_digests(alloc: Global, out: &mut Writer, digests: &[D32]) -> Result<(), A
 // Adds a member that is an array of digests.
 #[tactic(auto, unfolding(crate::specs::Tokens::field_tokens))]
 pub(crate) fn put_digests_field(
-    alloc: Global,
     out: &mut Writer,
     name: &str,
     digests: &Digests,
@@ -90,18 +114,18 @@ pub(crate) fn put_digests_field(
     ensures before { out.new.before ≡ out.old.before }
 {
     out.key(name)?;
-    put_digests(alloc, out, digests.as_slice())
+    put_digests(out, digests.as_slice())
 }
 
 // Adds an array of arrays of digests.
 #[tactic(auto, unfolding(crate::specs::Tokens::tokens_of, crate::specs::Tokens::tail_tokens, crate::specs::Texts::digest_lists_data))]
-fn put_digest_lists(alloc: Global, out: &mut Writer, lists: &[Digests]) -> Result<(), AllocError>
+fn put_digest_lists(out: &mut Writer, lists: &[Digests]) -> Result<(), AllocError>
     ensures ok { OnOk result (out.new.tokens ≡ out.old.tokens ++ tokens_of (digest_lists_data lists.now)) }
     ensures before { out.new.before ≡ out.old.before }
 {
     out.begin_array()?;
     for digests in lists {
-        put_digests(alloc, out, digests.as_slice())?;
+        put_digests(out, digests.as_slice())?;
     }
     out.end_array()
 }
@@ -109,7 +133,6 @@ fn put_digest_lists(alloc: Global, out: &mut Writer, lists: &[Digests]) -> Resul
 // Adds a member that is an array of arrays of digests.
 #[tactic(auto, unfolding(crate::specs::Tokens::field_tokens))]
 pub(crate) fn put_digest_lists_field(
-    alloc: Global,
     out: &mut Writer,
     name: &str,
     lists: &DigestLists,
@@ -118,5 +141,5 @@ pub(crate) fn put_digest_lists_field(
     ensures before { out.new.before ≡ out.old.before }
 {
     out.key(name)?;
-    put_digest_lists(alloc, out, lists.as_slice())
+    put_digest_lists(out, lists.as_slice())
 }
