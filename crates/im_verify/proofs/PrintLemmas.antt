@@ -1,12 +1,8 @@
 -- A message of these types is read again from its text.
-use Rattle.std.proofs.Common.{◌≡◌, ◌++◌, ℕ, pos, negsuc, zero, suc, List, [], ◌∷◌, Bool, true, false, codes, map, Option, Some, None, IsUtf8, refl, sym, subst, arith}
+use Rattle.std.proofs.Common.{◌≡◌, ◌++◌, ℕ, pos, negsuc, List, [], ◌∷◌, Bool, true, false, codes, map, Option, Some, None, IsUtf8, refl, sym, subst}
 use Rattle.std.specs.Prelude.{⊤}
-use Rattle.std.specs.Str.{IsAscii}
-use Rattle.std.proofs.lemmas.Bool.{and_parts, ltb-true}
 use Rattle.std.proofs.lemmas.Fmt.{IsAscii-decimal, IsAscii-signed}
 use Rattle.std.proofs.lemmas.Str.{IsUtf8-append, IsUtf8-nil, IsUtf8-from_ascii}
-use Rattle.hex.specs.Hex.{encode_lower, lower_digits}
-use Rattle.hex.proofs.HexLemmas.{IsAscii-encode_with}
 use Rattle.json.specs.Print.{IsNumber, print, quoted}
 use Rattle.json.specs.Tree.{HasNumbers, ItemsHaveNumbers, MembersHaveNumbers}
 use Rattle.json.proofs.Printed.Decimals.{IsNumber-decimal, IsNumber-signed_decimal}
@@ -26,17 +22,10 @@ use Rattle.im_wire.specs.Fits.{IsMessage}
 use Rattle.im_wire.specs.Messages.{HasMessage}
 use Rattle.im_wire.specs.Texts.{advance_proof_data, anchor_data, digest_lists_data, digests_data, dual_proof_data, entry_data, header_data, hex_data, message_data, text}
 use Rattle.im_wire.specs.Tokens.{tokens_of}
+use Rattle.im_wire.proofs.DigitLemmas.{hex-utf8}
 use Rattle.im_wire.proofs.MessageAgain.{message-is-read, message-plain}
 use Rattle.im_wire.proofs.ReadAgain.{ArePlain, ArePlainMembers, IsPlain, IsPlainNumber}
 use Rattle.im_wire.proofs.TokenLemmas.{print_is}
-
-ascii-of : (xs : List ℕ) → are_ascii xs ≡ true → IsAscii xs
-ascii-of [] e i = omega arith
-ascii-of (x ∷ xs) e zero = ltb-true x 128 (and_parts _ _ e).0
-ascii-of (x ∷ xs) e (suc i) = ascii-of xs (and_parts _ _ e).1 i
-
-hex-utf8 : (xs : List ℕ) → IsUtf8 (encode_lower xs)
-hex-utf8 xs = IsUtf8-from_ascii (encode_lower xs) (IsAscii-encode_with lower_digits xs (ascii-of lower_digits refl))
 
 number-is : (n : Num) → IsPlainNumber n → IsNumber (number_text n)
 number-is (unsigned n) h = IsNumber-decimal n h
