@@ -82,7 +82,7 @@ pub found-last : (runs : List (List Version)) (history : List Transaction) (key 
 found-last runs history key n are = ap (last_or None) (found-held runs history key n are)
 
 -- of the key itself the number decides
-upto-same : (key : List ℕ) (n : ℕ) (v : Version) → v.key ≡ key → nat_le v.tx n ≡ true → is_upto key n v ≡ true
+pub upto-same : (key : List ℕ) (n : ℕ) (v : Version) → v.key ≡ key → nat_le v.tx n ≡ true → is_upto key n v ≡ true
 upto-same key n v same within = go (slice_cmp nat_cmp v.key key) refl
   where
     go : (o : Ordering) → slice_cmp nat_cmp v.key key ≡ o → upto_by o (nat_le v.tx n) ≡ true
@@ -104,7 +104,7 @@ upto-number key n v same up =
     ap (λ o. upto_by o (nat_le v.tx n)) (sym tied) ∙ up
 
 -- a version at most at a key, behind a version of that key, is of that key
-between-key : (key : List ℕ) (n : ℕ) (v w : Version) → is_lt (numbered w v) ≡ false → is_upto key n w ≡ true → v.key ≡ key → w.key ≡ key
+pub between-key : (key : List ℕ) (n : ℕ) (v w : Version) → is_lt (numbered w v) ≡ false → is_upto key n w ≡ true → v.key ≡ key → w.key ≡ key
 between-key key n v w low up same = go (slice_cmp nat_cmp w.key key) refl up (ap (λ k. is_lt (ordering_then (slice_cmp nat_cmp w.key k) (nat_cmp w.tx v.tx))) (sym same) ∙ low)
   where
     go : (o : Ordering) → slice_cmp nat_cmp w.key key ≡ o → upto_by o (nat_le w.tx n) ≡ true → is_lt (ordering_then o (nat_cmp w.tx v.tx)) ≡ false → w.key ≡ key

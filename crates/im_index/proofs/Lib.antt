@@ -1,3 +1,5 @@
+pub mod BlockLemmas
+pub mod ChangeLemmas
 pub mod CostLemmas
 pub mod FoundLemmas
 pub mod FrontLemmas

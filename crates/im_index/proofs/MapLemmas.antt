@@ -14,7 +14,7 @@ use Rattle.im_index.specs.Newest.{Newest, HasNewest, PutsNewest, newest_in, last
 use Rattle.im_index.proofs.LastLemmas.{last-more}
 
 -- where a version of a key is added, it is that key's last
-last_of-here : (versions : List Version) (v : Version) (key : List ℕ) → bytes_eq v.key key ≡ true → last_of (versions ++ v ∷ []) key ≡ Some v
+pub last_of-here : (versions : List Version) (v : Version) (key : List ℕ) → bytes_eq v.key key ≡ true → last_of (versions ++ v ∷ []) key ≡ Some v
 last_of-here versions v key same =
     last-more (is_of key) versions v ∙ ap (λ b. cond b (Some v) (last_of versions key)) same
 

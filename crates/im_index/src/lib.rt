@@ -4,6 +4,8 @@
 //! reads the index itself; a snapshot is for a reader that goes on while transactions are taken.
 #![tactic(auto)]
 
+mod blocks;
+mod changes;
 pub mod index;
 mod keys;
 pub mod laws;

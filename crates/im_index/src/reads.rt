@@ -1,16 +1,17 @@
 //! What is read off runs. A call that counts its steps has a twin that counts nothing.
 
-ghost use Rattle.std.specs.Prelude.{◌≡◌, ◌≤◌, ◌<◌, ◌+◌, ◌*◌, ◌++◌, [], ◌∷◌, ℕ, List, All, IsTrue, filter, length, nat_le, take, IfOk, OnOk};
+ghost use Rattle.std.specs.Prelude.{◌≡◌, ◌≤◌, ◌<◌, ◌+◌, ◌*◌, ◌++◌, ℕ, List, All, IsTrue, true, filter, length, nat_le, take, IfOk, OnOk};
 ghost use Rattle.std.specs.List.{last_or, flat_map};
 ghost use Rattle.std.specs.List.Sorted.{IsSorted};
 ghost use Rattle.im_model.specs.declared.transactions.Transaction.{Transaction};
-ghost use Rattle.im_versions.specs.Versions.{begins_with, IsScan};
+ghost use Rattle.im_versions.specs.Versions.{begins_with, is_of, IsScan};
 ghost use Rattle.im_versions.specs.declared.versions.Version.{Version as TheVersion};
 ghost use Rattle.im_index.specs.Indexed.{AreRunsOf};
 ghost use Rattle.im_index.specs.Marks.{numbered, found};
 ghost use Rattle.im_index.specs.Newest.{HasNewest};
 ghost use Rattle.im_index.specs.Runs.{HasDigits};
 
+use crate::blocks::{block_len, block_upto};
 use crate::maps::{live_of, put};
 use crate::run::Run;
 use crate::search::{begun, last, of_key};
@@ -138,41 +139,52 @@ pub(crate) fn versions(
     versions_counted::<Brand>(alloc, runs, key, n, Blank::new(1))
 }
 
-// Puts a version into a map in the place of an earlier one of its key, where it is of the first `n` transactions.
-fn put_within<'v>(
+// Puts the last version of a block that is of the first `n` transactions into a map, in the place of an earlier one of its
+// key.
+fn put_block<'v>(
     newest: &mut BTreeMap<&'v [u8], &'v Version>,
-    version: &'v Version,
+    block: &'v [Shared],
     n: u64,
 ) -> Result<(), AllocError>
-    ensures { (before : List TheVersion) (prefix : List ℕ) → HasNewest before prefix newest.old → IsTrue (begins_with prefix version.now.key)
-        → OnOk result (HasNewest (before ++ filter (λ v. nat_le v.tx n) (version.now ∷ [])) prefix newest.new) }
+    requires sorted { IsSorted numbered block.now }
+    requires some { 0 < length block.now }
+    requires own { (key : List ℕ) × All (λ v. is_of key v ≡ true) block.now }
+    ensures { (before : List TheVersion) (prefix : List ℕ) → HasNewest before prefix newest.old → All (λ v. IsTrue (begins_with prefix v.key)) block.now
+        → OnOk result (HasNewest (before ++ filter (λ v. nat_le v.tx n) block.now) prefix newest.new) }
 {
-    let is_behind = n < version.tx;
-    if is_behind {
-        return Ok(());
+    match block_upto(block, n).split_last() {
+        None => Ok(()),
+        Some((last, _)) => {
+            let version = last.version();
+            put(newest, version.key.as_slice(), version)
+        }
     }
-    put(newest, version.key.as_slice(), version)
 }
 
-// Puts the versions of the first `n` transactions among these into a map, each in the place of an earlier one of
-// its key.
+// Puts the last version of each key among these that is of the first `n` transactions into a map, in the place of an
+// earlier one of its key. It passes over the others of a key by doubling and halving.
 fn put_last<'v>(
     newest: &mut BTreeMap<&'v [u8], &'v Version>,
     versions: &'v [Shared],
     n: u64,
 ) -> Result<(), AllocError>
+    requires { IsSorted numbered versions.now }
     ensures { (before : List TheVersion) (prefix : List ℕ) → HasNewest before prefix newest.old → All (λ v. IsTrue (begins_with prefix v.key)) versions.now
         → OnOk result (HasNewest (before ++ filter (λ v. nat_le v.tx n) versions.now) prefix newest.new) }
 {
-    for shared in versions {
-        put_within(newest, shared.version(), n)?;
+    let mut at = 0;
+    'blocks: while at < versions.len() {
+        let first = versions[at].version();
+        let count = block_len(&versions[at..], first.key.as_slice());
+        put_block(newest, &versions[at..at + count], n)?;
+        at += count;
     }
     Ok(())
 }
 
 // Copies of the last versions of the live keys that begin with a prefix, after the first `n` transactions, in
-// rising order, with the steps counted. It looks at the versions in the runs whose keys begin with it, and at the
-// one behind them in each run.
+// rising order, with the steps counted. In each run it compares the first version of each key that begins with it, and the
+// version behind these keys.
 pub(crate) fn scan_steps<L: Ledger>(
     alloc: Global,
     runs: &[Run],

@@ -9,6 +9,7 @@ ghost use Rattle.im_versions.specs.declared.versions.Version.{Version as TheVers
 ghost use Rattle.im_index.specs.Marks.{numbered, is_upto, found};
 ghost use Rattle.im_index.specs.Runs.{HasDigits};
 
+use crate::blocks::block_len;
 use crate::run::Run;
 use crate::shared::Shared;
 use crate::steps::Steps;
@@ -115,19 +116,24 @@ fn all_of<'r, L: Ledger>(
     &run[from..to]
 }
 
-// How many versions in front have keys that begin with a prefix. It compares each of them, and the one behind them.
+// How many versions in front have keys that begin with a prefix. It compares the first one of each key, and the one behind
+// them: those of a key have it all or none.
 fn count_begun<L: Ledger>(versions: &[Shared], prefix: &Sought<'_>, steps: &mut Steps<L>) -> usize
+    requires { IsSorted numbered versions.now }
     ensures within { result ≤ length versions.now }
     ensures front { AllWithin (λ v. begins_with prefix.now v.key ≡ true) versions.now 0 result }
     ensures next { (d : TheVersion) → result < length versions.now → begins_with prefix.now (slice_index_or versions.now result d).key ≡ false }
     ensures cost { steps.new ≤ steps.old + (result + 1) }
 {
-    for (i, shared) in versions.iter().enumerate() {
-        if !prefix.begins(shared.version(), steps) {
-            return i;
+    let mut at = 0;
+    'blocks: while at < versions.len() {
+        let first = versions[at].version();
+        if !prefix.begins(first, steps) {
+            return at;
         }
+        at += block_len(&versions[at..], first.key.as_slice());
     }
-    versions.len()
+    at
 }
 
 // The versions of a run whose keys begin with a prefix. They stand beside each other, and no version has number 0.
@@ -138,6 +144,7 @@ fn begun_with<'r, L: Ledger>(
 ) -> &'r [Shared]
     requires sorted { IsSorted numbered run.now }
     requires counted { All (λ v. 0 < v.tx) run.now }
+    ensures sorted { IsSorted numbered result.now }
     ensures versions { result.now ≡ filter (λ v. begins_with prefix.now v.key) run.now }
     ensures cost { (b : ℕ) → HasDigits b (length run.now) → steps.new ≤ steps.old + (b + 1) + length result.now }
 {
@@ -186,6 +193,7 @@ pub(crate) fn begun<'r, L: Ledger>(
 ) -> &'r [Shared]
     requires sorted { IsSorted numbered run.now }
     requires counted { All (λ v. 0 < v.tx) run.now }
+    ensures sorted { IsSorted numbered result.now }
     ensures versions { result.now ≡ filter (λ v. begins_with prefix.now v.key) run.now }
     ensures cost { (b : ℕ) → HasDigits b (length run.now) → steps.new ≤ steps.old + (b + 1) + length result.now }
 {

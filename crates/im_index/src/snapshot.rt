@@ -1,6 +1,7 @@
-use crate::reads;
 use crate::run::Run;
 use crate::steps::Steps;
+use crate::{changes, reads};
+use im_changes::view::ChangesView;
 use im_versions::versions::{Version, Versions};
 use im_view::errors::ViewError;
 use im_view::view::KvView;
@@ -129,5 +130,11 @@ impl KvView for Snapshot {
 
     fn versions(&self, alloc: Global, key: &[u8], n: u64) -> Result<Versions, ViewError> {
         Ok(reads::versions(alloc, &self.runs, key, n)?)
+    }
+}
+
+impl ChangesView for Snapshot {
+    fn changes(&self, alloc: Global, prefix: &[u8], n: u64) -> Result<Versions, ViewError> {
+        Ok(changes::changes(alloc, &self.runs, prefix, n)?)
     }
 }

@@ -24,6 +24,9 @@ pub begun-requires-clause-counted : goal.begun-requires-clause-counted
 begun-requires-clause-counted g c =
     subst (All (λ (v : Version). 0 < v.tx)) (sym (c.as_slice.ensures ∙ c.run-item.is)) (c.requires.counted c.loop-run.run-index c.run-item.result c.loop-run-test.true)
 
+pub put_last-requires : goal.put_last-requires
+put_last-requires g c = c.begun.ensures.sorted
+
 pub loop-run-preserved : goal.loop-run-preserved
 loop-run-preserved g c =
     let prefix : List ℕ = c.args.prefix.now in

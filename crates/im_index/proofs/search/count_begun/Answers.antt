@@ -1,40 +1,58 @@
-use Rattle.std.proofs.Common.{◌≡◌, ℕ, true, false, inl, inr, arith, ap, sym, subst, ◌∙◌, get_or, length}
-use Rattle.std.proofs.lemmas.Bool.{cases_lt}
+use Rattle.std.proofs.Common.{◌≡◌, ◌-◌, ℕ, List, true, false, arith, ap, length, sym, subst, ◌∙◌}
 use Rattle.std.proofs.lemmas.List.{get_or_read}
-use Rattle.std.specs.List.{AllWithin}
 use Rattle.im_versions.specs.Versions.{begins_with}
 use Rattle.im_versions.specs.declared.versions.Version.{Version}
+use Rattle.im_index.proofs.BlockLemmas.{begun-up, part-first, part-length, part-sorted}
 use Rattle.im_index.proofs.search.count_begun.Goals as goal
 
-pub loop-i-preserved : goal.loop-i-preserved
-loop-i-preserved g c =
-    let v : Version = c.index-versions-i.result in
-    let here : begins_with c.args.prefix.now v.key ≡ true =
-    ap (λ (x : Version). begins_with c.args.prefix.now x.key) (sym c.version.ensures) ∙ sym c.begins.ensures.value ∙ c.if-not-begins.false in
+pub blocks-init : goal.blocks-init
+blocks-init g c = record {
+  within = omega arith;
+  front = λ k d low less. absurd (omega arith);
+  cost = omega arith;
+}
+
+pub block_len-requires-clause-sorted : goal.block_len-requires-clause-sorted
+block_len-requires-clause-sorted g c =
+    part-sorted c.args.versions.now c.blocks.at (length c.args.versions.now - c.blocks.at) (omega arith) c.requires
+
+pub block_len-requires-clause-some : goal.block_len-requires-clause-some
+block_len-requires-clause-some g c =
+    omega (arith, part-length c.args.versions.now c.blocks.at (length c.args.versions.now - c.blocks.at) (omega arith))
+
+pub block_len-requires-clause-first : goal.block_len-requires-clause-first
+block_len-requires-clause-first g c =
+    part-first c.args.versions.now c.blocks.at (length c.args.versions.now - c.blocks.at) c.index-versions-at.result _ (omega arith) (omega arith)
+    c.index-versions-at.is (c.as_slice.ensures ∙ ap (λ (w : Version). w.key) c.version-first.ensures)
+
+pub blocks-preserved : goal.blocks-preserved
+blocks-preserved g c =
+    let prefix : List ℕ = c.args.prefix.now in
+    let versions : List Version = c.args.versions.now in
+    let at : ℕ = c.blocks.at in
+    let long : ℕ = length versions - at in
+    let v : Version = c.index-versions-at.result in
+    let here : begins_with prefix v.key ≡ true =
+    ap (λ (x : Version). begins_with prefix x.key) (sym c.version-first.ensures) ∙ sym c.begins.ensures.value ∙ c.if-not-begins.false in
+    let size = part-length versions at long (omega arith) in
     record {
-      front = λ k d low less. elim (cases_lt k c.loop-i.i) [
-        | inl before ↦ c.loop-i.invariant.front k d low before
-        | inr last ↦ (
-            let same : c.loop-i.i ≡ k = omega arith in
-            subst (λ (m : ℕ). begins_with c.args.prefix.now (get_or c.args.versions.now m d).key ≡ true) same
-            (subst (λ (w : Version). begins_with c.args.prefix.now w.key ≡ true) (get_or_read c.args.versions.now c.loop-i.i v (omega arith) c.index-versions-i.is d) here))
-      ];
-      cost = omega (arith, c.begins.ensures.cost, c.loop-i.invariant.cost);
+      within = omega (arith, size, c.block_len.ensures.within);
+      front = begun-up prefix c.as_slice.result.now versions at long c.block_len.result v (omega arith) (omega (arith, size, c.block_len.ensures.within))
+          (c.as_slice.ensures ∙ ap (λ (w : Version). w.key) c.version-first.ensures) here c.blocks.invariant.front c.block_len.ensures.own;
+      cost = omega (arith, c.begins.ensures.cost, c.blocks.invariant.cost, c.block_len.ensures.some);
     }
+
+pub returns-then-not-begins-clause-front : goal.returns-then-not-begins-clause-front
+returns-then-not-begins-clause-front g c = c.blocks.invariant.front
 
 pub returns-then-not-begins-clause-next : goal.returns-then-not-begins-clause-next
 returns-then-not-begins-clause-next g c = λ d within.
-    let v : Version = c.index-versions-i.result in
-    subst (λ (w : Version). begins_with c.args.prefix.now w.key ≡ false) (get_or_read c.args.versions.now c.loop-i.i v (omega arith) c.index-versions-i.is d)
-    (ap (λ (x : Version). begins_with c.args.prefix.now x.key) (sym c.version.ensures) ∙ sym c.begins.ensures.value ∙ c.if-not-begins.true)
+    let v : Version = c.index-versions-at.result in
+    subst (λ (w : Version). begins_with c.args.prefix.now w.key ≡ false) (get_or_read c.args.versions.now c.blocks.at v within c.index-versions-at.is d)
+    (ap (λ (x : Version). begins_with c.args.prefix.now x.key) (sym c.version-first.ensures) ∙ sym c.begins.ensures.value ∙ c.if-not-begins.true)
 
 pub returns-clause-front : goal.returns-clause-front
-returns-clause-front g c =
-    let same : c.loop-i.i ≡ length c.args.versions.now = omega arith in
-    subst (λ (m : ℕ). AllWithin (λ (v : Version). begins_with c.args.prefix.now v.key ≡ true) c.args.versions.now 0 m) same c.loop-i.invariant.front
+returns-clause-front g c = c.blocks.invariant.front
 
 pub returns-clause-next : goal.returns-clause-next
 returns-clause-next g c = λ d within. absurd (omega arith)
-
-pub returns-clause-cost : goal.returns-clause-cost
-returns-clause-cost g c = omega (arith, c.loop-i.invariant.cost)
