@@ -39,7 +39,7 @@ pub put_block-requires-clause-own : goal.put_block-requires-clause-own
 put_block-requires-clause-own c = (
   c.as_slice.result.now,
   part-own c.as_slice.result.now c.args.versions.now c.blocks.at (length c.args.versions.now - c.blocks.at) c.block_len-count.result _ (omega arith)
-  (omega arith) (omega arith) c.block_len-count.ensures.own,
+      (omega arith) (omega arith) c.block_len-count.ensures.own,
 )
 
 pub blocks-preserved : goal.blocks-preserved
