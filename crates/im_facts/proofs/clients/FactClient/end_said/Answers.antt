@@ -13,20 +13,20 @@ use Rattle.im_facts.proofs.clients.FactClient.end_said.Goals as goal
 pub put-requires : goal.put-requires
 put-requires g c = led-rises (g.H.Hash32.digest c.args.self.now.hash) c.args.self.now.kept c.requires.led
 
-pub returns-in-None-clause-taken : goal.returns-in-None-clause-taken
-returns-in-None-clause-taken g c = λ messages m are says.
+pub returns-in_default-clause-taken : goal.returns-in_default-clause-taken
+returns-in_default-clause-taken g c = λ messages m are says.
     let hash = g.H.Hash32.digest c.args.self.now.hash in
     let known = known_of c.args.self.now.kept messages in
     let judged = c.requires.judged in
     subst (λ (n : Message). IsTakenAs hash known n c.args.judged.taken) (says-one c.args.line.now judged.0 m judged.1 says) (judged.2 messages are).taken
 
-pub returns-in-None-clause-keeps : goal.returns-in-None-clause-keeps
-returns-in-None-clause-keeps g c = λ messages m are says.
+pub returns-in_default-clause-keeps : goal.returns-in_default-clause-keeps
+returns-in_default-clause-keeps g c = λ messages m are says.
     let hash = g.H.Hash32.digest c.args.self.now.hash in
     let known = known_of c.args.self.now.kept messages in
     let judged = c.requires.judged in
     subst (λ (n : Message). Knows c.args.self.now.kept (known_behind known n c.args.judged.taken)) (says-one c.args.line.now judged.0 m judged.1 says)
-    (end-stays hash c.args.self.now.kept messages judged.0 c.args.judged c.in-None.is are (judged.2 messages are))
+    (end-stays hash c.args.self.now.kept messages judged.0 c.args.judged c.in_default.is are (judged.2 messages are))
 
 pub returns-in-Ok-clause-taken : goal.returns-in-Ok-clause-taken
 returns-in-Ok-clause-taken g c = λ messages m are says.

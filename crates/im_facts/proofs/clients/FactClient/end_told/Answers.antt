@@ -7,12 +7,12 @@ use Rattle.im_facts.proofs.clients.FactClient.end_told.Goals as goal
 pub put_told-requires : goal.put_told-requires
 put_told-requires g c = led-rises (g.H.Hash32.digest c.args.self.now.hash) c.args.self.now.kept c.requires.led
 
-pub returns-in-None-clause-taken : goal.returns-in-None-clause-taken
-returns-in-None-clause-taken g c = λ messages are. (c.requires.judged messages are).taken
+pub returns-in_default-clause-taken : goal.returns-in_default-clause-taken
+returns-in_default-clause-taken g c = λ messages are. (c.requires.judged messages are).taken
 
-pub returns-in-None-clause-keeps : goal.returns-in-None-clause-keeps
-returns-in-None-clause-keeps g c = λ messages are.
-    end-stays (g.H.Hash32.digest c.args.self.now.hash) c.args.self.now.kept messages c.args.message c.args.judged c.in-None.is are (c.requires.judged messages are)
+pub returns-in_default-clause-keeps : goal.returns-in_default-clause-keeps
+returns-in_default-clause-keeps g c = λ messages are.
+    end-stays (g.H.Hash32.digest c.args.self.now.hash) c.args.self.now.kept messages c.args.message c.args.judged c.in_default.is are (c.requires.judged messages are)
 
 pub returns-in-Ok-clause-taken : goal.returns-in-Ok-clause-taken
 returns-in-Ok-clause-taken g c = λ messages are. (c.requires.judged messages are).taken
