@@ -1,5 +1,3 @@
-ghost use Rattle.std.specs.Prelude.{◌<◌};
-
 use im_disk::disk::{Disk, DiskError};
 use im_format::files::COMMIT_LOG;
 
@@ -54,9 +52,7 @@ impl<D: Disk> Disk for Counted<D> {
         self.inner.read(file, at, buffer)
     }
 
-    fn write_at(&mut self, file: u8, at: u64, piece: &[u8]) -> Result<(), DiskError>
-        requires { file < 16 }
-    {
+    fn write_at(&mut self, file: u8, at: u64, piece: &[u8]) -> Result<(), DiskError> {
         if file == COMMIT_LOG && piece.len() == 1 && piece[0] == OPEN {
             self.gates = self.gates.saturating_add(1);
         }

@@ -1,5 +1,6 @@
 -- What proofs are built of.
 use Rattle.std.proofs.Common.{◌≡◌, ◌≤◌, ◌<◌, ◌+◌, ◌-◌, ◌∙◌, [], ◌∷◌, ℕ, zero, suc, List, Option, Some, length, take, slice_get, get_or, ap, arith, sym, subst}
+use Rattle.std.proofs.lemmas.List.{get_or_default}
 use mathlib.Core.List.{IsPrefix}
 use Rattle.im_book.specs.Booked.{last_bl, last_bl_or}
 use Rattle.im_digest.specs.Digests.{Hash}
@@ -98,6 +99,13 @@ one_anchor made hash history s t headers anchor same is are each =
 -- the headers of a list have its length
 pub headers_within : (hash : Hash) (items : List LogItem) (headers : List Header) → headers ≡ headers_of hash (history_of items) → length headers ≡ length items
 headers_within hash items headers are = ap (λ (l : List Header). length l) are ∙ headers-length hash (history_of items) ∙ history_length items
+
+-- a transaction that was read of a list's history
+pub transaction_read : (items : List LogItem) (txs : List Transaction) (n : ℕ) (tx : Transaction) → txs ≡ history_of items → 1 ≤ n → n ≤ length items
+    → tx ≡ get_or txs (n - 1) tx → tx ≡ transaction_of (history_of items) n
+transaction_read items txs n tx same some within is =
+    is ∙ ap (λ (l : List Transaction). get_or l (n - 1) tx) same
+    ∙ get_or_default (history_of items) (n - 1) tx no_transaction (omega (arith, some, within, history_length items))
 
 -- an element by its place
 get_is : (xs : List Transaction) (k : ℕ) (x d : Transaction) → slice_get xs k ≡ Some x → get_or xs k d ≡ x

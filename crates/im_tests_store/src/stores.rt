@@ -262,7 +262,8 @@ fn two_threads<N: TipName + Send + Sync, R: Threads + Wait + Sync>(
     store.end(&mut main, second);
     let (disk, _) = store.close(vec![in alloc; main]?);
     drop(disk);
-    Ok(all && a + b == 1)
+    let one_of_two = if a == 0 { b == 1 } else { a == 1 && b == 0 };
+    Ok(all && one_of_two)
 }
 
 fn run_two<R: Threads + Wait + Sync>(rt: &R, alloc: Global) -> Result<bool, Fail> {

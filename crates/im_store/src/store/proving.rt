@@ -175,7 +175,9 @@ impl<'h, H: Hash32, D: Disk, C: Clock, L: Law, N: TipName> Store<'h, H, D, C, L,
     {
         let mut book = self.book.lock(rt);
         book.show(&self.tip, pass);
-        entry_count(&book.transactions()[t as usize - 1])
+        let transactions = book.transactions();
+        let at = t as usize - 1;
+        entry_count(&transactions[at])
     }
 
     // Entry `i` of a durable transaction with its path, and the dual proof from it to another one.
@@ -222,7 +224,9 @@ impl<'h, H: Hash32, D: Disk, C: Clock, L: Law, N: TipName> Store<'h, H, D, C, L,
         ensures { IfOk result (λ item. ProvesEntry N.digest (history_of book.now) t i s item) }
     {
         let dual = build(alloc, self.hash, book.headers(), tree.tree(), t, s)?;
-        let entries = book.transactions()[t as usize - 1].entries.as_slice();
+        let transactions = book.transactions();
+        let at = t as usize - 1;
+        let entries = transactions[at].entries.as_slice();
         match entry_and_path(alloc, self.hash, entries, i) {
             Ok((entry, path)) => Ok(ProvedEntry {
                 dual,

@@ -105,7 +105,9 @@ impl<'h, H: Hash32, D: Disk, C: Clock, L: Law, N: TipName> Store<'h, H, D, C, L,
     {
         let mut book = self.book.lock(rt);
         book.show(&self.tip, pass);
-        book.headers()[k as usize - 1].try_clone(alloc)
+        let headers = book.headers();
+        let at = k as usize - 1;
+        headers[at].try_clone(alloc)
     }
 
     /// The value that a reference shows, read from its log under the journal's lock: one read of the disk, and one hash. Of a

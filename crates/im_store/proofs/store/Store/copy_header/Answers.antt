@@ -1,6 +1,8 @@
-use Rattle.std.proofs.Common.{List, length, ap, arith}
+use Rattle.std.proofs.Common.{◌≡◌, ◌≤◌, ◌∙◌, ◌-◌, List, length, get_or, ap, sym, arith}
+use Rattle.std.proofs.lemmas.Result.{IfOk-weaker}
+use Rattle.im_model.specs.History.{header_of}
 use Rattle.im_model.specs.declared.headers.Header.{Header}
-use Rattle.im_proof.proofs.HeaderLemmas.{headers-length}
+use Rattle.im_proof.proofs.HeaderLemmas.{headers-length, headers-nth}
 use Rattle.im_table.specs.Histories.{history_of}
 use Rattle.im_table.specs.declared.items.LogItem.{LogItem}
 use Rattle.im_table.specs.declared.view.AllLooks.{AllLooks}
@@ -8,8 +10,8 @@ use Rattle.im_table.proofs.HistoryLemmas.{history_length}
 use Rattle.im_store.proofs.GainLemmas.{follows_placed}
 use Rattle.im_store.proofs.store.Store.copy_header.Goals as goal
 
-pub index-requires : goal.index-requires
-index-requires g c =
+pub bounds-headers-at : goal.bounds-headers-at
+bounds-headers-at g c =
     let show = c.show in
     omega (
       arith,
@@ -18,7 +20,7 @@ index-requires g c =
       show.ensures.later.durable,
       show.ensures.durable,
       show.ensures.seen.1,
-      ap (λ (l : List Header). length l) c.headers.ensures,
+      ap (λ (l : List Header). length l) c.headers-headers.ensures,
       headers-length g.N.TipName.digest (history_of show.new.self),
       history_length show.new.self,
     )
@@ -33,3 +35,18 @@ pub returns-clause-seen : goal.returns-clause-seen
 returns-clause-seen g c =
     let show = c.show.ensures in
     omega (arith, c.requires.durable, show.later.durable, show.durable, show.seen.1, ap (λ (l : List LogItem). length l) show.seen.0)
+
+-- the book's headers are those of the list
+pub returns-clause-header : goal.returns-clause-header
+returns-clause-header g c =
+    let hash = g.N.TipName.digest in
+    let show = c.show in
+    let items : List LogItem = show.new.self in
+    let header : Header = c.index-headers-at.result in
+    let within : c.args.k ≤ length (history_of items) =
+    omega (arith, c.requires.durable, show.ensures.later.durable, show.ensures.durable, show.ensures.seen.1, history_length items) in
+    let is : header ≡ header_of hash (history_of items) c.args.k =
+    c.index-headers-at.is ∙ ap (λ (l : List Header). get_or l (c.args.k - 1) header) c.headers-headers.ensures
+    ∙ headers-nth hash (history_of items) c.args.k header c.requires.some within in
+    let seen = ap (λ (l : List LogItem). header_of hash (history_of l) c.args.k) (sym show.ensures.seen.0) in
+    IfOk-weaker c.try_clone.result _ _ (λ copy same. same ∙ is ∙ seen) c.try_clone.ensures

@@ -1,16 +1,16 @@
-use Rattle.std.proofs.Common.{◌-◌, ◌∙◌, List, length, get_or, ap, arith, sym}
-use Rattle.im_model.specs.History.{no_transaction, transaction_of}
+use Rattle.std.proofs.Common.{◌≡◌, ◌≤◌, ◌∙◌, List, length, ap, arith, sym}
+use Rattle.im_model.specs.History.{transaction_of}
 use Rattle.im_model.specs.declared.transactions.Transaction.{Transaction}
 use Rattle.im_table.specs.Histories.{history_of}
 use Rattle.im_table.specs.declared.items.LogItem.{LogItem}
 use Rattle.im_table.specs.declared.view.AllLooks.{AllLooks}
 use Rattle.im_table.proofs.HistoryLemmas.{history_length}
 use Rattle.im_store.proofs.GainLemmas.{follows_placed}
-use Rattle.im_store.proofs.ProveLemmas.{entries_few}
+use Rattle.im_store.proofs.ProveLemmas.{entries_few, transaction_read}
 use Rattle.im_store.proofs.store.Store.width_of.Goals as goal
 
-pub index-requires : goal.index-requires
-index-requires g c =
+pub bounds-transactions-at : goal.bounds-transactions-at
+bounds-transactions-at g c =
     let show = c.show in
     omega (
       arith,
@@ -19,7 +19,7 @@ index-requires g c =
       show.ensures.later.durable,
       show.ensures.durable,
       show.ensures.seen.1,
-      ap (λ (l : List Transaction). length l) c.transactions.ensures,
+      ap (λ (l : List Transaction). length l) c.transactions-transactions.ensures,
       history_length show.new.self,
     )
 
@@ -37,13 +37,17 @@ returns-clause-seen g c =
 pub entry_count-requires : goal.entry_count-requires
 entry_count-requires g c =
     let show = c.show in
-    let is = ap (λ (l : List Transaction). get_or l (c.args.t - 1) no_transaction) c.transactions.ensures in
-    let few = entries_few show.new.self c.args.t show.ensures.history c.requires.some
-    (omega (arith, c.requires.durable, show.ensures.later.durable, show.ensures.durable, show.ensures.seen.1)) in
+    let within : c.args.t ≤ length show.new.self = omega (arith, c.requires.durable, show.ensures.later.durable, show.ensures.durable, show.ensures.seen.1) in
+    let tx : Transaction = c.index-transactions-at.result in
+    let is = transaction_read show.new.self c.transactions-transactions.result.now c.args.t tx c.transactions-transactions.ensures c.requires.some within c.index-transactions-at.is in
+    let few = entries_few show.new.self c.args.t show.ensures.history c.requires.some within in
     omega (arith, few, ap (λ (t : Transaction). length t.entries) is)
 
 pub returns-clause-width : goal.returns-clause-width
 returns-clause-width g c =
-    let is = ap (λ (l : List Transaction). get_or l (c.args.t - 1) no_transaction) c.transactions.ensures in
+    let show = c.show in
+    let within : c.args.t ≤ length show.new.self = omega (arith, c.requires.durable, show.ensures.later.durable, show.ensures.durable, show.ensures.seen.1) in
+    let tx : Transaction = c.index-transactions-at.result in
+    let is = transaction_read show.new.self c.transactions-transactions.result.now c.args.t tx c.transactions-transactions.ensures c.requires.some within c.index-transactions-at.is in
     c.entry_count.ensures ∙ ap (λ (t : Transaction). length t.entries) is
-    ∙ sym (ap (λ (l : List LogItem). length (transaction_of (history_of l) c.args.t).entries) c.show.ensures.seen.0)
+    ∙ sym (ap (λ (l : List LogItem). length (transaction_of (history_of l) c.args.t).entries) show.ensures.seen.0)
