@@ -1,5 +1,5 @@
 -- Passes that come together by the holder of all roles.
-use Rattle.std.proofs.Common.{◌≡◌, ◌+◌, ◌++◌, true, [], ◌∷◌, ◌∙◌, ℕ, List, length, refl, ap, subst, arith}
+use Rattle.std.proofs.Common.{◌≡◌, ◌+◌, ◌++◌, true, [], ◌∷◌, ◌∙◌, ℕ, suc, List, length, refl, ap, subst, arith}
 use Rattle.std.specs.List.{All}
 use Rattle.im_table.specs.Known.{KnownPass}
 use Rattle.im_table.specs.Passes.{book_role, index_role, journal_role, tree_role}
@@ -10,6 +10,11 @@ use Rattle.im_table.specs.declared.view.View.{View}
 pub nil_of : (xs : List KnownPass) → length xs ≡ 0 → xs ≡ []
 nil_of [] e = refl
 nil_of (x ∷ xs) e = absurd (omega (arith, e))
+
+-- what holds of each of a list holds of one within
+pub all_middle : (P : KnownPass → Type 0) (xs ys : List KnownPass) (x : KnownPass) → All P (xs ++ x ∷ ys) → P x
+all_middle P [] ys x all = all 0 x (omega arith)
+all_middle P (y ∷ xs) ys x all = all_middle P xs ys x (λ k d lt. all (suc k) d (omega (arith, lt)))
 
 -- what holds of each behind an equal value
 pub all_same : {X : Type 0} (P : X → KnownPass → Type 0) (a b : X) (ps : List KnownPass) → a ≡ b → All (λ p. P a p) ps → All (λ p. P b p) ps

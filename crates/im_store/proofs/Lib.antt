@@ -12,3 +12,4 @@ pub mod ReadLemmas
 pub mod ProveLemmas
 pub mod CloseLemmas
 pub mod OpenLemmas
+pub mod SplitLemmas

@@ -21,7 +21,10 @@ raise-requires-clause-tree g c =
 pub raise-requires-clause-up : goal.raise-requires-clause-up
 raise-requires-clause-up g c =
     let found = c.args.found in
-    omega (arith, c.requires.found.linked, c.len.ensures, found.alhs.ok)
+    omega (arith, c.requires.found.linked, c.len.ensures, found.alhs.ok.0)
+
+pub raise-requires-clause-within : goal.raise-requires-clause-within
+raise-requires-clause-within g c = omega (arith, c.len.ensures, ap (λ (l : List (List ℕ)). length l) c.as_slice.ensures.value, c.args.found.alhs.ok.0)
 
 -- the index is empty, and the history is no longer than a store can be
 pub take_all-requires : goal.take_all-requires
@@ -30,7 +33,7 @@ take_all-requires g c =
     let some : c.as_slice-2.result.now ≡ history_of (items_of rs) =
     c.as_slice-2.ensures.value ∙ c.in_ok-transactions.ensures.transactions ∙ ap (λ (l : List LogItem). history_of l) c.in_ok-tip.ensures.items in
     let count = ap (λ (l : List Transaction). length l) (some ∙ found_history rs) in
-    omega (arith, c.new.ensures.taken, count, c.requires.found.history.few)
+    omega (arith, c.new-index.ensures.taken, count, c.requires.found.history.few)
 
 pub returns : goal.returns
 returns g c =
@@ -39,7 +42,7 @@ returns g c =
     let rs = found.records.items in
     let alhs : List (List ℕ) = found.alhs.items in
     let slice : c.as_slice.result.now ≡ alhs = c.as_slice.ensures.value in
-    let all : c.len.result ≡ length alhs = omega (arith, c.len.ensures, found.alhs.ok) in
+    let all : c.len.result ≡ length alhs = omega (arith, c.len.ensures, found.alhs.ok.0) in
     let history : c.in_ok-transactions.field-0.0.items ≡ history_of (items_of rs) =
     c.in_ok-transactions.ensures.transactions ∙ ap (λ (l : List LogItem). history_of l) c.in_ok-tip.ensures.items in
     let N : ℕ → Type 0 = λ n. take n alhs ≡ alhs in
@@ -56,7 +59,7 @@ returns g c =
       table = c.in_ok-tip.ensures.pass.0;
       view = c.in_ok-tip.ensures.pass.1;
       records_are = whole_records hash found c.requires.found;
-      index_is = subst (λ (l : List Transaction). IsIndexOf c.take_all.new.self l) (c.as_slice-2.ensures.value ∙ history) (c.in_ok-take_all.ensures.taken [] c.new.ensures);
+      index_is = subst (λ (l : List Transaction). IsIndexOf c.take_all.new.self l) (c.as_slice-2.ensures.value ∙ history) (c.in_ok-take_all.ensures.taken [] c.new-index.ensures);
       transactions_are = transactions;
       book_is = whole_book hash found c.requires.found c.of.result transactions c.of.ensures.1 c.of.ensures.2;
       refs_are = c.in_ok-transactions.ensures.refs ∙ ap (λ (l : List LogItem). refs_in l) c.in_ok-tip.ensures.items;

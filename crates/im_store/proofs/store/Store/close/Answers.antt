@@ -18,6 +18,25 @@ use Rattle.im_store.proofs.CloseLemmas.{gathered_durable, gathered_failed, gathe
 use Rattle.im_store.proofs.MomentLemmas.{front_now, whole_now}
 use Rattle.im_store.proofs.store.Store.close.Goals as goal
 
+-- each keeper is of the store's tip
+pub join-requires-clause-table : goal.join-requires-clause-table
+join-requires-clause-table g c = c.into_parts.ensures.pass.0 ∙ sym c.args.self.named
+
+pub join-requires-clause-other : goal.join-requires-clause-other
+join-requires-clause-other g c = c.into_parts-2.ensures.pass.0 ∙ sym c.args.self.named
+
+pub join-2-requires-clause-table : goal.join-2-requires-clause-table
+join-2-requires-clause-table g c = c.join.ensures.table ∙ c.into_parts.ensures.pass.0 ∙ sym c.args.self.named
+
+pub join-2-requires-clause-other : goal.join-2-requires-clause-other
+join-2-requires-clause-other g c = c.into_parts-3.ensures.pass.0 ∙ sym c.args.self.named
+
+pub join-3-requires-clause-table : goal.join-3-requires-clause-table
+join-3-requires-clause-table g c = c.join-2.ensures.table ∙ c.join.ensures.table ∙ c.into_parts.ensures.pass.0 ∙ sym c.args.self.named
+
+pub join-3-requires-clause-other : goal.join-3-requires-clause-other
+join-3-requires-clause-other g c = c.into_parts-4.ensures.pass.0 ∙ sym c.args.self.named
+
 -- the four keepers have come together: their holder has all roles
 pub take_in-requires-clause-keeper : goal.take_in-requires-clause-keeper
 take_in-requires-clause-keeper g c =
@@ -32,6 +51,9 @@ take_in-requires-clause-keeper g c =
 
 pub take_in-requires-clause-passes : goal.take_in-requires-clause-passes
 take_in-requires-clause-passes g c = subst (λ (table : TableId). All (IsPassOf table) c.args.passes.items) (sym c.args.self.named) c.requires.passes
+
+pub close-requires-clause-table : goal.close-requires-clause-table
+close-requires-clause-table g c = c.take_in.ensures.keeper.0
 
 pub close-requires-clause-role : goal.close-requires-clause-role
 close-requires-clause-role g c = ap (λ (r : Roles). r.book) c.take_in.ensures.keeper.1

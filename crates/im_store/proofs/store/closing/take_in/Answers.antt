@@ -5,14 +5,28 @@ use Rattle.std.proofs.lemmas.List.{append-nil}
 use Rattle.std.proofs.lemmas.List.Elements.{All-push}
 use Rattle.std.proofs.lemmas.List.Sums.{sum_by_push}
 use Rattle.im_table.specs.Known.{KnownPass}
+use Rattle.im_table.specs.Passes.{IsPassOf}
 use Rattle.im_table.specs.Views.{times}
 use Rattle.im_table.specs.declared.items.LogItem.{LogItem}
 use Rattle.im_table.specs.declared.view.Least.{Least}
 use Rattle.im_table.specs.declared.view.View.{View}
 use Rattle.im_table.proofs.NumberLemmas.{times_append}
 use Rattle.im_store.specs.Closing.{leaves_linked, own_count, weight_in}
-use Rattle.im_store.proofs.CloseLemmas.{all_same, held_least, held_roles, held_seen, nil_of}
+use Rattle.im_store.proofs.CloseLemmas.{all_middle, all_same, held_least, held_roles, held_seen, nil_of}
 use Rattle.im_store.proofs.store.closing.take_in.Goals as goal
+
+-- the pass is one of those that were handed in
+pub join-requires-clause-other : goal.join-requires-clause-other
+join-requires-clause-other g c =
+    let x = c.in-Some.pass in
+    let rest : List KnownPass = c.next.new.self.rest.items in
+    let all : c.args.passes.items ≡ c.loop-pass.yielded ++ x ∷ rest =
+    c.loop-pass.invariant.all ∙ ap (λ (l : List KnownPass). c.loop-pass.yielded ++ l) c.in-Some.ensures.steps.0 in
+    let each : All (IsPassOf c.args.tip.now.table) (c.loop-pass.yielded ++ x ∷ rest) = subst (All (IsPassOf c.args.tip.now.table)) all c.requires.passes in
+    (all_middle (IsPassOf c.args.tip.now.table) c.loop-pass.yielded rest x each).0
+
+pub join-requires-clause-table : goal.join-requires-clause-table
+join-requires-clause-table g c = c.loop-pass.invariant.keeper.0
 
 -- one pass more: the holder of all roles keeps its list and its numbers
 pub loop-pass-preserved : goal.loop-pass-preserved

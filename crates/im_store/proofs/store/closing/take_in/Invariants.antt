@@ -10,7 +10,7 @@ invariant-loop-pass g l = record {
   can : (goal.iterator-loop-pass g).can_next l.pass-iterator;
   finite : (goal.iterator-loop-pass g).is_finite l.pass-iterator;
   all : l.fn.passes.items ≡ l.yielded ++ l.pass-iterator.rest.items;
-  keeper : HoldsAll l.tip.now.table l.keeper;
+  keeper : HoldsAll l.tip.table l.keeper;
   same : (l.keeper.view.seen ≡ l.initial.keeper.view.seen) × (l.keeper.view.least ≡ l.initial.keeper.view.least);
   begins : All (λ p. IsPrefix p.view.seen l.keeper.view.seen) l.yielded;
   durable : All (λ p. p.view.least.durable ≤ l.keeper.view.least.durable) l.yielded;
