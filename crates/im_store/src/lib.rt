@@ -96,7 +96,7 @@
 //!
 //! | call | waits for | costs |
 //! |---|---|---|
-//! | `pass`, `end`, `tip` | nobody | a few steps on words; no memory |
+//! | `hash`, `pass`, `end`, `tip` | nobody | a few steps on words; no memory |
 //! | `commit` | book and tree; then the journal, unless another thread makes it durable | each value hashed twice, each entry and the header once, a few nodes of the tree; two copies of keys and values; its share of a batch: 2 syncs, 3 writes and one for each value log |
 //! | `settle` | book; then as `commit` | nothing where it is durable, else its share of a batch |
 //! | `link` | book, tree | a copy of 32 octets, one leaf and about one node hashed for each transaction |

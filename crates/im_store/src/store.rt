@@ -33,7 +33,7 @@ use std::sync::Mutex;
 ///
 /// # Thread safety
 ///
-/// Any number of threads may call it at a time. Calls that wait for a lock take the runtime, `rt`; `pass`, `end`, `tip` and `close`
+/// Any number of threads may call it at a time. Calls that wait for a lock take the runtime, `rt`; `hash`, `pass`, `end`, `tip` and `close`
 /// wait for nobody and take no memory, and neither do the reads of a snapshot. There are four locks, and they are taken in
 /// this order: the journal's, the index's, the book's, the tree's. The book's lock is held for no call of the disk.
 ///

@@ -24,6 +24,7 @@ returns-2-clause-placed g c n seen last = omega (arith, seen, c.flush_placed.ens
 -- or the one in progress is finished
 pub returns-3-clause-durable : goal.returns-3-clause-durable
 returns-3-clause-durable g c = ap (λ (l : AllLooks). l.durable) c.finish.ensures.looks
+
 pub returns-clause-failed : goal.returns-clause-failed
 returns-clause-failed g c going = absurd (going tt)
 
