@@ -9,7 +9,7 @@ use Rattle.atomic_table.specs.Table.{Me, keeps, Allows, opening}
 use Rattle.im_table.specs.declared.view.View.{View}
 use Rattle.im_table.specs.declared.items.LogItem.{LogItem}
 use Rattle.im_table.specs.Views.{times, placed_by, spent, opener}
-use Rattle.im_table.specs.Rules.{NoSlot, Marks, Closes, FitsRule, Tally, journals, indexes, books, trees, weights, leaves, owns, share, whole, HoldsRule}
+use Rattle.im_table.specs.Rules.{NoSlot, Marks, Closes, FitsRule, Tally, journals, indexes, books, trees, weights, leaves, faults, owns, share, whole, HoldsRule}
 use Rattle.im_table.proofs.FrontLemmas.{prefix_self}
 use Rattle.im_table.proofs.NumberLemmas.{numbers_found}
 use Rattle.im_table.proofs.SumLemmas.{sum_two, sum_only}
@@ -17,7 +17,7 @@ use Rattle.im_table.proofs.KeepLemmas.{none_less, kept_same, word, again}
 
 module _ (allows : List LogItem → Type 0) (found : List LogItem) where
   -- a load by the one who has the whole weight, and the roles of book and tree
-  pub closes : (slots id : ℕ) (me : Me NoSlot View) → me.0.roles.book ≡ true → Allows (HoldsRule allows found) slots id me 0 (λ n. n) (λ n w. Closes found me.0 n w.0 × (w.1 ≡ me.1))
+  pub closes : (slots id : ℕ) (me : Me NoSlot View) → me.0.roles.book ≡ true → Allows (HoldsRule allows found) slots id me 0 (λ n. n) (λ n w. Closes allows found me.0 n w.0 × (w.1 ≡ me.1))
   closes slots id me book s h homes at small =
       let v = me.0 in
       let n = slice_index s.words 0 in
@@ -33,6 +33,7 @@ module _ (allows : List LogItem → Type 0) (found : List LogItem) where
           record {
             view = refl;
             begins = subst (λ (l : List LogItem). IsPrefix found l) (sym all) h.ordered.begins;
+            lawful = f.lawful;
             whole = word allows found s h 0 ∙ sym (ap length all);
             owned = λ heavy k.
                 let one : sum_by (share (owns k)) s.views ≡ share (owns k) v = sum_only (share (owns k)) s.views id v at (λ j u apart e. ap (times k) ((h.fits j u e).idle (idle heavy j u apart e)).0) in
@@ -40,6 +41,9 @@ module _ (allows : List LogItem → Type 0) (found : List LogItem) where
             leaves = λ heavy tree.
                 let one : sum_by (share leaves) s.views ≡ v.leaves = sum_only (share leaves) s.views id v at (λ j u apart e. ((h.fits j u e).idle (idle heavy j u apart e)).1) in
                 omega (arith, h.sums leaves, f.tree tree, h.ordered.old);
+            faults = λ heavy journal.
+                let one : sum_by (share faults) s.views ≡ v.faults = sum_only (share faults) s.views id v at (λ j u apart e. ((h.fits j u e).idle (idle heavy j u apart e)).2) in
+                sym one ∙ h.sums faults ∙ sym (f.journal journal).1;
           },
           refl,
         ),
@@ -87,4 +91,5 @@ module _ (allows : List LogItem → Type 0) (found : List LogItem) where
       counts trees = refl
       counts weights = refl
       counts leaves = omega arith
+      counts faults = refl
       counts (owns n) = ap (times n) (sym (numbers_found 1 found old))

@@ -1,5 +1,5 @@
 -- What keeps the rule: a change of the words and of one view.
-use Rattle.std.proofs.Common.{◌≡◌, ◌≢◌, ℕ, ◌+◌, List, set, Bool, true, cond, refl, sym, ap, ◌∙◌, subst, ⊎_elim, arith}
+use Rattle.std.proofs.Common.{◌≡◌, ◌≢◌, ℕ, ◌+◌, ◌-◌, List, length, set, Bool, true, cond, refl, sym, ap, ◌∙◌, subst, ⊎_elim, arith}
 use Rattle.std.specs.Prelude.{slice_index, slice_set}
 use mathlib.Core.Option.{some}
 use lib.ListN.{get_elem?}
@@ -7,8 +7,9 @@ use Rattle.atomic_table.specs.Table.{State, Me, keeps, Allows}
 use Rattle.atomic_table.proofs.Lists.{at_set}
 use Rattle.im_table.specs.declared.view.View.{View}
 use Rattle.im_table.specs.declared.items.LogItem.{LogItem}
-use Rattle.im_table.specs.Views.{zeros, spent}
-use Rattle.im_table.specs.Rules.{NoSlot, Marks, AtMost, words_of, Ordered, FitsRule, Tally, journals, indexes, books, trees, weights, leaves, owns, share, whole, HoldsRule}
+use Rattle.im_table.specs.declared.roles.Roles.{Roles}
+use Rattle.im_table.specs.Views.{placed_by, spent, times, zeros}
+use Rattle.im_table.specs.Rules.{NoSlot, Marks, AtMost, words_of, Ordered, FitsRule, Tally, journals, indexes, books, trees, weights, leaves, faults, owns, share, whole, HoldsRule}
 use Rattle.im_table.proofs.SumLemmas.{sum_set, sum_two}
 
 -- 0 is no more than any word
@@ -23,7 +24,30 @@ none_spent books = refl
 none_spent trees = refl
 none_spent weights = refl
 none_spent leaves = refl
+none_spent faults = refl
 none_spent (owns n) = refl
+
+-- a view that is the same in all that is counted has the same shares
+pub same_shares : (v w : View) → w.roles ≡ v.roles → w.weight ≡ v.weight → w.leaves ≡ v.leaves → w.faults ≡ v.faults → w.own ≡ v.own → (t : Tally) → share t w ≡ share t v
+same_shares v w roles weight left failed own journals = ap (λ (r : Roles). cond r.journal 1 0) roles
+same_shares v w roles weight left failed own indexes = ap (λ (r : Roles). cond r.index 1 0) roles
+same_shares v w roles weight left failed own books = ap (λ (r : Roles). cond r.book 1 0) roles
+same_shares v w roles weight left failed own trees = ap (λ (r : Roles). cond r.tree 1 0) roles
+same_shares v w roles weight left failed own weights = weight
+same_shares v w roles weight left failed own leaves = left
+same_shares v w roles weight left failed own faults = failed
+same_shares v w roles weight left failed own (owns n) = ap (times n) own
+
+-- words that are the same in all that is counted
+pub same_whole : (found : List LogItem) (m n : Marks) → n.log ≡ m.log → n.linked ≡ m.linked → n.failed ≡ m.failed → (t : Tally) → whole found n t ≡ whole found m t
+same_whole found m n log linked failed journals = refl
+same_whole found m n log linked failed indexes = refl
+same_whole found m n log linked failed books = refl
+same_whole found m n log linked failed trees = refl
+same_whole found m n log linked failed weights = refl
+same_whole found m n log linked failed leaves = ap (λ (k : ℕ). k - length found) linked
+same_whole found m n log linked failed faults = failed
+same_whole found m n log linked failed (owns k) = ap (λ (l : List LogItem). times k (placed_by l)) log
 
 -- a role that is held counts once
 pub on : (b : Bool) → b ≡ true → ◌≡◌ {A = ℕ} (cond b 1 0) 1

@@ -5,9 +5,9 @@ use Rattle.atomic_table.specs.Table.{Me, Allows}
 use Rattle.im_table.specs.declared.view.View.{View}
 use Rattle.im_table.specs.declared.items.LogItem.{LogItem}
 use Rattle.im_table.specs.Views.{looked_placed, looked_durable, looked_linked, looked_indexed, looked_failed, untold}
-use Rattle.im_table.specs.Rules.{NoSlot, SeesPlaced, Loads, Compares, Tally, journals, indexes, books, trees, weights, leaves, owns, share, HoldsRule}
+use Rattle.im_table.specs.Rules.{NoSlot, SeesPlaced, Loads, Compares, HoldsRule}
 use Rattle.im_table.proofs.FrontLemmas.{prefix_shorter, prefix_length}
-use Rattle.im_table.proofs.KeepLemmas.{none_less, loaded}
+use Rattle.im_table.proofs.KeepLemmas.{none_less, loaded, same_shares}
 
 module _ (allows : List LogItem → Type 0) (found : List LogItem) where
   -- of the word placed
@@ -26,16 +26,7 @@ module _ (allows : List LogItem → Type 0) (found : List LogItem) where
               whole = λ b. sym (ap length (f.book b));
             },
       ))
-      (λ t n. counts t n)
-    where
-      counts : (t : Tally) (n : ℕ) → share t (looked_placed me.0 n) ≡ share t me.0
-      counts journals n = refl
-      counts indexes n = refl
-      counts books n = refl
-      counts trees n = refl
-      counts weights n = refl
-      counts leaves n = refl
-      counts (owns k) n = refl
+      (λ t n. same_shares me.0 (looked_placed me.0 n) refl refl refl refl refl t)
 
   -- of the word durable
   pub sees_durable : (slots id : ℕ) (me : Me NoSlot View) → Allows (HoldsRule allows found) slots id me 1 (λ n. n) (λ n w. ((w.0 ≡ looked_durable me.0 n) × Loads me.0.roles.journal me.0.least.durable n) × (w.1 ≡ me.1))
@@ -44,16 +35,7 @@ module _ (allows : List LogItem → Type 0) (found : List LogItem) where
         record { seen = f.seen; told = f.told; less = f.less; lawful = f.lawful; durable = omega arith; linked = f.linked; indexed = f.indexed; failed = f.failed; book = f.book; journal = λ b. (refl, (f.journal b).1); tree = f.tree; index = f.index; idle = f.idle; within = f.within },
         (refl, record { least = f.durable; exact = λ b. sym (f.journal b).0 }),
       ))
-      (λ t n. counts t n)
-    where
-      counts : (t : Tally) (n : ℕ) → share t (looked_durable me.0 n) ≡ share t me.0
-      counts journals n = refl
-      counts indexes n = refl
-      counts books n = refl
-      counts trees n = refl
-      counts weights n = refl
-      counts leaves n = refl
-      counts (owns k) n = refl
+      (λ t n. same_shares me.0 (looked_durable me.0 n) refl refl refl refl refl t)
 
   -- of the word linked
   pub sees_linked : (slots id : ℕ) (me : Me NoSlot View) → Allows (HoldsRule allows found) slots id me 2 (λ n. n) (λ n w. ((w.0 ≡ looked_linked me.0 n) × Loads me.0.roles.tree me.0.least.linked n) × (w.1 ≡ me.1))
@@ -62,16 +44,7 @@ module _ (allows : List LogItem → Type 0) (found : List LogItem) where
         record { seen = f.seen; told = f.told; less = f.less; lawful = f.lawful; durable = f.durable; linked = omega arith; indexed = f.indexed; failed = f.failed; book = f.book; journal = f.journal; tree = λ b. refl; index = f.index; idle = f.idle; within = f.within },
         (refl, record { least = f.linked; exact = λ b. sym (f.tree b) }),
       ))
-      (λ t n. counts t n)
-    where
-      counts : (t : Tally) (n : ℕ) → share t (looked_linked me.0 n) ≡ share t me.0
-      counts journals n = refl
-      counts indexes n = refl
-      counts books n = refl
-      counts trees n = refl
-      counts weights n = refl
-      counts leaves n = refl
-      counts (owns k) n = refl
+      (λ t n. same_shares me.0 (looked_linked me.0 n) refl refl refl refl refl t)
 
   -- of the word indexed
   pub sees_indexed : (slots id : ℕ) (me : Me NoSlot View) → Allows (HoldsRule allows found) slots id me 3 (λ n. n) (λ n w. ((w.0 ≡ looked_indexed me.0 n) × Loads me.0.roles.index me.0.least.indexed n) × (w.1 ≡ me.1))
@@ -80,16 +53,7 @@ module _ (allows : List LogItem → Type 0) (found : List LogItem) where
         record { seen = f.seen; told = f.told; less = f.less; lawful = f.lawful; durable = f.durable; linked = f.linked; indexed = omega arith; failed = f.failed; book = f.book; journal = f.journal; tree = f.tree; index = λ b. refl; idle = f.idle; within = f.within },
         (refl, record { least = f.indexed; exact = λ b. sym (f.index b) }),
       ))
-      (λ t n. counts t n)
-    where
-      counts : (t : Tally) (n : ℕ) → share t (looked_indexed me.0 n) ≡ share t me.0
-      counts journals n = refl
-      counts indexes n = refl
-      counts books n = refl
-      counts trees n = refl
-      counts weights n = refl
-      counts leaves n = refl
-      counts (owns k) n = refl
+      (λ t n. same_shares me.0 (looked_indexed me.0 n) refl refl refl refl refl t)
 
   -- of the word failed
   pub sees_failed : (slots id : ℕ) (me : Me NoSlot View) → Allows (HoldsRule allows found) slots id me 4 (λ n. n) (λ n w. ((w.0 ≡ looked_failed me.0 n) × Loads me.0.roles.journal me.0.least.failed n) × (w.1 ≡ me.1))
@@ -98,16 +62,7 @@ module _ (allows : List LogItem → Type 0) (found : List LogItem) where
         record { seen = f.seen; told = f.told; less = f.less; lawful = f.lawful; durable = f.durable; linked = f.linked; indexed = f.indexed; failed = omega arith; book = f.book; journal = λ b. ((f.journal b).0, refl); tree = f.tree; index = f.index; idle = f.idle; within = f.within },
         (refl, record { least = f.failed; exact = λ b. sym (f.journal b).1 }),
       ))
-      (λ t n. counts t n)
-    where
-      counts : (t : Tally) (n : ℕ) → share t (looked_failed me.0 n) ≡ share t me.0
-      counts journals n = refl
-      counts indexes n = refl
-      counts books n = refl
-      counts trees n = refl
-      counts weights n = refl
-      counts leaves n = refl
-      counts (owns k) n = refl
+      (λ t n. same_shares me.0 (looked_failed me.0 n) refl refl refl refl refl t)
 
   -- the load behind a join
   pub compares : (slots id : ℕ) (me : Me NoSlot View) → Allows (HoldsRule allows found) slots id me 0 (λ n. n) (λ n w. Compares me.0 n w.0 × (w.1 ≡ me.1))
@@ -129,13 +84,4 @@ module _ (allows : List LogItem → Type 0) (found : List LogItem) where
               whole = λ b. sym (ap length (f.book b));
             },
       ))
-      (λ t n. counts t n)
-    where
-      counts : (t : Tally) (n : ℕ) → share t (untold me.0) ≡ share t me.0
-      counts journals n = refl
-      counts indexes n = refl
-      counts books n = refl
-      counts trees n = refl
-      counts weights n = refl
-      counts leaves n = refl
-      counts (owns k) n = refl
+      (λ t n. same_shares me.0 (untold me.0) refl refl refl refl refl t)

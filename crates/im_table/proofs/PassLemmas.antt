@@ -1,7 +1,10 @@
--- A pass behind two calls.
-use Rattle.std.proofs.Common.{◌∙◌, arith}
+-- A pass behind two calls, and one of which nothing is split off.
+use Rattle.std.proofs.Common.{◌≡◌, ◌∙◌, ◌&&◌, ◌-◌, ℕ, Bool, true, false, refl, ap, arith}
 use Rattle.im_table.specs.Known.{KnownPass}
 use Rattle.im_table.specs.Passes.{Later}
+use Rattle.im_table.specs.Views.{left_of, no_roles, without}
+use Rattle.im_table.specs.declared.roles.Roles.{Roles}
+use Rattle.im_table.specs.declared.view.View.{View}
 use Rattle.im_table.proofs.FrontLemmas.{prefix_trans}
 
 pub later_both : (a b c : KnownPass) → Later a b → Later b c → Later a c
@@ -15,3 +18,21 @@ later_both a b c first next = record {
   indexed = omega (arith, first.indexed, next.indexed);
   failed = omega (arith, first.failed, next.failed);
 }
+
+-- without none of them roles are as they were
+with_all : (b : Bool) → (b && true) ≡ b
+with_all true = refl
+with_all false = refl
+
+without_none : (r : Roles) → without r no_roles ≡ r
+without_none r =
+    ap (λ (b : Bool). record { journal = b; index = r.index && true; book = r.book && true; tree = r.tree && true }) (with_all r.journal)
+    ∙ ap (λ (b : Bool). record { journal = r.journal; index = b; book = r.book && true; tree = r.tree && true }) (with_all r.index)
+    ∙ ap (λ (b : Bool). record { journal = r.journal; index = r.index; book = b; tree = r.tree && true }) (with_all r.book)
+    ∙ ap (λ (b : Bool). record { journal = r.journal; index = r.index; book = r.book; tree = b }) (with_all r.tree)
+
+-- where nothing is split off a view stays as it was
+pub left_none : (v : View) → left_of no_roles 0 v ≡ v
+left_none v =
+    let same : v.weight - 0 ≡ v.weight = omega arith in
+    ap (λ (r : Roles). record v { roles = r; weight = v.weight - 0 }) (without_none v.roles) ∙ ap (λ (n : ℕ). record v { weight = n }) same

@@ -10,7 +10,7 @@ use Rattle.im_table.specs.declared.view.View.{View}
 use Rattle.im_table.specs.declared.items.LogItem.{LogItem}
 use Rattle.im_table.specs.declared.roles.Roles.{Roles}
 use Rattle.im_table.specs.Views.{AreHeld, left_of, right_of, chosen, together, spent}
-use Rattle.im_table.specs.Rules.{FitsRule, Tally, journals, indexes, books, trees, weights, leaves, owns, share, whole, HoldsRule}
+use Rattle.im_table.specs.Rules.{FitsRule, Tally, journals, indexes, books, trees, weights, leaves, faults, owns, share, whole, HoldsRule}
 use Rattle.im_table.proofs.NumberLemmas.{times_append, chosen_one, other_one, chosen_length, chosen_whole, role_cut, role_left, role_both, append_nil_left, pick_one, rest_one, pick_whole}
 use Rattle.im_table.proofs.SumLemmas.{sum_set, sum_snoc, sum_two}
 use Rattle.im_table.proofs.KeepLemmas.{none_less, none_spent, every_set}
@@ -73,6 +73,7 @@ module _ (allows : List LogItem → Type 0) (found : List LogItem) where
       counts trees = role_cut roles.tree v.roles.tree may.tree
       counts weights = omega arith
       counts leaves = omega arith
+      counts faults = omega arith
       counts (owns n) = omega arith
 
   -- one takes in another
@@ -136,4 +137,5 @@ module _ (allows : List LogItem → Type 0) (found : List LogItem) where
       counts trees two = role_both v.roles.tree u.roles.tree (two refl)
       counts weights two = refl
       counts leaves two = refl
+      counts faults two = refl
       counts (owns n) two = times_append n v.own u.own

@@ -9,10 +9,10 @@ use Rattle.atomic_table.specs.Table.{Me, keeps, Allows}
 use Rattle.im_table.specs.declared.view.View.{View}
 use Rattle.im_table.specs.declared.items.LogItem.{LogItem}
 use Rattle.im_table.specs.Views.{added, view_settled, failed_once, linked_to, indexed_to}
-use Rattle.im_table.specs.Rules.{NoSlot, Marks, FitsRule, Tally, journals, indexes, books, trees, weights, leaves, owns, share, whole, HoldsRule}
+use Rattle.im_table.specs.Rules.{NoSlot, Marks, FitsRule, Tally, journals, indexes, books, trees, weights, leaves, faults, owns, share, whole, HoldsRule}
 use Rattle.im_table.proofs.FrontLemmas.{prefix_self, prefix_more, prefix_trans, prefix_length}
 use Rattle.im_table.proofs.NumberLemmas.{times_append, times_new, hit}
-use Rattle.im_table.proofs.KeepLemmas.{on, kept, alone}
+use Rattle.im_table.proofs.KeepLemmas.{on, kept, alone, same_shares, same_whole}
 
 module _ (allows : List LogItem → Type 0) where
   -- what the words gain, for those who don't hold the role of a word that changes
@@ -57,18 +57,9 @@ module _ (allows : List LogItem → Type 0) (found : List LogItem) where
             (record { begins = o.begins; linked = omega (arith, o.linked, exact.0); indexed = omega (arith, o.indexed, exact.0); durable = omega arith; old = o.old })
             (λ k u apart e. fits_more allows m m' u (h.fits k u e) (prefix_self m.log) (omega (arith, exact.0)) (omega arith) (omega arith) (omega arith) (λ _. refl) (λ b. absurd (alone allows found s h journals refl k id u v apart e at (on _ role) (on _ b))) (λ _. refl) (λ _. refl))
             (record { seen = f.seen; told = f.told; less = record { durable = omega (arith, f.less.durable, exact.0); linked = f.less.linked; indexed = f.less.indexed; failed = f.less.failed }; lawful = f.lawful; durable = omega arith; linked = f.linked; indexed = f.indexed; failed = f.failed; book = f.book; journal = λ b. (refl, exact.1); tree = f.tree; index = f.index; idle = f.idle; within = f.within })
-            counts,
+            (λ t. omega (arith, same_shares v w refl refl refl refl refl t, same_whole found m m' refl refl refl t)),
         (refl, refl),
       )
-    where
-      counts : (t : Tally) → share t (view_settled me.0 new) + whole found h.marks t ≡ share t me.0 + whole found (record h.marks { durable = new }) t
-      counts journals = refl
-      counts indexes = refl
-      counts books = refl
-      counts trees = refl
-      counts weights = refl
-      counts leaves = refl
-      counts (owns k) = refl
 
   -- of the word linked
   pub links : (slots id new : ℕ) (me : Me NoSlot View) → me.0.roles.tree ≡ true → 0 < me.0.weight → me.0.least.linked ≤ new → new ≤ me.0.least.durable
@@ -100,6 +91,7 @@ module _ (allows : List LogItem → Type 0) (found : List LogItem) where
       counts trees = refl
       counts weights = refl
       counts leaves = omega (arith, (h.fits id me.0 at).tree role, h.ordered.old)
+      counts faults = refl
       counts (owns k) = refl
 
   -- of the word placed: the law holds of the list with the item, where it holds of the list before
@@ -153,6 +145,7 @@ module _ (allows : List LogItem → Type 0) (found : List LogItem) where
       counts all trees = refl
       counts all weights = refl
       counts all leaves = refl
+      counts all faults = refl
       counts all (owns n) =
           let count : length me.0.seen ≡ length h.marks.log = ap length all in
           let one : hit (1 + length h.marks.log) n ≡ hit (length me.0.seen + 1) n = ap (λ (k : ℕ). hit k n) (omega arith) in
@@ -188,6 +181,7 @@ module _ (allows : List LogItem → Type 0) (found : List LogItem) where
       counts trees = refl
       counts weights = refl
       counts leaves = refl
+      counts faults = omega (arith, next, ((h.fits id me.0 at).journal role).1)
       counts (owns k) = refl
 
   -- of the word indexed
@@ -209,15 +203,6 @@ module _ (allows : List LogItem → Type 0) (found : List LogItem) where
             (record { begins = o.begins; linked = o.linked; indexed = omega (arith, f.durable); durable = o.durable; old = o.old })
             (λ k u apart e. fits_more allows m m' u (h.fits k u e) (prefix_self m.log) (omega arith) (omega arith) (omega (arith, exact)) (omega arith) (λ _. refl) (λ b. (refl, refl)) (λ _. refl) (λ b. absurd (alone allows found s h indexes refl k id u v apart e at (on _ role) (on _ b))))
             (record { seen = f.seen; told = f.told; less = record { durable = f.less.durable; linked = f.less.linked; indexed = omega (arith, f.less.indexed, exact); failed = f.less.failed }; lawful = f.lawful; durable = f.durable; linked = f.linked; indexed = omega arith; failed = f.failed; book = f.book; journal = f.journal; tree = f.tree; index = λ b. refl; idle = f.idle; within = f.within })
-            counts,
+            (λ t. omega (arith, same_shares v w refl refl refl refl refl t, same_whole found m m' refl refl refl t)),
         (refl, refl),
       )
-    where
-      counts : (t : Tally) → share t (indexed_to me.0 new) + whole found h.marks t ≡ share t me.0 + whole found (record h.marks { indexed = new }) t
-      counts journals = refl
-      counts indexes = refl
-      counts books = refl
-      counts trees = refl
-      counts weights = refl
-      counts leaves = refl
-      counts (owns k) = refl

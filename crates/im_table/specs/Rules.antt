@@ -66,6 +66,7 @@ pub data Tally : Type 0 where
   trees : Tally
   weights : Tally
   leaves : Tally
+  faults : Tally
   owns : ℕ → Tally
 
 -- how much of it a view has
@@ -76,6 +77,7 @@ share books v = cond v.roles.book 1 0
 share trees v = cond v.roles.tree 1 0
 share weights v = v.weight
 share leaves v = v.leaves
+share faults v = v.faults
 share (owns n) v = times n v.own
 
 -- how much of it there is in all
@@ -86,6 +88,7 @@ whole found m books = 1
 whole found m trees = 1
 whole found m weights = 1048576
 whole found m leaves = m.linked - length found
+whole found m faults = m.failed
 whole found m (owns n) = times n (placed_by m.log)
 
 -- the rule: one list and words, which each view fits, and of which the views have their shares
@@ -122,10 +125,12 @@ pub record Compares (v : View) (n : ℕ) (w : View) : Type 0 where
   pub least : length v.seen ≤ n
   pub whole : v.roles.book ≡ true → n ≡ length v.seen
 
--- what a load by the holder of the book's role tells: with the whole weight all numbers and leaves are its own
-pub record Closes (found : List LogItem) (v : View) (n : ℕ) (w : View) : Type 0 where
+-- what a load by the holder of the book's role tells: with the whole weight all numbers, leaves and failures are its own
+pub record Closes (allows : List LogItem → Type 0) (found : List LogItem) (v : View) (n : ℕ) (w : View) : Type 0 where
   pub view : w ≡ v
   pub begins : IsPrefix found v.seen
+  pub lawful : allows v.seen
   pub whole : n ≡ length v.seen
   pub owned : v.weight ≡ 1048576 → (k : ℕ) → times k v.own ≡ times k (placed_by v.seen)
   pub leaves : v.weight ≡ 1048576 → v.roles.tree ≡ true → v.leaves + length found ≡ v.least.linked
+  pub faults : v.weight ≡ 1048576 → v.roles.journal ≡ true → v.faults ≡ v.least.failed

@@ -216,13 +216,15 @@ impl Join<View> for Joining {
 }
 
 /// A load of the word placed by the pass that has the role of the book: it tells what the whole weight tells.
-pub struct Closing<O: Origin> {
+pub struct Closing<L: Law, O: Origin> {
+    law: PhantomData<L>,
     of: PhantomData<O>,
 }
 
-impl<O: Origin> Play<(), View> for Closing<O> {
+impl<L: Law, O: Origin> Play<(), View> for Closing<L, O> {
     ghost use Rattle.std.specs.Prelude.{◌≡◌};
+    ghost use Rattle.im_table.specs.References.{IsLawful};
     ghost use Rattle.im_table.specs.Rules.{Closes};
 
-    ghost then = { λ s v n w. Closes O.found v.0 n w.0 × (w.1 ≡ v.1) };
+    ghost then = { λ s v n w. Closes (IsLawful L.allows O.logs) O.found v.0 n w.0 × (w.1 ≡ v.1) };
 }

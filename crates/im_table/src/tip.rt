@@ -3,7 +3,7 @@ ghost use Rattle.std.specs.List.{All};
 ghost use mathlib.Core.List.{IsPrefix};
 ghost use Rattle.im_format.specs.Places.{AreAppended};
 ghost use Rattle.im_table.specs.References.{references_of, HaveLengths, IsLawful};
-ghost use Rattle.im_table.specs.Views.{times, placed_by, looked_durable, looked_linked, looked_indexed, looked_failed, added, view_settled, linked_to, indexed_to, failed_once, AreHeld, left_of, right_of, view_joined, opener};
+ghost use Rattle.im_table.specs.Views.{times, placed_by, looked_durable, looked_linked, looked_indexed, looked_failed, added, view_settled, linked_to, indexed_to, failed_once, AreHeld, left_of, right_of, no_roles, view_joined, opener};
 ghost use Rattle.im_table.specs.Rules.{SeesPlaced, Loads};
 
 use crate::items::{LogItem, Opening};
@@ -13,11 +13,12 @@ use crate::plays::{
     Added, Adding, Closing, Comparing, Cut, Cutting, Failing, Indexing, Joining, Linking, Origin,
     Ruled, SeeDurable, SeeFailed, SeeIndexed, SeeLinked, SeePlaced, Settling,
 };
-use crate::roles::Roles;
+use crate::roles::{Roles, no_roles};
 use crate::view::View;
 use atomic_table::Table;
 use std::alloc::{AllocError, Global};
 use std::marker::{Brand, Model};
+use std::mem;
 
 /// The five words that say how far one history has come: placed, durable, linked, indexed and failed. A clause sees
 /// which tip it is, what was found when it was opened, and the number of value logs.
@@ -259,30 +260,57 @@ impl<L: Law> Tip<L> {
         self.table.shared.load::<Comparing>(&mut pass.seat, 0)
     }
 
+    /// Takes in the pass that lies under a lock, with its roles, and leaves one in its place that has no role and no
+    /// weight: what a call does first that has got the lock. It answers what `join` does.
+    pub fn fetch(&self, keeper: &mut Pass, pass: &mut Pass) -> u64
+        requires table { (pass.old.table ≡ self.now.table) × (keeper.old.table ≡ self.now.table) }
+        requires weight { 0 < pass.old.view.weight }
+        ensures table { (pass.new.table ≡ pass.old.table) × (keeper.new.table ≡ keeper.old.table) }
+        ensures view { pass.new.view ≡ view_joined pass.old.view keeper.old.view }
+        ensures stand_in { keeper.new.view ≡ right_of no_roles 0 pass.old.view }
+        ensures mine { IsPrefix pass.old.view.seen pass.new.view.seen }
+        ensures theirs { IsPrefix keeper.old.view.seen pass.new.view.seen }
+        ensures durable { (pass.old.view.least.durable ≤ pass.new.view.least.durable) × (keeper.old.view.least.durable ≤ pass.new.view.least.durable) }
+        ensures linked { (pass.old.view.least.linked ≤ pass.new.view.least.linked) × (keeper.old.view.least.linked ≤ pass.new.view.least.linked) }
+        ensures indexed { (pass.old.view.least.indexed ≤ pass.new.view.least.indexed) × (keeper.old.view.least.indexed ≤ pass.new.view.least.indexed) }
+        ensures failed { (pass.old.view.least.failed ≤ pass.new.view.least.failed) × (keeper.old.view.least.failed ≤ pass.new.view.least.failed) }
+        ensures least { length pass.new.view.seen ≤ result }
+        ensures whole { pass.new.view.roles.book ≡ true → result ≡ length pass.new.view.seen }
+    {
+        let stand_in = self.split(pass, no_roles(), 0);
+        let own = mem::replace(keeper, stand_in);
+        self.join(pass, own)
+    }
+
     fn close_as<O: Origin>(&self, pass: &mut Pass) -> u64
-        requires picked { O.found ≡ self.now.found }
+        requires picked { (O.found ≡ self.now.found) × (O.logs ≡ self.now.logs) }
         requires table { pass.old.table ≡ self.now.table }
         requires role { pass.old.view.roles.book ≡ true }
         ensures same { pass.new ≡ pass.old }
         ensures begins { IsPrefix self.now.found pass.old.view.seen }
         ensures whole { result ≡ length pass.old.view.seen }
+        ensures meets { IsLawful L.allows self.now.logs pass.old.view.seen }
         ensures owned { pass.old.view.weight ≡ 1048576 → (k : ℕ) → times k pass.old.view.own ≡ times k (placed_by pass.old.view.seen) }
         ensures leaves { pass.old.view.weight ≡ 1048576 → pass.old.view.roles.tree ≡ true → pass.old.view.leaves + length self.now.found ≡ pass.old.view.least.linked }
+        ensures faults { pass.old.view.weight ≡ 1048576 → pass.old.view.roles.journal ≡ true → pass.old.view.faults ≡ pass.old.view.least.failed }
     {
-        self.table.shared.load::<Closing<O>>(&mut pass.seat, 0)
+        self.table.shared.load::<Closing<L, O>>(&mut pass.seat, 0)
     }
 
-    /// How long the one list is, told by a pass that has the role of the book. With the whole weight the pass's own
-    /// numbers are those of all that was not found, each once; with the role of the tree too, its leaves are the tree's
-    /// growth. The pass stays as it was.
+    /// How long the one list is, told by a pass that has the role of the book. The law holds of it, and its references
+    /// lie by the rule of the value logs. With the whole weight the pass's own numbers are those of all that was not
+    /// found, each once; with the role of the tree too, its leaves are the tree's growth; and with the journal's, its
+    /// faults are all failures that were told. The pass stays as it was.
     pub fn close(&self, pass: &mut Pass) -> u64
         requires table { pass.old.table ≡ self.now.table }
         requires role { pass.old.view.roles.book ≡ true }
         ensures same { pass.new ≡ pass.old }
         ensures begins { IsPrefix self.now.found pass.old.view.seen }
         ensures whole { result ≡ length pass.old.view.seen }
+        ensures meets { IsLawful L.allows self.now.logs pass.old.view.seen }
         ensures owned { pass.old.view.weight ≡ 1048576 → (k : ℕ) → times k pass.old.view.own ≡ times k (placed_by pass.old.view.seen) }
         ensures leaves { pass.old.view.weight ≡ 1048576 → pass.old.view.roles.tree ≡ true → pass.old.view.leaves + length self.now.found ≡ pass.old.view.least.linked }
+        ensures faults { pass.old.view.weight ≡ 1048576 → pass.old.view.roles.journal ≡ true → pass.old.view.faults ≡ pass.old.view.least.failed }
     {
         self.close_as::<Brand>(pass)
     }
