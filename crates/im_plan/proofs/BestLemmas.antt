@@ -1,5 +1,5 @@
 -- The index with the most leading columns bound.
-use Rattle.std.proofs.Common.{◌≡◌, ◌≤◌, ◌<◌, ◌+◌, ℕ, zero, suc, List, [], ◌∷◌, ◌++◌, length, take, get_or, All, Option, Some, None, MatchOption, sym, ap, ◌∙◌, subst, arith}
+use Rattle.std.proofs.Common.{◌≡◌, ◌≤◌, ◌<◌, ◌+◌, ℕ, zero, suc, false, List, [], ◌∷◌, ◌++◌, length, take, get_or, All, Option, Some, None, MatchOption, sym, ap, ◌∙◌, subst, arith}
 use Rattle.std.proofs.lemmas.List.{take_all}
 use Rattle.std.proofs.lemmas.List.Elements.{All-more, All-weaker}
 use Rattle.std.specs.List.{AllZip, IsAmong}
@@ -21,7 +21,7 @@ use Rattle.im_plan.specs.declared.ways.Way.TheVariants as way
 use Rattle.im_plan.proofs.EntryLemmas.{zip-among}
 
 -- what stands in a list doesn't depend on what is taken behind its end
-at-any : {A : Type 0} (xs : List A) (i : ℕ) (d e : A) → i < length xs → get_or xs i d ≡ get_or xs i e
+pub at-any : {A : Type 0} (xs : List A) (i : ℕ) (d e : A) → i < length xs → get_or xs i d ≡ get_or xs i e
 at-any [] i d e l = absurd (let no : ⊥ = omega (arith, l) in no)
 at-any (x ∷ xs) zero d e l = λ i. x
 at-any (x ∷ xs) (suc i) d e l = at-any xs i d e (omega (arith, l))

@@ -1,6 +1,7 @@
 -- A row that meets a condition has the values that its conjuncts say.
-use Rattle.std.proofs.Common.{◌≡◌, ◌≢◌, ◌||◌, inl, inr, ◌⊎◌, ℕ, suc, Bool, true, false, true≢false, if◌then◌else◌, List, [], ◌∷◌, bytes_eq, Option, Some, None, is_some, refl, sym, ap, ◌∙◌}
+use Rattle.std.proofs.Common.{◌≡◌, ◌≢◌, ◌||◌, inl, inr, ◌⊎◌, ℕ, suc, Bool, true, false, true≢false, if◌then◌else◌, List, [], ◌∷◌, bytes_eq, Option, Some, None, refl, sym, ap, ◌∙◌}
 use Rattle.std.proofs.lemmas.Bool.{and_parts}
+use Rattle.std.proofs.lemmas.Option.{none-some}
 use Rattle.std.proofs.lemmas.Slice.Eq.{bytes_eq-Decides}
 use Rattle.std.specs.List.{AllByRecursion, list_all}
 use Rattle.std.specs.Option.{option_or}
@@ -26,9 +27,6 @@ use Rattle.im_plan.specs.Bounds.{listed, only_listed, conjuncts, bound_by_sides,
 
 some-same : {A : Type 0} (x y d : A) → Some x ≡ Some y → x ≡ y
 some-same {A} x y d e = ap (λ (o : Option A). elim o [ Some z ↦ z | None ↦ d ]) e
-
-none-some : {A : Type 0} (x : A) → None ≡ Some x → ⊥
-none-some {A} x e = true≢false (sym (ap (λ (o : Option A). is_some o) e))
 
 equal-is : (o : Ordering) → is_eq o ≡ true → o ≡ Equal
 equal-is Less e = absurd (true≢false (sym e))

@@ -168,11 +168,11 @@ key-of-entry history t i v key has is = is has.0 (has.1.row_is.1, has.1.key_is, 
 some-one : (a b : Version) → Some a ≡ Some b → a ≡ b
 some-one a b e = ap (λ o. elim o [ Some z ↦ z | None ↦ a ]) e
 
-text-same : (t : Table) (a b : List Value) → AreOfKinds (kinds_of t) a → AreOfKinds (kinds_of t) b → row_text a ≡ row_text b → a ≡ b
+pub text-same : (t : Table) (a b : List Value) → AreOfKinds (kinds_of t) a → AreOfKinds (kinds_of t) b → row_text a ≡ row_text b → a ≡ b
 text-same t a b kinds others e = (row-front (kinds_of t) a b [] [] kinds others (ap (λ (r : List ℕ). r ++ []) e)).0
 
 -- of one key there is one row
-row-same : (history : List Transaction) (t : Table) (a b : List Value) → IsRowOf history t a → IsRowOf history t b → key_of t a ≡ key_of t b → a ≡ b
+pub row-same : (history : List Transaction) (t : Table) (a b : List Value) → IsRowOf history t a → IsRowOf history t b → key_of t a ≡ key_of t b → a ≡ b
 row-same history t a b x y same =
     text-same t a b x.1 y.1 (one-value history (key_of t b) (row_text a) (row_text b) (subst (λ (k : List ℕ). IsLiveAs history k (row_text a)) same x.2) y.2)
 
@@ -181,7 +181,7 @@ row-stored history t row s is at =
     let same : at.0 ≡ is.2.0 = some-one at.0 is.2.0 (sym at.1 ∙ is.2.1) in
     text-same t s.row row at.3.0.0 is.1 (sym at.3.0.2 ∙ ap (λ (v : Version). v.value) same ∙ is.2.3)
 
-row-listed : (history : List Transaction) (t : Table) (rows : List StoredRow) (key : List ℕ) (s : StoredRow) → RowsAre history t rows → RowAt history t key (Some s) → IsAmong rows s
+pub row-listed : (history : List Transaction) (t : Table) (rows : List StoredRow) (key : List ℕ) (s : StoredRow) → RowsAre history t rows → RowAt history t key (Some s) → IsAmong rows s
 row-listed history t rows key s all at =
     let own : at.0.key ≡ key = last-of-key history key at.0 at.1 in
     let begins : begins_with (rows_prefix t.tid) key ≡ true = begins-from (rows_prefix t.tid) (row_text (columns_of s.row t.key)) key (sym own ∙ at.3.0.1) in

@@ -4,6 +4,7 @@ use Rattle.std.proofs.lemmas.Bool.{lt-ltb}
 use Rattle.std.proofs.lemmas.List.{append-nil, length-map}
 use Rattle.std.proofs.lemmas.Slice.Eq.{bytes_eq-Decides}
 use Rattle.std.specs.List.{AllByRecursion, position_or_len}
+use Rattle.im_octet.proofs.Common.{bytes-other}
 use Rattle.im_sqltype.specs.Texts.{value_text, row_text}
 use Rattle.im_sqltype.specs.declared.values.Value.{Value}
 use Rattle.im_sqltype.specs.declared.values.Value.TheVariants.{Null}
@@ -22,12 +23,6 @@ use Rattle.im_plan.proofs.BoundLemmas.{AreMet, bound-value}
 same-name : (name : List ℕ) → bytes_eq name name ≡ true
 same-name name = (bytes_eq-Decides name name).1 refl
 
-other-name : (a b : List ℕ) → a ≢ b → bytes_eq a b ≡ false
-other-name a b apart = elim (bytes_eq a b) as (λ (t : Bool). bytes_eq a b ≡ t → t ≡ false) [
-  | true ↦ λ e. absurd (apart ((bytes_eq-Decides a b).0 e))
-  | false ↦ λ e. refl
-] refl
-
 place-of-column : (columns : List Column) (k : ℕ) (d : Column) → AllPairs (λ a b. a.name ≢ b.name) columns → k < length columns
     → position_or_len (λ (m : Nameable). bytes_eq m.name (get_or columns k d).name) (map named_of columns) ≡ k
 place-of-column [] k d apart l = absurd (let no : ⊥ = omega (arith, l) in no)
@@ -35,7 +30,7 @@ place-of-column (c ∷ cs) zero d apart l =
     ap (λ (b : Bool). cond (not b) (1 + (position_or_len (λ (m : Nameable). bytes_eq m.name c.name) (map named_of cs))) 0) (same-name c.name)
 place-of-column (c ∷ cs) (suc k) d apart l =
     ap (λ (b : Bool). cond (not b) (1 + (position_or_len (λ (m : Nameable). bytes_eq m.name (get_or cs k d).name) (map named_of cs))) 0)
-    (other-name c.name (get_or cs k d).name (apart 0 (suc k) d (omega arith) l))
+    (bytes-other c.name (get_or cs k d).name (apart 0 (suc k) d (omega arith) l))
     ∙ ap (λ n. 1 + n) (place-of-column cs k d (λ i j e less m. apart (suc i) (suc j) e (omega (arith, less)) (omega (arith, m))) (omega (arith, l)))
     ∙ omega arith
 

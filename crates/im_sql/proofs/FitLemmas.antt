@@ -1,14 +1,18 @@
 -- What `judge` of a column's type answers is what the definition says of a value.
-use Rattle.std.proofs.Common.{◌≡◌, ◌≤◌, ◌↔◌, ◌⊎◌, inl, inr, ℕ, ℤ, Bool, cond, length, nat_le, Some, None, Result, Ok, Err, IsOk, MatchResult, refl, ap}
-use Rattle.std.proofs.lemmas.Bool.{le-leb, cases_Bool, leb-true}
-use Rattle.im_sqltype.specs.Kinds.{IsOfKind, FitsColumn, kind_of}
+use Rattle.std.proofs.Common.{◌≡◌, ◌≤◌, ◌<◌, ◌+◌, ◌↔◌, inl, inr, ℕ, suc, Bool, cond, List, [], ◌∷◌, length, map, get_or, nat_le, Some, None, Result, Ok, Err, IsOk, MatchResult, refl, sym, ap, ◌∙◌, subst, arith}
+use Rattle.std.proofs.lemmas.Bool.{le-leb, cases_Bool, cases_lt, leb-true}
+use Rattle.std.specs.Option.{option_map}
+use Rattle.im_sqltype.specs.Kinds.{IsOfKind, AreOfKinds, FitsColumn, kind_of}
 use Rattle.im_sqltype.specs.declared.columns.ColumnType.{ColumnType}
 use Rattle.im_sqltype.specs.declared.columns.ColumnType.TheVariants as types
 use Rattle.im_sqltype.specs.declared.columns.Misfit.{Misfit}
 use Rattle.im_sqltype.specs.declared.columns.Misfit.TheVariants as misfit
 use Rattle.im_sqltype.specs.declared.values.Value.{Value}
 use Rattle.im_sqltype.specs.declared.values.Value.TheVariants.{Null, Integer, Boolean, Varchar, Blob}
-use Rattle.im_sqlmodel.specs.Writes.{misfit_of}
+use Rattle.im_sqlmodel.specs.Writes.{misfit_error, misfit_of}
+use Rattle.im_sqlmodel.specs.declared.tables.Column.{Column}
+use Rattle.im_plan.proofs.BestLemmas.{at-any}
+use Rattle.im_sql.specs.Ranges.{IsInRange}
 
 within : (len most : ℕ) → len ≤ most → cond (nat_le len most) None (Some misfit.Long) ≡ None
 within len most h = ap (λ (b : Bool). cond b None (Some misfit.Long)) (le-leb len most h)
@@ -38,14 +42,9 @@ fits-none (types.Blob most) (Boolean b) h = absurd h
 fits-none (types.Blob most) (Varchar o) h = absurd h
 fits-none (types.Blob most) (Blob o) h = within (length o) most h
 
--- a number that doesn't have 64 bits isn't made: its range is a premise
-abbrev pub InRange : Value → Type 0
-InRange v = IsOfKind (kind_of types.Integer) v ⊎ ((n : ℤ) → v ≡ Integer n → ⊥)
-
-other-kind : (type : ColumnType) (v : Value) → InRange v → (IsOfKind (kind_of type) v → ⊥) → misfit_of type v ≡ Some misfit.Kind
+other-kind : (type : ColumnType) (v : Value) → IsInRange v → (IsOfKind (kind_of type) v → ⊥) → misfit_of type v ≡ Some misfit.Kind
 other-kind type Null r h = absurd (h tt)
-other-kind types.Integer (Integer n) (inl fits) h = absurd (h fits)
-other-kind types.Integer (Integer n) (inr none) h = absurd (none n refl)
+other-kind types.Integer (Integer n) r h = absurd (h r)
 other-kind types.Integer (Boolean b) r h = refl
 other-kind types.Integer (Varchar o) r h = refl
 other-kind types.Integer (Blob o) r h = refl
@@ -82,8 +81,71 @@ too-long (types.Blob most) (Varchar o) is h = absurd is
 too-long (types.Blob most) (Blob o) is h = beyond (length o) most h
 
 -- what it answers is what the definition says
-pub judged-so : (type : ColumnType) (v : Value) (r : Result (Unit {0}) Misfit) → InRange v → IsOk r ↔ FitsColumn type v → (r ≡ Err misfit.Kind) ↔ ¬ IsOfKind (kind_of type) v
+pub judged-so : (type : ColumnType) (v : Value) (r : Result (Unit {0}) Misfit) → IsInRange v → IsOk r ↔ FitsColumn type v → (r ≡ Err misfit.Kind) ↔ ¬ IsOfKind (kind_of type) v
     → (r ≡ Err misfit.Long) ↔ (IsOfKind (kind_of type) v × ¬ FitsColumn type v) → MatchResult r (λ _. misfit_of type v ≡ None) (λ m. misfit_of type v ≡ Some m)
 judged-so type v (Ok x) range fits kind long = fits-none type v (fits.0 refl)
 judged-so type v (Err misfit.Kind) range fits kind long = other-kind type v range (kind.0 refl)
 judged-so type v (Err misfit.Long) range fits kind long = too-long type v (long.0 refl).0 (long.0 refl).1
+
+-- a value that fits is of the column's kind
+kind-of-fit : (type : ColumnType) (v : Value) → FitsColumn type v → IsOfKind (kind_of type) v
+kind-of-fit type Null h = tt
+kind-of-fit types.Integer (Integer n) h = h
+kind-of-fit types.Integer (Boolean b) h = absurd h
+kind-of-fit types.Integer (Varchar o) h = absurd h
+kind-of-fit types.Integer (Blob o) h = absurd h
+kind-of-fit types.Boolean (Integer n) h = absurd h
+kind-of-fit types.Boolean (Boolean b) h = tt
+kind-of-fit types.Boolean (Varchar o) h = absurd h
+kind-of-fit types.Boolean (Blob o) h = absurd h
+kind-of-fit (types.Varchar most) (Integer n) h = absurd h
+kind-of-fit (types.Varchar most) (Boolean b) h = absurd h
+kind-of-fit (types.Varchar most) (Varchar o) h = tt
+kind-of-fit (types.Varchar most) (Blob o) h = absurd h
+kind-of-fit (types.Blob most) (Integer n) h = absurd h
+kind-of-fit (types.Blob most) (Boolean b) h = absurd h
+kind-of-fit (types.Blob most) (Varchar o) h = absurd h
+kind-of-fit (types.Blob most) (Blob o) h = tt
+
+-- each value of a row fits its column, up to a place
+abbrev pub FitBelow : List Column → List Value → ℕ → Type 0
+FitBelow columns row at = (k : ℕ) (d : Column) (e : Value) → k < at → FitsColumn (get_or columns k d).holds (get_or row k e)
+
+pub kinds-of-fit : (columns : List Column) (row : List Value) → length row ≡ length columns → FitBelow columns row (length columns) → AreOfKinds (map (λ (c : Column). kind_of c.holds) columns) row
+kinds-of-fit [] [] same h = tt
+kinds-of-fit [] (v ∷ vs) same h = absurd (let no : ⊥ = omega (arith, same) in no)
+kinds-of-fit (c ∷ cs) [] same h = absurd (let no : ⊥ = omega (arith, same) in no)
+kinds-of-fit (c ∷ cs) (v ∷ vs) same h = (
+  kind-of-fit c.holds v (h 0 c v (omega arith)),
+  kinds-of-fit cs vs (omega (arith, same)) (λ k d e l. h (suc k) d e (omega (arith, l))),
+)
+
+-- one column more
+pub fits-more : (columns : List Column) (row : List Value) (at : ℕ) (c : Column) (v : Value) → at < length columns → at < length row → c ≡ get_or columns at c → v ≡ get_or row at v → FitsColumn c.holds v
+    → FitBelow columns row at → FitBelow columns row (at + 1)
+fits-more columns row at c v l m p q fits below k d e less = elim (cases_lt k at) [
+  | inl before ↦ below k d e before
+  | inr past ↦ (
+      let same : at ≡ k = omega (arith, less, past) in
+      let column : c ≡ get_or columns k d = p ∙ at-any columns at c d l ∙ ap (λ (n : ℕ). get_or columns n d) same in
+      let value : v ≡ get_or row k e = q ∙ at-any row at v e m ∙ ap (λ (n : ℕ). get_or row n e) same in
+      subst (λ (x : Value). FitsColumn (get_or columns k d).holds x) value (subst (λ (x : Column). FitsColumn x.holds v) column fits))
+]
+
+-- ---- what is told of one value
+
+told-none : (name : List ℕ) (n : ℕ) (type : ColumnType) (v : Value) → misfit_of type v ≡ None → None ≡ option_map (misfit_error n name) (misfit_of type v)
+told-none name n type v e = sym (ap (option_map (misfit_error n name)) e)
+
+-- a value that fits
+pub fault-none : (type : ColumnType) (v : Value) (name : List ℕ) (n : ℕ) → FitsColumn type v → None ≡ option_map (misfit_error n name) (misfit_of type v)
+fault-none type v name n fits = told-none name n type v (fits-none type v fits)
+
+-- one that doesn't
+pub fault-some : (type : ColumnType) (v : Value) (name : List ℕ) (n : ℕ) (m : Misfit) (r : Result (Unit {0}) Misfit) → IsInRange v → r ≡ Err m → IsOk r ↔ FitsColumn type v
+    → (r ≡ Err misfit.Kind) ↔ ¬ IsOfKind (kind_of type) v → (r ≡ Err misfit.Long) ↔ (IsOfKind (kind_of type) v × ¬ FitsColumn type v)
+    → Some (misfit_error n name m) ≡ option_map (misfit_error n name) (misfit_of type v)
+fault-some type v name n m r range is fits kind long =
+    let judged = judged-so type v r range fits kind long in
+    let told : misfit_of type v ≡ Some m = subst (λ (x : Result (Unit {0}) Misfit). MatchResult x (λ _. misfit_of type v ≡ None) (λ y. misfit_of type v ≡ Some y)) is judged in
+    sym (ap (option_map (misfit_error n name)) told)

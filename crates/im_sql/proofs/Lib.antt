@@ -5,3 +5,8 @@ pub mod WorkLemmas
 pub mod PutLemmas
 pub mod RowsLemmas
 pub mod NextLemmas
+pub mod LookLemmas
+pub mod CountLemmas
+pub mod ShortLemmas
+pub mod GoingLemmas
+pub mod CreateLemmas

@@ -8,6 +8,7 @@ use Rattle.std.specs.List.{AllByRecursion, IsAmong, list_any}
 use Rattle.std.specs.Option.{option_map, option_or}
 use Rattle.std.specs.Ordering.{is_lt}
 use Rattle.std.specs.declared.cmp.Ordering.{Ordering}
+use Rattle.im_octet.proofs.Common.{some-is, bytes-other}
 use Rattle.im_model.specs.declared.transactions.Transaction.{Transaction}
 use Rattle.im_versions.proofs.ListLemmas.{All-among, among-cons, among-first, among-rest}
 use Rattle.im_sqltype.specs.Kinds.{AreOfKinds}
@@ -51,7 +52,7 @@ pub pairs-from : {A : Type 0} (R : A → A → Type 0) (xs : List A) → Apart R
 pairs-from R [] h = λ i j d less l. absurd (let no : ⊥ = omega (arith, less, l) in no)
 pairs-from R (x ∷ xs) h = AllPairs-cons R x xs (All-from_recursion (R x) xs h.0) (pairs-from R xs h.1)
 
-all-put : {A : Type 0} (cmp : A → A → Ordering) (P : A → Type 0) (x : A) (ys : List A) → P x → AllByRecursion P ys → AllByRecursion P (put_sorted cmp x ys)
+pub all-put : {A : Type 0} (cmp : A → A → Ordering) (P : A → Type 0) (x : A) (ys : List A) → P x → AllByRecursion P ys → AllByRecursion P (put_sorted cmp x ys)
 all-put cmp P x [] p all = (p, tt)
 all-put cmp P x (y ∷ ys) p all = elim (is_lt (cmp y x)) as (λ (b : Bool). AllByRecursion P (if b then y ∷ put_sorted cmp x ys else x ∷ y ∷ ys)) [
   | true ↦ (all.0, all-put cmp P x ys p all.1)
@@ -65,7 +66,7 @@ put-apart cmp R turn x (y ∷ ys) all h = elim (is_lt (cmp y x)) as (λ (b : Boo
   | false ↦ (all, h)
 ]
 
-all-kept : {A : Type 0} (P : A → Type 0) (p : A → Bool) (xs : List A) → AllByRecursion P xs → AllByRecursion P (filter p xs)
+pub all-kept : {A : Type 0} (P : A → Type 0) (p : A → Bool) (xs : List A) → AllByRecursion P xs → AllByRecursion P (filter p xs)
 all-kept P p [] all = tt
 all-kept P p (x ∷ xs) all = elim (p x) as (λ (b : Bool). AllByRecursion P (cond b (x ∷ filter p xs) (filter p xs))) [
   | true ↦ (all.0, all-kept P p xs all.1)
@@ -95,25 +96,22 @@ apart-one {A} R turn (x ∷ xs) a b h m n together = elim (among-cons x xs a m) 
 
 -- ---- what is found
 
-find-none : {A : Type 0} (q : A → Bool) (xs : List A) → find q xs ≡ None → AllByRecursion (λ x. q x ≡ false) xs
+pub find-none : {A : Type 0} (q : A → Bool) (xs : List A) → find q xs ≡ None → AllByRecursion (λ x. q x ≡ false) xs
 find-none q [] e = tt
 find-none q (x ∷ xs) e = elim (q x) as (λ (b : Bool). q x ≡ b → cond b (Some x) (find q xs) ≡ None → AllByRecursion (λ y. q y ≡ false) (x ∷ xs)) [
   | true ↦ λ is f. absurd (true≢false (ap (λ o. is_some o) f))
   | false ↦ λ is f. (is, find-none q xs f)
 ] refl e
 
-none-found : {A : Type 0} (q : A → Bool) (xs : List A) → AllByRecursion (λ x. q x ≡ false) xs → find q xs ≡ None
+pub none-found : {A : Type 0} (q : A → Bool) (xs : List A) → AllByRecursion (λ x. q x ≡ false) xs → find q xs ≡ None
 none-found q [] all = refl
 none-found q (x ∷ xs) all = ap (λ (b : Bool). cond b (Some x) (find q xs)) all.0 ∙ none-found q xs all.1
 
-some-same : {A : Type 0} (x y : A) → Some x ≡ Some y → x ≡ y
-some-same {A} x y e = ap (λ (o : Option A). elim o [ Some z ↦ z | None ↦ x ]) e
-
-find-some : {A : Type 0} (q : A → Bool) (xs : List A) (y : A) → find q xs ≡ Some y → IsAmong xs y × (q y ≡ true)
+pub find-some : {A : Type 0} (q : A → Bool) (xs : List A) (y : A) → find q xs ≡ Some y → IsAmong xs y × (q y ≡ true)
 find-some q [] y e = absurd (true≢false (sym (ap (λ o. is_some o) e)))
 find-some {A} q (x ∷ xs) y e = elim (q x) as (λ (b : Bool). q x ≡ b → cond b (Some x) (find q xs) ≡ Some y → IsAmong (x ∷ xs) y × (q y ≡ true)) [
   | true ↦ λ is f. (
-      let same : x ≡ y = some-same x y f in
+      let same : x ≡ y = some-is x y f in
       (subst (IsAmong (x ∷ xs)) same (among-first x xs), subst (λ (z : A). q z ≡ true) same is))
   | false ↦ λ is f. (let found = find-some q xs y f in (among-rest x xs y found.0, found.1))
 ] refl e
@@ -132,7 +130,7 @@ find-kept p q (x ∷ xs) all = elim (p x) as (λ (b : Bool). p x ≡ b → find 
       | inr not_passes ↦ not_passes
     ]
 
-all-of : {A : Type 0} (P : A → Type 0) (xs : List A) → ((x : A) → IsAmong xs x → P x) → AllByRecursion P xs
+pub all-of : {A : Type 0} (P : A → Type 0) (xs : List A) → ((x : A) → IsAmong xs x → P x) → AllByRecursion P xs
 all-of P [] h = tt
 all-of P (x ∷ xs) h = (h x (among-first x xs), all-of P xs (λ y m. h y (among-rest x xs y m)))
 
@@ -176,7 +174,7 @@ pub record AreNumbered (t : Table) (indexes : List SqlIndex) : Type 0 where
   pub each : (i : SqlIndex) → IsAmong indexes i → i.iid < 2 ^ 32
   pub single : (i j : SqlIndex) → IsAmong indexes i → IsAmong indexes j → i.iid ≡ j.iid → i ≡ j
 
-abbrev key_in : Table → SqlIndex → List Value → List ℕ
+abbrev pub key_in : Table → SqlIndex → List Value → List ℕ
 key_in t i row = (entry_written t row i).key
 
 -- entries of one key are of one index
@@ -216,15 +214,9 @@ values-own t indexes i F row other numbered m keyed =
     let one : i ≡ j = same-index t indexes i j other row numbered m n e in
     sym (ap (λ (k : SqlIndex). (F k).value) one))
 
-apart-key : (a b : List ℕ) → a ≢ b → bytes_eq a b ≡ false
-apart-key a b apart = elim (cases_Bool (bytes_eq a b)) [
-  | inl same ↦ absurd (apart ((bytes_eq-Decides a b).0 same))
-  | inr other ↦ other
-]
-
 -- an entry's key is no row's
 entry-no-row : (t : Table) (i : SqlIndex) (row other : List Value) → bytes_eq (key_in t i other) (key_of t row) ≡ false
-entry-no-row t i row other = apart-key (key_in t i other) (key_of t row) (λ e. entry-is 4 (key_of t row) t other i (omega arith) refl (sym e))
+entry-no-row t i row other = bytes-other (key_in t i other) (key_of t row) (λ e. entry-is 4 (key_of t row) t other i (omega arith) refl (sym e))
 
 -- what is written at an entry's key behind the old row's entries, as deleted
 at-dropped : (t : Table) (indexes : List SqlIndex) (i : SqlIndex) (old : StoredRow) (other : List Value) (written : List Written) → AreNumbered t indexes → IsAmong indexes i
@@ -314,11 +306,11 @@ module _ (t : Table) (indexes : List SqlIndex) (row : List Value) (rows : List S
     where
       each : (ss : List StoredRow) → AllByRecursion (EntryApart i new_row) ss → AllByRecursion (λ s. has_key i key s ≡ false) ss
       each [] all = tt
-      each (s ∷ ss) all = (apart-key (key_in t i s.row) key (λ same. all.0 (sym own ∙ sym same)), each ss all.1)
+      each (s ∷ ss) all = (bytes-other (key_in t i s.row) key (λ same. all.0 (sym own ∙ sym same)), each ss all.1)
 
   holder-past : (i : SqlIndex) (key : List ℕ) → bytes_eq key (key_in t i row) ≡ false → holder t i key (rows_with t new_row rows) ≡ find (has_key i key) left
   holder-past i key other =
-      find-past by_key (has_key i key) new_row left (apart-key (key_in t i row) key (λ same. true≢false (sym ((bytes_eq-Decides key (key_in t i row)).1 (sym same)) ∙ other)))
+      find-past by_key (has_key i key) new_row left (bytes-other (key_in t i row) key (λ same. true≢false (sym ((bytes_eq-Decides key (key_in t i row)).1 (sym same)) ∙ other)))
 
   -- where no row had its primary key none is left out
   left-all : (i : SqlIndex) (key : List ℕ) → stored_at t rows (key_of t row) ≡ None → find (has_key i key) left ≡ holder t i key rows
@@ -428,18 +420,18 @@ working-next t indexes stood rows written row numbered kinds free working = reco
 
 -- ---- where nothing is wrong with a row
 
+pub or-none : {B : Type 0} (o p : Option B) → option_or o p ≡ None → (o ≡ None) × (p ≡ None)
+or-none None p e = (refl, e)
+or-none (Some b) p e = absurd (true≢false (ap (λ q. is_some q) e))
+
 none-first : {A B : Type 0} (f : A → Option B) (xs : List A) → first_found f xs ≡ None → (x : A) → IsAmong xs x → f x ≡ None
 none-first f [] e x m = absurd (let no : ⊥ = (let few : m.0 < 0 = m.1.0 in omega (arith, few)) in no)
 none-first {A} {B} f (y ∷ ys) e x m = elim (among-cons y ys x m) [
-  | inl same ↦ ap f same ∙ (parts (f y) (first_found f ys) e).0
-  | inr rest ↦ none-first f ys (parts (f y) (first_found f ys) e).1 x rest
+  | inl same ↦ ap f same ∙ (or-none (f y) (first_found f ys) e).0
+  | inr rest ↦ none-first f ys (or-none (f y) (first_found f ys) e).1 x rest
 ]
-  where
-    parts : (o p : Option B) → option_or o p ≡ None → (o ≡ None) × (p ≡ None)
-    parts None p e = (refl, e)
-    parts (Some b) p e = absurd (true≢false (ap (λ q. is_some q) e))
 
-map-none : {A B : Type 0} (f : A → B) (o : Option A) → option_map f o ≡ None → o ≡ None
+pub map-none : {A B : Type 0} (f : A → B) (o : Option A) → option_map f o ≡ None → o ≡ None
 map-none f None e = refl
 map-none f (Some x) e = absurd (true≢false (ap (λ q. is_some q) e))
 

@@ -1,11 +1,13 @@
 -- What is written at a key behind what was put.
-use Rattle.std.proofs.Common.{◌≡◌, ◌≢◌, inl, inr, ℕ, Bool, true, false, cond, List, [], ◌∷◌, get_or, map, find, bytes_eq, Option, Some, None, refl, sym, ap, ◌∙◌, subst, arith}
+use Rattle.std.proofs.Common.{◌≡◌, ◌≢◌, ◌<◌, ◌+◌, inl, inr, ℕ, Bool, true, false, cond, List, [], ◌∷◌, ◌++◌, length, take, get_or, map, flat_map, find, bytes_eq, Option, Some, None, refl, sym, ap, ◌∙◌, subst, arith}
 use Rattle.std.proofs.lemmas.Bool.{cases_Bool}
+use Rattle.std.proofs.lemmas.List.{take_more, map-append, flat_map_more}
 use Rattle.std.proofs.lemmas.Slice.Eq.{bytes_eq-Decides}
 use Rattle.std.specs.List.{AllByRecursion}
 use Rattle.std.specs.Option.{option_map}
 use Rattle.std.specs.declared.cmp.Ordering.{Ordering}
 use Rattle.std.specs.declared.cmp.Ordering.TheVariants.{Less, Equal, Greater}
+use Rattle.im_octet.proofs.Common.{bytes-other}
 use Rattle.im_versions.proofs.ScanLemmas.{same-key, below-turned}
 use Rattle.im_versions.specs.Versions.{IsBelow}
 use Rattle.im_versions.proofs.VersionLemmas.{below-strict}
@@ -22,12 +24,6 @@ use Rattle.im_catalog.proofs.FoundLemmas.{entry-is}
 use Rattle.im_sql.specs.Writing.{written_at}
 
 -- ---- one
-
-apart-key : (a b : List ℕ) → a ≢ b → bytes_eq a b ≡ false
-apart-key a b apart = elim (cases_Bool (bytes_eq a b)) [
-  | inl same ↦ absurd (apart ((bytes_eq-Decides a b).0 same))
-  | inr other ↦ other
-]
 
 -- the first of a list, or what the rest says
 abbrev pub either : Bool → Option (List ℕ) → Option (Option (List ℕ)) → Option (Option (List ℕ))
@@ -84,7 +80,7 @@ pub put-all-apart : (ws written : List Written) (key : List ℕ) → AllByRecurs
 put-all-apart [] written key apart = refl
 put-all-apart (w ∷ ws) written key apart =
     put-all-apart ws (put_written w written) key apart.1 ∙ put-at w written key
-    ∙ ap (λ (b : Bool). either b w.value (written_at written key)) (apart-key key w.key apart.0)
+    ∙ ap (λ (b : Bool). either b w.value (written_at written key)) (bytes-other key w.key apart.0)
 
 -- entries stand under other keys than rows
 entries-apart : (t : Table) (row : List Value) (indexes : List SqlIndex) (key : List ℕ) → get_or key 1 0 ≡ 4 → AllByRecursion (λ (w : Written). key ≢ w.key) (map (entry_written t row) indexes)
@@ -109,3 +105,34 @@ row-put t indexes row other there written =
     put-all-apart (map (entry_written t row) indexes) (put_written (row_written t row) before) key (entries-apart t row indexes key refl)
     ∙ put-at (row_written t row) before key
     ∙ ap (either (bytes_eq key (key_of t row)) (row_written t row).value) (put-all-apart (dropped t indexes there) written key (dropped-apart t indexes there key refl))
+
+-- ---- one after the other
+
+put-all-append : (xs ys written : List Written) → put_all (xs ++ ys) written ≡ put_all ys (put_all xs written)
+put-all-append [] ys written = refl
+put-all-append (x ∷ xs) ys written = put-all-append xs ys (put_written x written)
+
+-- one more
+pub put-all-push : (xs : List Written) (x : Written) (written : List Written) → put_all (xs ++ x ∷ []) written ≡ put_written x (put_all xs written)
+put-all-push xs x written = put-all-append xs (x ∷ []) written
+
+-- the next of a list, as it is written
+pub put-next : {A : Type 0} (f : A → Written) (xs : List A) (i : ℕ) (x : A) (written : List Written) → i < length xs → x ≡ get_or xs i x
+    → put_all (map f (take (i + 1) xs)) written ≡ put_written (f x) (put_all (map f (take i xs)) written)
+put-next f xs i x written l is =
+    ap (λ ys. put_all (map f ys) written) (take_more xs i x l)
+    ∙ ap (λ ws. put_all ws written) (map-append f (take i xs) (get_or xs i x ∷ []))
+    ∙ put-all-push (map f (take i xs)) (f (get_or xs i x)) written
+    ∙ ap (λ y. put_written (f y) (put_all (map f (take i xs)) written)) (sym is)
+
+pub put-yielded : {A : Type 0} (f : A → Written) (xs : List A) (x : A) (written : List Written) → put_all (map f (xs ++ x ∷ [])) written ≡ put_written (f x) (put_all (map f xs) written)
+put-yielded f xs x written = ap (λ ws. put_all ws written) (map-append f xs (x ∷ [])) ∙ put-all-push (map f xs) (f x) written
+
+-- the next of a list, as the several that it is written as
+pub put-many : {A : Type 0} (f : A → List Written) (xs : List A) (i : ℕ) (x : A) (written : List Written) → i < length xs → x ≡ get_or xs i x
+    → put_all (flat_map f (take (i + 1) xs)) written ≡ put_all (f x) (put_all (flat_map f (take i xs)) written)
+put-many f xs i x written l is =
+    ap (λ ys. put_all (flat_map f ys) written) (take_more xs i x l)
+    ∙ ap (λ ws. put_all ws written) (sym (flat_map_more f [] (take i xs) (get_or xs i x)))
+    ∙ put-all-append (flat_map f (take i xs)) (f (get_or xs i x)) written
+    ∙ ap (λ y. put_all (f y) (put_all (flat_map f (take i xs)) written)) (sym is)

@@ -83,7 +83,7 @@ stored-other t s rows key other =
 
 -- ---- over the rows that stood
 
-abbrev Over : Table → List StoredRow → List ℕ → Option StoredRow → Option (Option (List ℕ)) → Type 0
+abbrev pub Over : Table → List StoredRow → List ℕ → Option StoredRow → Option (Option (List ℕ)) → Type 0
 Over t stood key found there = MatchOption there (found ≡ stored_at t stood key) (λ value. MatchOption value (found ≡ None) (λ text. IsWrittenRow t text found))
 
 -- what `IsWorking` says of a row's key holds behind a row that is written

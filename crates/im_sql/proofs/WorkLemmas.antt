@@ -21,7 +21,7 @@ use Rattle.im_plan.proofs.EntryLemmas.{no_version, zip-at, zip-length, zip-among
 use Rattle.im_sql.specs.Working.{IsWorking}
 
 -- a row of the list is a row of the history
-row-of : (history : List Transaction) (t : Table) (rows : List StoredRow) (k : ℕ) (d : StoredRow) → IsTableOf history t → RowsAre history t rows → k < length rows
+pub row-of : (history : List Transaction) (t : Table) (rows : List StoredRow) (k : ℕ) (d : StoredRow) → IsTableOf history t → RowsAre history t rows → k < length rows
     → IsRowOf history t (get_or rows k d).row
 row-of history t rows k d of all l =
     let here = zip-at (IsStoredRow t) all.0 rows k no_version d all.2 l in

@@ -1,4 +1,4 @@
 pub mod Writing
 pub mod Working
 pub mod Entries
-pub mod Sounding
+pub mod Ranges

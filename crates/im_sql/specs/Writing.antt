@@ -1,7 +1,8 @@
 -- What is written at a key, for private clauses.
-use Rattle.std.specs.Prelude.{◌≡◌, ◌≢◌, ◌⊎◌, ℕ, List, [], ◌∷◌, map, find, bytes_eq, Option, Some, Result, Err, All, AllPairs}
+use Rattle.std.specs.Prelude.{◌≡◌, ◌⊎◌, ℕ, List, [], ◌∷◌, map, find, bytes_eq, Option, Some, Result, Err, All, AllPairs}
 use Rattle.std.specs.Option.{option_map}
 use Rattle.im_octet.specs.Fields.{field4}
+use Rattle.im_versions.specs.Versions.{IsBelow}
 use Rattle.im_draft.specs.Drafts.{AreEntries, IsFine}
 use Rattle.im_sqlmodel.specs.Keys.{tables_key, table_key}
 use Rattle.im_sqlmodel.specs.Tables.{table_text}
@@ -24,10 +25,10 @@ table_entries t = record { key = tables_key; value = Some (field4 t.tid) } ∷ r
 abbrev pub MayBePlaced : List Written → Type 0
 MayBePlaced written = AreEntries (map draft_written written)
 
--- each has a key and a value within the limits, and no two have one key
+-- each has a key and a value within the limits, and keys rise
 pub record AreFine (written : List Written) : Type 0 where
   pub each : All (λ w. IsFine (draft_written w)) written
-  pub apart : AllPairs (λ a b. a.key ≢ b.key) written
+  pub rising : AllPairs (λ a b. IsBelow a.key b.key) written
 
 -- memory ran out, or this is the answer
 abbrev pub Answers : Result SqlOut SqlError → Result SqlOut SqlError → Type 0

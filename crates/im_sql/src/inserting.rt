@@ -5,11 +5,9 @@ ghost use Rattle.std.specs.Option.{option_or};
 ghost use Rattle.im_model.specs.History.{IsHistory};
 ghost use Rattle.im_model.specs.declared.transactions.Transaction.{Transaction};
 ghost use Rattle.im_sqlparse.specs.Formed.{IsInsertion};
-ghost use Rattle.im_sqltype.specs.Kinds.{AreOfKinds};
 ghost use Rattle.im_sqlmodel.specs.Kept.{IsSqlKept, IsTableOf};
-ghost use Rattle.im_sqlmodel.specs.Options.{first_found};
-ghost use Rattle.im_sqlmodel.specs.Rows.{RowsAre, IndexesAre};
-ghost use Rattle.im_sqlmodel.specs.Tables as tables;
+ghost use Rattle.im_sqlmodel.specs.Options.{first_found, ok_then};
+ghost use Rattle.im_sqlmodel.specs.Rows.{RowsAre, IndexesAre, key_of};
 ghost use Rattle.im_sqlmodel.specs.Writes as spec;
 ghost use Rattle.im_sqlmodel.specs.declared.answers.SqlError.TheVariants as error;
 ghost use Rattle.im_sqlmodel.specs.declared.rows.StoredRow.{StoredRow as TheStoredRow};
@@ -87,12 +85,30 @@ fn insert_into<V: KvView>(
         return Err(fault);
     }
     let indexes = indexes(alloc, view, table, n)?;
-    let answer = match write_rows(alloc, view, table, indexes.as_slice(), insertion, fresh, n) {
-        Ok(writes) => placed(alloc, n, table, indexes.as_slice(), writes),
-        Err(fault) => Err(fault),
-    };
+    let answer = insert_under(alloc, view, table, indexes.as_slice(), insertion, fresh, n);
     drop(indexes);
     answer
+}
+
+// What it answers where the table has these indexes.
+fn insert_under<V: KvView>(
+    alloc: Global,
+    view: &V,
+    table: &Table,
+    indexes: &[SqlIndex],
+    insertion: &Insertion,
+    fresh: bool,
+    n: u64,
+) -> Result<SqlOut, SqlError>
+    requires view { (history : List Transaction) × V.stands view.now history × (n ≤ length history) × IsHistory history × IsSqlKept (take n history)
+        × IsTableOf (take n history) table.now × IndexesAre (take n history) table.now indexes.now }
+    requires formed { IsInsertion insertion.now }
+    ensures { (history : List Transaction) → V.stands view.now history → n ≤ length history → IsHistory history → IsSqlKept (take n history)
+        → IsTableOf (take n history) table.now → IndexesAre (take n history) table.now indexes.now → (rows : List TheStoredRow) → RowsAre (take n history) table.now rows
+        → Answers result (ok_then (spec.write_rows (take n history) fresh table.now indexes.now 0 (map (spec.row_given table.now insertion.now.columns) insertion.now.rows) (record { rows = rows; written = [] })) (λ work. spec.placed n table.now indexes.now work.written)) }
+{
+    let writes = write_rows(alloc, view, table, indexes, insertion, fresh, n)?;
+    placed(alloc, n, table, indexes, writes)
 }
 
 // What all rows write, or what is wrong with the first at fault.
@@ -114,8 +130,9 @@ fn write_rows<V: KvView>(
         → (result ≡ Err error.Memory) ⊎ (result ≡ written_of (spec.write_rows (take n history) fresh table.now indexes.now 0 (map (spec.row_given table.now insertion.now.columns) insertion.now.rows) (record { rows = rows; written = [] }))) }
 {
     let names = names_of(alloc, insertion.columns.as_slice())?;
+    let rows = insertion.rows.as_slice();
     let mut writes = Writes::new(alloc);
-    for (i, literals) in insertion.rows.as_slice().iter().enumerate() {
+    for (i, literals) in rows.iter().enumerate() {
         let row = row_given(alloc, table, names.as_slice(), literals.as_slice())?;
         let fault = take_row(
             alloc,
@@ -165,15 +182,13 @@ fn take_row<V: KvView>(
         return Ok(Some(fault));
     }
     let there = row_there(alloc, view, table, writes, row, n)?;
-    let fault = match duplicate_fault(fresh, i, &there) {
-        Some(fault) => Some(fault),
-        None => unique_fault(alloc, view, table, indexes, writes, i, row, n)?,
-    };
-    if fault.is_none() {
-        write_row(alloc, table, indexes, writes, row, &there)?;
+    if let Some(fault) = met_fault(alloc, view, table, indexes, writes, fresh, i, row, &there, n)? {
+        drop(there);
+        return Ok(Some(fault));
     }
+    write_row(alloc, table, indexes, writes, row, &there)?;
     drop(there);
-    Ok(fault)
+    Ok(None)
 }
 
 // A key of the row with more than 1024 octets, or its text with more than 4096.
@@ -196,6 +211,33 @@ fn length_fault(
     };
     drop(written);
     Ok(fault)
+}
+
+// Of a row that fits: that a row of its key is there, or that another row has its entry.
+fn met_fault<V: KvView>(
+    alloc: Global,
+    view: &V,
+    table: &Table,
+    indexes: &[SqlIndex],
+    writes: &Writes,
+    fresh: bool,
+    i: u64,
+    row: &[Value],
+    there: &Option<StoredRow>,
+    n: u64,
+) -> Result<Option<SqlError>, ViewError>
+    requires { (history : List Transaction) × V.stands view.now history × (n ≤ length history) × IsHistory history × IsSqlKept (take n history)
+        × IsTableOf (take n history) table.now × IndexesAre (take n history) table.now indexes.now }
+    ensures { (history : List Transaction) → V.stands view.now history → n ≤ length history → IsHistory history → IsSqlKept (take n history)
+        → IsTableOf (take n history) table.now → IndexesAre (take n history) table.now indexes.now
+        → (stood rows : List TheStoredRow) → RowsAre (take n history) table.now stood → IsWorking table.now indexes.now stood writes.now rows
+        → there.now ≡ spec.stored_at table.now rows (key_of table.now row.now)
+        → IfOk result (λ fault. fault ≡ option_or (spec.duplicate_fault fresh table.now i row.now rows) (first_found (spec.unique_fault (take n history) table.now i row.now rows) indexes.now)) }
+{
+    if let Some(fault) = duplicate_fault(fresh, i, there) {
+        return Ok(Some(fault));
+    }
+    unique_fault(alloc, view, table, indexes, writes, i, row, n)
 }
 
 // Of INSERT, that a row of the key is there.
@@ -222,12 +264,11 @@ fn unique_fault<V: KvView>(
     row: &[Value],
     n: u64,
 ) -> Result<Option<SqlError>, ViewError>
-    requires view { (history : List Transaction) × V.stands view.now history × (n ≤ length history) × IsHistory history × IsSqlKept (take n history)
+    requires { (history : List Transaction) × V.stands view.now history × (n ≤ length history) × IsHistory history × IsSqlKept (take n history)
         × IsTableOf (take n history) table.now × IndexesAre (take n history) table.now indexes.now }
     ensures { (history : List Transaction) → V.stands view.now history → n ≤ length history → IsHistory history → IsSqlKept (take n history)
         → IsTableOf (take n history) table.now → IndexesAre (take n history) table.now indexes.now
         → (stood rows : List TheStoredRow) → RowsAre (take n history) table.now stood → IsWorking table.now indexes.now stood writes.now rows
-        → AreOfKinds (tables.kinds_of table.now) row.now
         → IfOk result (λ fault. fault ≡ first_found (spec.unique_fault (take n history) table.now i row.now rows) indexes.now) }
 {
     for index in indexes {

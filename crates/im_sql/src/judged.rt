@@ -1,13 +1,17 @@
 //! What is wrong with the rows of INSERT and UPSERT before the table's rows are looked at.
 
-ghost use Rattle.std.specs.Prelude.{◌≡◌, ◌≤◌, List, length, map, nat_lt, IfOk};
+ghost use Rattle.std.specs.Prelude.{◌≡◌, ◌≤◌, List, length, map, nat_lt, option_map, IfOk};
 ghost use Rattle.std.specs.List.{list_any};
+ghost use Rattle.im_sqltype.specs.Kinds.{AreOfKinds, FitsColumn};
 ghost use Rattle.im_sqltype.specs.Texts.{row_text};
 ghost use Rattle.im_sqltype.specs.declared.values.Value.{Value as Cell};
+ghost use Rattle.im_sqltype.specs.declared.values.Value.TheVariants as values;
 ghost use Rattle.im_sqlmodel.specs.Conditions.{literal_value};
+ghost use Rattle.im_sqlmodel.specs.Tables as tables;
 ghost use Rattle.im_sqlmodel.specs.Writes as spec;
 ghost use Rattle.im_sqlmodel.specs.declared.tables.SqlIndex.{SqlIndex as TheIndex};
 ghost use Rattle.im_sqlmodel.specs.declared.tables.Table.{Table as TheTable};
+ghost use Rattle.im_sql.specs.Ranges.{IsInRange};
 
 use crate::names::{column_fault, column_names, names_of, place_of, twice_fault};
 use im_octet::octets::Octets;
@@ -135,6 +139,40 @@ fn misfit_error(
     }
 }
 
+// NULL in a column that takes none.
+fn null_fault(
+    alloc: Global,
+    table: &Table,
+    i: u64,
+    at: usize,
+    column: &Column,
+) -> Result<Option<SqlError>, AllocError>
+    ensures { IfOk result (λ fault. fault ≡ spec.cell_fault table.now i at column.now values.Null) }
+{
+    if column.not_null || is_in_key(table, at) {
+        let name = Octets::from_slice(alloc, column.name.as_slice())?;
+        return Ok(Some(SqlError::NullGiven { row: i, name }));
+    }
+    Ok(None)
+}
+
+// A value of another kind than the column's, or one that is too long.
+fn misfit_fault(
+    alloc: Global,
+    i: u64,
+    column: &Column,
+    value: &Value,
+) -> Result<Option<SqlError>, AllocError>
+    requires { IsInRange value.now }
+    ensures fault { IfOk result (λ fault. fault ≡ option_map (spec.misfit_error i column.now.name) (spec.misfit_of column.now.holds value.now)) }
+    ensures fits { IfOk result (λ fault. fault ≡ None → FitsColumn column.now.holds value.now) }
+{
+    match column.holds.judge(value) {
+        Ok(()) => Ok(None),
+        Err(misfit) => Ok(Some(misfit_error(alloc, i, column, misfit)?)),
+    }
+}
+
 // What is wrong with the value of a column of row i.
 fn cell_fault(
     alloc: Global,
@@ -144,18 +182,17 @@ fn cell_fault(
     column: &Column,
     value: &Value,
 ) -> Result<Option<SqlError>, AllocError>
-    ensures { IfOk result (λ fault. fault ≡ spec.cell_fault table.now i at column.now value.now) }
+    ensures fault { IfOk result (λ fault. fault ≡ spec.cell_fault table.now i at column.now value.now) }
+    ensures fits { IfOk result (λ fault. fault ≡ None → FitsColumn column.now.holds value.now) }
 {
-    if let Value::Null = value {
-        if column.not_null || is_in_key(table, at) {
-            let name = Octets::from_slice(alloc, column.name.as_slice())?;
-            return Ok(Some(SqlError::NullGiven { row: i, name }));
+    match value {
+        Value::Null => null_fault(alloc, table, i, at, column),
+        Value::Integer(number) => {
+            // It is read, so that a proof knows its range.
+            let _number = *number;
+            misfit_fault(alloc, i, column, value)
         }
-        return Ok(None);
-    }
-    match column.holds.judge(value) {
-        Ok(()) => Ok(None),
-        Err(misfit) => Ok(Some(misfit_error(alloc, i, column, misfit)?)),
+        _ => misfit_fault(alloc, i, column, value),
     }
 }
 
@@ -168,7 +205,8 @@ pub(crate) fn cells_fault(
     row: &[Value],
 ) -> Result<Option<SqlError>, AllocError>
     requires { length row.now ≡ length table.now.columns }
-    ensures { IfOk result (λ fault. fault ≡ spec.cells_fault table.now i 0 table.now.columns row.now) }
+    ensures fault { IfOk result (λ fault. fault ≡ spec.cells_fault table.now i 0 table.now.columns row.now) }
+    ensures kinds { IfOk result (λ fault. fault ≡ None → AreOfKinds (tables.kinds_of table.now) row.now) }
 {
     for (at, column) in table.columns.as_slice().iter().enumerate() {
         if let Some(fault) = cell_fault(alloc, table, i, at, column, &row[at])? {

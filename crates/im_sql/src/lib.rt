@@ -1,14 +1,12 @@
-//! Statements of SQL over a view of a history's keys, and whether such a view's keys are SQL's.
+//! Statements of SQL over a view of a history's keys.
 #![tactic(auto)]
 
 mod creating;
 mod deleting;
 mod inserting;
 mod judged;
-pub mod kept;
 mod names;
 mod placing;
 pub mod run;
-mod sounding;
 mod working;
 mod writes;

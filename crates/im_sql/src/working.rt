@@ -1,6 +1,6 @@
 //! The table while the rows of a statement are taken: what is written so far is looked at first, and then the view.
 
-ghost use Rattle.std.specs.Prelude.{◌≡◌, ◌≤◌, List, length, take, bytes_eq, option_map, if◌then◌else◌, IfOk, OnOk};
+ghost use Rattle.std.specs.Prelude.{◌≡◌, ◌≤◌, List, length, map, take, option_map, if◌then◌else◌, IfOk, OnOk};
 ghost use Rattle.std.specs.List.{IsAmong};
 ghost use Rattle.im_model.specs.declared.transactions.Transaction.{Transaction};
 ghost use Rattle.im_sqltype.specs.Kinds.{AreOfKinds};
@@ -12,7 +12,7 @@ ghost use Rattle.im_sqlmodel.specs.Writes as spec;
 ghost use Rattle.im_sqlmodel.specs.declared.rows.StoredRow.{StoredRow as TheStoredRow};
 ghost use Rattle.im_sqlmodel.specs.declared.tables.SqlIndex.{SqlIndex as TheIndex};
 ghost use Rattle.im_catalog.specs.Rows.{HasRowText};
-ghost use Rattle.im_sql.specs.Entries.{IsEntryThere};
+ghost use Rattle.im_sql.specs.Entries as entries;
 ghost use Rattle.im_sql.specs.Working.{IsWorking};
 
 use crate::writes::Writes;
@@ -93,7 +93,7 @@ fn entry_there<V: KvView>(
 ) -> Result<Option<Entry>, ViewError>
     requires { (history : List Transaction) × V.stands view.now history × (n ≤ length history) }
     ensures { (history : List Transaction) → V.stands view.now history → n ≤ length history
-        → IfOk result (IsEntryThere (take n history) writes.now key.now) }
+        → IfOk result (entries.IsEntryThere (take n history) writes.now key.now) }
 {
     match writes.get(key) {
         Some(Some(primary)) => Ok(Some(Entry {
@@ -123,26 +123,39 @@ pub(crate) fn entry_met<V: KvView>(
     row: &[Value],
     n: u64,
 ) -> Result<Option<u64>, ViewError>
-    requires view { (history : List Transaction) × V.stands view.now history × (n ≤ length history) × IsSqlSound (take n history)
+    requires { (history : List Transaction) × V.stands view.now history × (n ≤ length history) × IsSqlSound (take n history)
         × IsTableOf (take n history) table.now }
     ensures { (history : List Transaction) → V.stands view.now history → n ≤ length history → IsSqlSound (take n history)
         → IsTableOf (take n history) table.now → (indexes : List TheIndex) (stood rows : List TheStoredRow) → IndexesAre (take n history) table.now indexes
-        → IsAmong indexes index.now → RowsAre (take n history) table.now stood → IsWorking table.now indexes stood writes.now rows → AreOfKinds (tables.kinds_of table.now) row.now
+        → IsAmong indexes index.now → RowsAre (take n history) table.now stood → IsWorking table.now indexes stood writes.now rows
         → IfOk result (λ met. met ≡ (if index.now.unique then option_map (spec.entry_number (take n history) table.now index.now) (spec.row_met table.now index.now row.now rows) else None)) }
 {
     if !index.unique {
         return Ok(None);
     }
-    let Written { key, value } = entry_written(alloc, table, row, index)?;
-    match (entry_there(alloc, view, writes, key.as_slice(), n)?, value) {
-        (Some(entry), Some(own)) => Ok(other_number(entry, own.as_slice())),
-        _ => Ok(None),
+    let own = entry_written(alloc, table, row, index)?;
+    let found = entry_there(alloc, view, writes, own.key.as_slice(), n)?;
+    let met = number_met(found, &own.value);
+    drop(own);
+    Ok(met)
+}
+
+// The number of the entry that is found, if its primary key isn't that of a row's own entry.
+fn number_met(found: Option<Entry>, own: &Option<Octets>) -> Option<u64>
+    ensures { result ≡ entries.number_met found own.now }
+{
+    match found {
+        Some(entry) => match own {
+            Some(primary) => other_number(entry, primary.as_slice()),
+            None => None,
+        },
+        None => None,
     }
 }
 
 // The number of an entry that isn't that of this primary key.
 fn other_number(entry: Entry, own: &[u8]) -> Option<u64>
-    ensures { result ≡ (if bytes_eq entry.primary own.now then None else Some entry.tx) }
+    ensures { result ≡ entries.other_number entry own.now }
 {
     let Entry { primary, tx } = entry;
     if primary.as_slice() == own {
@@ -165,11 +178,25 @@ pub(crate) fn write_row(
     ensures { OnOk result (writes.new ≡ spec.put_all (spec.all_written table.now indexes.now row.now) (spec.put_all (spec.dropped table.now indexes.now there.now) writes.old)) }
 {
     if let Some(stored) = there {
-        for index in indexes {
-            let entry = entry_written(alloc, table, stored.row.as_slice(), index)?;
-            writes.put(deleted(entry))?;
-        }
+        drop_entries(alloc, table, indexes, writes, stored.row.as_slice())?;
     }
     let written = all_written(alloc, table, indexes, row)?;
     writes.put_all(written)
+}
+
+// Deletes the entries of a row.
+fn drop_entries(
+    alloc: Global,
+    table: &Table,
+    indexes: &[SqlIndex],
+    writes: &mut Writes,
+    row: &[Value],
+) -> Result<(), AllocError>
+    ensures { OnOk result (writes.new ≡ spec.put_all (map (λ i. spec.deleted (spec.entry_written table.now row.now i)) indexes.now) writes.old) }
+{
+    for index in indexes {
+        let entry = entry_written(alloc, table, row, index)?;
+        writes.put(deleted(entry))?;
+    }
+    Ok(())
 }

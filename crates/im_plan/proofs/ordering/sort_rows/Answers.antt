@@ -1,15 +1,12 @@
-use Rattle.std.proofs.Common.{◌≡◌, List, OnOk, Ok, Err, Result, rules}
+use Rattle.std.proofs.Common.{◌≡◌, List, rules}
 use Rattle.std.proofs.lemmas.Fn.{always_returns_same}
 use Rattle.std.specs.Ordering.{is_lt}
+use Rattle.im_octet.proofs.Common.{on-ok}
 use Rattle.im_sqltype.specs.declared.values.Value.{Value}
 use Rattle.im_sqlmodel.specs.Selects.{terms_cmp}
 use Rattle.im_sqlmodel.proofs.SortLemmas.{stable-sorted}
 use Rattle.im_plan.proofs.OrderLemmas.{terms-order}
 use Rattle.im_plan.proofs.ordering.sort_rows.Goals as goal
-
-on-ok : {A E : Type 0} (P Q : Type 0) (r : Result A E) → (P → Q) → OnOk r P → OnOk r Q
-on-ok P Q (Ok x) f p = f p
-on-ok P Q (Err e) f p = tt
 
 pub returns : goal.returns
 returns c =

@@ -25,13 +25,13 @@ returns-in-Some g c = λ history stands few is kept.
     let name = c.args.insertion.now.table in
     let sound = kept-sound h kept in
     let there = subst (λ n. TableIs h n (Some c.in-Some.table)) c.as_slice.ensures (subst (TableIs h c.as_slice.result.now) c.in-Some.is (c.in_ok-table.ensures history stands few sound)) in
-    write-some h name c.in-Some.table (inserted h c.args.fresh c.args.insertion.now) c.insert_into.result sound there
-    (λ indexes rows are all. c.insert_into.ensures history stands few is kept (table-of h name c.in-Some.table there) indexes rows are all)
+    write-some h name c.in-Some.table (inserted h c.args.fresh c.args.insertion.now) c.insert_into-answer.result sound there
+    (λ indexes rows are all. c.insert_into-answer.ensures history stands few is kept (table-of h name c.in-Some.table there) indexes rows are all)
 
-pub returns-in-None : goal.returns-in-None
-returns-in-None g c = λ history stands few is kept.
+pub returns-in_ok-table-in-None : goal.returns-in_ok-table-in-None
+returns-in_ok-table-in-None g c = λ history stands few is kept.
     let h = take c.args.n history in
     let name = c.args.insertion.now.table in
     let sound = kept-sound h kept in
     let none = subst (λ n. TableIs h n None) c.as_slice.ensures (subst (TableIs h c.as_slice.result.now) c.in-None.is (c.in_ok-table.ensures history stands few sound)) in
-    inr (write-none h name (inserted h c.args.fresh c.args.insertion.now) _ none (ap (λ n. Err (error.NoTable n)) (c.in_ok-table-2.ensures ∙ c.as_slice-2.ensures)))
+    inr (write-none h name (inserted h c.args.fresh c.args.insertion.now) _ none (ap (λ n. Err (error.NoTable n)) (c.in_ok-table-in-None.ensures ∙ c.as_slice-in-None.ensures)))

@@ -1,7 +1,0 @@
-use Rattle.std.proofs.Common.{◌≡◌, map, take}
-use Rattle.im_sqlmodel.specs.Writes.{put_all, deleted, entry_written}
-use Rattle.im_sql.proofs.working.write_row.Given as goal
-
--- the entries of the row before were deleted so far
-abbrev pub invariant-loop-index : goal.invariant-loop-index
-invariant-loop-index l = l.writes ≡ put_all (map (λ i. deleted (entry_written l.table l.stored.row i)) (take l.index-index l.indexes)) l.initial.writes
