@@ -39,8 +39,8 @@ module _ (history : List Transaction) (fresh : Bool) (t : Table) (indexes : List
         next.rows,
         taken.2,
         ap (λ (w : List Written). write_rows history fresh t indexes (i + 1) left (work_of next.rows w)) taken.1
-        ∙ sym (ap (λ (o : Option SqlError). by_option o (write_rows history fresh t indexes (i + 1) left next) (λ fault. Err fault)) taken.0)
-        ∙ going.2,
+            ∙ sym (ap (λ (o : Option SqlError). by_option o (write_rows history fresh t indexes (i + 1) left next) (λ fault. Err fault)) taken.0)
+            ∙ going.2,
       )
 
   pub going-fault : (i : ℕ) (row : List Value) (left : List (List Value)) (written after : List Written) (fault : SqlError) → (going : IsGoing history fresh t indexes all i (row ∷ left) stood written)
@@ -59,10 +59,12 @@ pub taken-none : (history : List Transaction) (fresh : Bool) (t : Table) (indexe
     → IndexesAre history t indexes → AreOfKinds (kinds_of t) row → IsWorking t indexes stood written rows → row_fault history fresh t indexes i row rows ≡ None
     → after ≡ put_all (all_written t indexes row) (put_all (dropped t indexes (stored_at t rows (key_of t row))) written) → IsTaken history fresh t indexes i row stood (work_of rows written) after None
 taken-none history fresh t indexes i row stood rows written after of are kinds working none e =
-    let free = free-from history t indexes i row rows (faultless history fresh t indexes i row rows none).unique in
-    (none, e,
-    subst (λ (w : List Written). IsWorking t indexes stood w (rows_with t (record { row = row; tx = 0 }) rows)) (sym e)
-    (working-next t indexes stood rows written row (numbered-of history t indexes of are) kinds free working))
+    let free = free-from history t indexes i row rows (faultless history fresh t indexes i row rows none).unique in (
+      none,
+      e,
+      subst (λ (w : List Written). IsWorking t indexes stood w (rows_with t (record { row = row; tx = 0 }) rows)) (sym e)
+          (working-next t indexes stood rows written row (numbered-of history t indexes of are) kinds free working),
+    )
 
 -- ---- what is wrong with a row, by its parts
 

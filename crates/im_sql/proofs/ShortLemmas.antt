@@ -429,10 +429,13 @@ table-placed t is =
     let named : Written = record { key = table_key t.name; value = Some (table_text t) } in
     let four : length (field4 t.tid) ≡ 4 = length-field4 t.tid in
     let short : length t.name ≤ 48 = is.name.short in
-    placeable (table_entries t)
-    ((short-some count (field4 t.tid) refl (omega arith) (omega arith) (omega (arith, four)),
-    (short-some named (table_text t) refl (omega arith) (omega (arith, short)) (table-short t is), tt)),
-    ((refl, tt), (tt, tt))) (omega arith) (omega arith)
+    placeable (table_entries t) (
+      (
+        short-some count (field4 t.tid) refl (omega arith) (omega arith) (omega (arith, four)),
+        (short-some named (table_text t) refl (omega arith) (omega (arith, short)) (table-short t is), tt),
+      ),
+      ((refl, tt), (tt, tt)),
+    ) (omega arith) (omega arith)
 
 pub index-placed : (t : Table) (i : SqlIndex) → IsTable t → IsTableIndex t i → MayBePlaced (index_written t i)
 index-placed t i of is =

@@ -182,7 +182,9 @@ fn take_row<V: KvView>(
         return Ok(Some(fault));
     }
     let there = row_there(alloc, view, table, writes, row, n)?;
-    if let Some(fault) = met_fault(alloc, view, table, indexes, writes, fresh, i, row, &there, n)? {
+    if let Some(fault) = met_fault(
+        alloc, view, table, indexes, writes, fresh, i, row, &there, n,
+    )? {
         drop(there);
         return Ok(Some(fault));
     }
