@@ -54,8 +54,12 @@ fn changes_counted<L: Ledger>(
     let mut steps = Steps::<L>::new(blank);
     let mut copies = Vec::new(alloc);
     for run in runs {
-        let begun = begun(run.as_slice(), prefix, &mut steps);
-        copy_within(alloc, &mut copies, begun, n)?;
+        copy_within(
+            alloc,
+            &mut copies,
+            begun(run.as_slice(), prefix, &mut steps),
+            n,
+        )?;
     }
     Ok(Versions::from_vec(copies))
 }

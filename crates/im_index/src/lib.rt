@@ -1,7 +1,8 @@
 //! The timed index: the versions of a history's keys in sorted runs, which are merged as they grow, and snapshots that
 //! share them. A read finds its place in each run by halving, and the steps that it may take are said by clauses. The
 //! index and its snapshots are views of the history's keys, and so is `PlainIndex`, the same as one list. A session
-//! reads the index itself; a snapshot is for a reader that goes on while transactions are taken.
+//! reads the index itself; a snapshot is for a reader that goes on while transactions are taken, and tells all versions
+//! under a prefix too.
 #![tactic(auto)]
 
 mod blocks;

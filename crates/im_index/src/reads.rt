@@ -173,7 +173,7 @@ fn put_last<'v>(
         → OnOk result (HasNewest (before ++ filter (λ v. nat_le v.tx n) versions.now) prefix newest.new) }
 {
     let mut at = 0;
-    'blocks: while at < versions.len() {
+    'passing: while at < versions.len() {
         let first = versions[at].version();
         let count = block_len(&versions[at..], first.key.as_slice());
         put_block(newest, &versions[at..at + count], n)?;

@@ -126,7 +126,7 @@ fn count_begun<L: Ledger>(versions: &[Shared], prefix: &Sought<'_>, steps: &mut 
     ensures cost { steps.new ≤ steps.old + (result + 1) }
 {
     let mut at = 0;
-    'blocks: while at < versions.len() {
+    'passing: while at < versions.len() {
         let first = versions[at].version();
         if !prefix.begins(first, steps) {
             return at;

@@ -13,10 +13,12 @@ use std::sync::ledger::Ledger;
 /// don't change. A clause sees the runs that it shares, and the number of transactions.
 ///
 /// What a read costs, where the runs hold a number of versions with b binary digits: `get` compares at most
-/// b * (b + 1) keys, `versions` at most 2 * b * b, and it copies the versions that it tells. `scan` compares at
-/// most b * (b + 1) keys and one more for each version in the runs whose key begins with the prefix, and puts
-/// those of the first n transactions into a map. Versions of transactions behind the snapshot's are among those
-/// that the runs hold.
+/// b * (b + 1) keys, `versions` at most 2 * b * b, and it copies the versions that it tells. `scan` compares the prefix
+/// with at most b * (b + 1) keys and one more for each version in the runs whose key begins with it. In fact it compares
+/// it with one version of each key in each run, and passes over the others, twice, by comparing keys with each other: about
+/// four times as many as their number has binary digits; of each run the last version of each key among the first n
+/// transactions is put into a map. `changes` finds the versions likewise, and looks at the number of each. Versions of
+/// transactions behind the snapshot's are among those that the runs hold.
 ///
 /// # Thread safety
 ///
@@ -95,9 +97,9 @@ impl Snapshot {
         Ok(reads::versions_steps(alloc, &self.runs, key, n, steps)?)
     }
 
-    /// Answers as `scan`, and counts the comparisons of keys in the runs, not those of the map: with b the number
-    /// of binary digits of the number of versions that the runs hold, at most b * (b + 1), and one for each version
-    /// in the runs whose key begins with the prefix. Its only error is want of memory.
+    /// Answers as `scan`, and counts the comparisons with the prefix, not those of keys with each other: with b the
+    /// number of binary digits of the number of versions that the runs hold, at most b * (b + 1), and one for each
+    /// version in the runs whose key begins with the prefix. Its only error is want of memory.
     pub fn scan_steps<L: Ledger>(
         &self,
         alloc: Global,

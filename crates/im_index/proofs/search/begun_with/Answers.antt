@@ -14,7 +14,7 @@ returns-clause-sorted g c =
     let run : List Version = c.args.run.now in
     let from = c.place-from.result in
     let behind : List Version = take (length run - from) (drop from run) in
-    part-sorted behind 0 c.count_begun-count.result c.count_begun-count.ensures.within
+    part-sorted behind 0 c.count_begun-count.result (omega (arith, c.count_begun-count.ensures.within))
     (part-sorted run from (length run - from) (omega arith) c.requires.sorted)
 
 pub returns-clause-versions : goal.returns-clause-versions

@@ -4,12 +4,12 @@ use Rattle.im_versions.specs.Versions.{begins_with}
 use Rattle.im_versions.specs.declared.versions.Version.{Version}
 use Rattle.im_index.proofs.search.count_begun.Given as goal
 
-abbrev pub invariant-blocks : goal.invariant-blocks
-invariant-blocks g l = record {
+abbrev pub invariant-passing : goal.invariant-passing
+invariant-passing g l = record {
   within : l.at ≤ length l.versions;
   front : AllWithin (λ (v : Version). begins_with l.prefix v.key ≡ true) l.versions 0 l.at;
   cost : l.steps ≤ l.fn.steps + l.at;
 }
 
-abbrev pub decreases-blocks : goal.decreases-blocks
-decreases-blocks g l = length l.versions - l.at
+abbrev pub decreases-passing : goal.decreases-passing
+decreases-passing g l = length l.versions - l.at
