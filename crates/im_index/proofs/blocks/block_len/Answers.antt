@@ -1,4 +1,4 @@
-use Rattle.std.proofs.Common.{◌≡◌, ◌-◌, List, arith, drop, rules, take}
+use Rattle.std.proofs.Common.{◌-◌, List, arith, drop, rules, take}
 use Rattle.std.proofs.lemmas.List.Sorted.{IsPartitionPoint-from_clause}
 use Rattle.im_versions.specs.Versions.{is_of}
 use Rattle.im_versions.specs.declared.versions.Version.{Version}

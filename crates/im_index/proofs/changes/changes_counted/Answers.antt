@@ -1,4 +1,4 @@
-use Rattle.std.proofs.Common.{◌≡◌, ◌<◌, ◌++◌, ℕ, List, ap, sym, subst, take, ◌∙◌, arith}
+use Rattle.std.proofs.Common.{◌<◌, ◌++◌, ℕ, List, ap, sym, subst, take, ◌∙◌, arith}
 use Rattle.std.proofs.lemmas.List.{take_all}
 use Rattle.std.specs.List.{All, filter}
 use Rattle.std.specs.List.Sorted.{IsSorted}
