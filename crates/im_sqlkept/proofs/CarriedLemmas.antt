@@ -1,5 +1,5 @@
 -- Keys that begin with 00 are SQL's still where none of them is written.
-use Rattle.std.proofs.Common.{◌≡◌, ◌≢◌, ◌≤◌, ◌<◌, ◌||◌, inl, inr, ℕ, suc, Bool, true, false, if◌then◌else◌, List, [], ◌∷◌, ◌++◌, length, take, drop, filter, get_or, bytes_eq, Some, None, refl, sym, ap, ◌∙◌, subst, length-append, arith}
+use Rattle.std.proofs.Common.{◌≡◌, ◌≢◌, ◌≤◌, ◌<◌, ◌+◌, ◌||◌, inl, inr, ℕ, zero, suc, Bool, true, false, if◌then◌else◌, List, [], ◌∷◌, ◌++◌, length, take, drop, filter, get_or, bytes_eq, Some, None, refl, sym, ap, ◌∙◌, subst, length-append, arith}
 use Rattle.std.proofs.lemmas.Bool.{cases_Bool, cases_lt}
 use Rattle.std.proofs.lemmas.Bool.Decides.{Decides-eqb}
 use Rattle.std.proofs.lemmas.List.{append-nil, take_all}
@@ -140,12 +140,9 @@ push-grows history tx key v m =
 
 -- the first ones of a longer history
 pub taken-front : (n : ℕ) (xs ys : List Transaction) → n ≤ length xs → take n (xs ++ ys) ≡ take n xs
-taken-front n [] ys h = let none : n ≡ 0 = omega (arith, h) in ap (λ k. take k ys) none ∙ sym (ap (λ k. take k []) none)
-taken-front n (x ∷ xs) ys h = front n h
-  where
-    front : (m : ℕ) → m ≤ length (x ∷ xs) → take m (x ∷ (xs ++ ys)) ≡ take m (x ∷ xs)
-    front 0 l = refl
-    front (suc m) l = ap (λ rest. x ∷ rest) (taken-front m xs ys (omega (arith, l)))
+taken-front zero xs ys h = refl
+taken-front (suc n) [] ys h = absurd (let no : ⊥ = omega (arith, h) in no)
+taken-front (suc n) (x ∷ xs) ys h = ap (λ rest. x ∷ rest) (taken-front n xs ys (omega (arith, h)))
 
 -- a key of a table or an index begins with 00
 begins-zero : (key : List ℕ) → (begins_with table_prefix key || begins_with indexes_prefix key) ≡ true → (rest : List ℕ) × (key ≡ 0 ∷ rest)
