@@ -1,7 +1,7 @@
 -- All that a client knows holds under its state, or there are two unequal strings of one digest.
 use Rattle.std.proofs.Common.{◌≡◌, ◌⊎◌, ◌<◌, ℕ, Bool, true, false, cond, List, [], ◌∷◌, ◌++◌, nat_eq, Option, Some, None, Ok, refl, ap, subst, sym, ◌∙◌, inl, inr}
 use Rattle.std.specs.Prelude.{IfSome}
-use Rattle.std.specs.List.{AllByRecursion, All, find, flat_map}
+use Rattle.std.specs.List.{AllByRecursion, find}
 use Rattle.std.proofs.lemmas.Bool.{eqb-true}
 use Rattle.std.proofs.lemmas.List.Concat.{flat_map-cons}
 use Rattle.std.proofs.lemmas.List.Elements.{recursion_from_All, All-from_recursion, All-contains, Contains-push}
@@ -20,7 +20,7 @@ use Rattle.im_client.specs.Lines.{state_with}
 use Rattle.im_client.specs.LineChecks.{line_checks}
 use Rattle.im_facts.specs.Accepted.{IsAccepted, AreAccepted, IsClient}
 use Rattle.im_facts.specs.Facts.{Known, nothing, with_message, known_after, known_header, headers_shown, entries_shown, with_headers, with_entries, is_lower, is_level, is_before, is_beside}
-use Rattle.im_facts.specs.Held.{HoldsHeader, LiesUnder, HoldsEntry, HoldsUnder, HoldsKnown}
+use Rattle.im_facts.specs.Held.{HoldsHeader, HoldsEntry, HoldsUnder, HoldsKnown}
 use Rattle.im_facts.specs.declared.facts.EntryFact.{EntryFact}
 use Rattle.im_facts.proofs.OrderLemmas.{Rises, each-weaker, puts-all}
 use Rattle.im_facts.proofs.ShownLemmas.{FitsAt, is-state, headers-fit}

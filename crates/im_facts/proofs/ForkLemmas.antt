@@ -1,7 +1,7 @@
 -- A second fact for the place of a kept one comes with two unequal strings of one digest.
-use Rattle.std.proofs.Common.{◌≡◌, ◌≢◌, ◌⊎◌, ◌<◌, ◌&&◌, ℕ, Bool, List, [], ◌∷◌, ◌++◌, nat_eq, Option, Some, None, Ok, refl, ap, subst, sym, ◌∙◌, inl, inr, append-nil, Contains}
+use Rattle.std.proofs.Common.{◌≡◌, ◌⊎◌, ◌&&◌, ℕ, List, [], ◌∷◌, ◌++◌, nat_eq, Option, Some, None, Ok, refl, ap, subst, sym, ◌∙◌, inl, inr, append-nil, Contains}
 use Rattle.std.specs.Prelude.{option_map}
-use Rattle.std.specs.List.{AllByRecursion, All, find, flat_map}
+use Rattle.std.specs.List.{AllByRecursion, find}
 use Rattle.std.proofs.lemmas.Grind.{flat_map-append}
 use Rattle.std.proofs.lemmas.List.Concat.{flat_map-cons}
 use Rattle.std.proofs.lemmas.List.Elements.{recursion_from_All, All-from_recursion, All-contains}
@@ -28,7 +28,7 @@ use Rattle.im_wire.specs.declared.messages.Message.{Message}
 use Rattle.im_wire.specs.declared.messages.Message.TheVariants as says
 use Rattle.im_client.specs.LineChecks.{line_checks, advance_line_checks}
 use Rattle.im_facts.specs.Accepted.{Passes, IsClient}
-use Rattle.im_facts.specs.Facts.{Known, nothing, Differs, HeaderDiffers, EntryDiffers, known_header, entry_at, headers_shown, entries_shown}
+use Rattle.im_facts.specs.Facts.{Known, nothing, Differs, HeaderDiffers, EntryDiffers, headers_shown, entries_shown}
 use Rattle.im_facts.specs.Held.{HoldsHeader, LiesUnder, HoldsEntry, HoldsUnder}
 use Rattle.im_facts.specs.declared.facts.EntryFact.{EntryFact}
 use Rattle.im_facts.proofs.PlaceLemmas.{beside-parts}

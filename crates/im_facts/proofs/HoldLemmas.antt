@@ -1,13 +1,11 @@
 -- What a message shows holds under the state behind it, and what held before it goes on to hold, or there are two unequal
 -- strings of one digest.
-use Rattle.std.proofs.Common.{◌≡◌, ◌⊎◌, ◌<◌, ℕ, List, [], ◌∷◌, ◌++◌, reverse, Option, Some, None, Ok, refl, ap, subst, sym, ◌∙◌, inl, inr}
-use Rattle.std.specs.Prelude.{IfSome}
+use Rattle.std.proofs.Common.{◌≡◌, ◌⊎◌, ◌<◌, ℕ, List, [], ◌∷◌, ◌++◌, reverse, Option, Some, None, Ok, refl, subst, sym, inl, inr}
 use Rattle.std.specs.List.{AllByRecursion}
 use Rattle.im_digest.specs.Digests.{Hash}
 use Rattle.im_model.specs.Entries.{entry_digest, entry_strings}
 use Rattle.im_model.specs.Headers.{alh, header_strings}
 use Rattle.im_model.specs.Paths.{up_strings}
-use Rattle.im_model.specs.declared.entries.Entry.{Entry}
 use Rattle.im_model.specs.declared.headers.Header.{Header}
 use Rattle.im_mtree.specs.Checks.{first_fail}
 use Rattle.im_proof.specs.declared.proofs.DualProof.{DualProof}
@@ -16,20 +14,20 @@ use Rattle.im_pairs.specs.Ranges.{HeaderFits}
 use Rattle.im_pairs.proofs.HeaderLemmas.{same_header}
 use Rattle.im_carried.specs.Hashed.{dual_strings}
 use Rattle.im_carried.specs.Opened.{IsOpened}
-use Rattle.im_carried.specs.Shown.{ShowsDual, ShowsAnchor}
+use Rattle.im_carried.specs.Shown.{ShowsDual}
 use Rattle.im_carried.proofs.AdvanceLemmas.{advance}
 use Rattle.im_carried.proofs.OpenLemmas.{state_opens, source_opens, anchor_opens, anchor-target_opens}
 use Rattle.im_carried.proofs.PassLemmas.{left-among, right-among}
 use Rattle.im_hashed.specs.Messages.{anchor_strings, item_strings, message_strings}
 use Rattle.im_hashed.proofs.FitsLemmas.{header-fits, entry-fits}
-use Rattle.im_wire.specs.Fits.{IsMessage, IsDualProof, IsAnchor}
+use Rattle.im_wire.specs.Fits.{IsMessage}
 use Rattle.im_wire.specs.declared.messages.Message.{Message}
 use Rattle.im_wire.specs.declared.messages.Message.TheVariants as says
-use Rattle.im_client.specs.LineChecks.{line_checks, state_checks, dual_line_checks, advance_line_checks}
+use Rattle.im_client.specs.LineChecks.{line_checks}
 use Rattle.im_facts.specs.Facts.{headers_shown, entries_shown, both_headers, anchor_headers}
 use Rattle.im_facts.specs.Held.{HoldsHeader, LiesUnder}
 use Rattle.im_facts.specs.declared.facts.EntryFact.{EntryFact}
-use Rattle.im_facts.proofs.ShowLemmas.{OneAlh, state-meets, dual-meets, dual-line-shown, ItemHeld, item-held, item-leads, AnchorShown, AdvanceShown, advance-held, advance-shown}
+use Rattle.im_facts.proofs.ShowLemmas.{OneAlh, state-meets, dual-meets, dual-line-shown, item-held, item-leads, AnchorShown, advance-held, advance-shown}
 
 -- the header of a message that its line checks compare with the kept state
 abbrev pub met_by : Message → Header

@@ -1,5 +1,5 @@
 -- What passes its checks under a state passes those of its proofs, whatever the state.
-use Rattle.std.proofs.Common.{◌≡◌, List, [], ◌∷◌, ◌++◌, refl, subst, sym, Option, Some, None, Ok}
+use Rattle.std.proofs.Common.{◌≡◌, List, [], ◌∷◌, ◌++◌, Option, Some, None, Ok}
 use Rattle.std.specs.List.{All, AllByRecursion}
 use Rattle.std.proofs.lemmas.List.Elements.{All-from_recursion}
 use Rattle.im_digest.specs.Digests.{Hash}
@@ -15,7 +15,7 @@ use Rattle.im_wire.specs.declared.messages.Message.{Message}
 use Rattle.im_wire.specs.declared.messages.Message.TheVariants as says
 use Rattle.im_client.specs.LineChecks.{line_checks, dual_line_checks, advance_line_checks, anchor_checks, anchor_ends_checks}
 use Rattle.im_client.specs.declared.faults.LineFault.TheVariants.{Dual, Anchor, Path}
-use Rattle.im_facts.specs.Accepted.{IsAccepted, AreAccepted, IsClient}
+use Rattle.im_facts.specs.Accepted.{AreAccepted, IsClient}
 use Rattle.im_facts.specs.Facts.{Known, nothing, with_message}
 use Rattle.im_facts.proofs.ShownLemmas.{held-named}
 use Rattle.im_facts.proofs.ShowLemmas.{dual-checks}

@@ -1,14 +1,14 @@
 -- A message that passes its line checks under a state shows what these are for.
-use Rattle.std.proofs.Common.{◌≡◌, ◌<◌, ◌&&◌, ℕ, List, [], ◌∷◌, ◌++◌, Bool, true, false, not, bytes_eq, nat_eq, nat_lt, reverse, Option, Some, None, Ok, subst, sym, ap, ◌∙◌, arith}
-use Rattle.std.proofs.lemmas.Bool.{eqb-true, lt-ltb, both_ways}
+use Rattle.std.proofs.Common.{◌≡◌, ◌<◌, ◌&&◌, ℕ, List, ◌++◌, Bool, true, false, not, nat_lt, reverse, Option, Some, None, Ok, sym, ap, ◌∙◌}
+use Rattle.std.proofs.lemmas.Bool.{eqb-true, lt-ltb}
 use Rattle.std.proofs.lemmas.Slice.Eq.{bytes_eq-Decides}
 use Rattle.im_digest.specs.Digests.{Hash}
 use Rattle.im_model.specs.Entries.{entry_digest, entry_strings}
-use Rattle.im_model.specs.Headers.{alh, header_strings}
+use Rattle.im_model.specs.Headers.{alh}
 use Rattle.im_model.specs.Paths.{up_strings}
 use Rattle.im_model.specs.declared.entries.Entry.{Entry}
 use Rattle.im_model.specs.declared.headers.Header.{Header}
-use Rattle.im_mtree.specs.Checks.{Check, first_fail}
+use Rattle.im_mtree.specs.Checks.{first_fail}
 use Rattle.im_mtree.specs.PathChecks.{path_checks}
 use Rattle.im_mtree.proofs.CheckLemmas.{all-hold, each-holds, none-fails}
 use Rattle.im_proof.specs.Duals.{as_faults, dual_checks}
@@ -21,13 +21,10 @@ use Rattle.im_carried.specs.Shown.{ShowsDual, ShowsAnchor, ShowsAdvance}
 use Rattle.im_carried.proofs.HeldLemmas.{tree-below}
 use Rattle.im_carried.proofs.PassLemmas.{dual-shown, left-among, right-among}
 use Rattle.im_carried.proofs.ShowLemmas.{path-leads}
-use Rattle.im_hashed.specs.Messages.{anchor_strings, item_strings, message_strings}
+use Rattle.im_hashed.specs.Messages.{anchor_strings, item_strings}
 use Rattle.im_hashed.proofs.FitsLemmas.{dual-fits, digests-fit}
 use Rattle.im_wire.specs.Fits.{IsDualProof, IsAnchor, AreDigestOctets}
-use Rattle.im_wire.specs.declared.messages.Message.{Message}
-use Rattle.im_wire.specs.declared.messages.Message.TheVariants as says
 use Rattle.im_client.specs.LineChecks.{state_checks, same_state_checks, dual_line_checks, advance_line_checks, anchor_checks, anchor_ends_checks, is_anchored}
-use Rattle.im_client.specs.declared.faults.LineFault.{LineFault}
 use Rattle.im_client.specs.declared.faults.LineFault.TheVariants.{State, Dual, Anchor, Path}
 use Rattle.im_facts.proofs.ShownLemmas.{held-named}
 

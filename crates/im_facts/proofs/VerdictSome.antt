@@ -1,5 +1,5 @@
 -- Each line has a verdict, where a message that differs comes with a pair; and behind lines a client is one still.
-use Rattle.std.proofs.Common.{◌≡◌, ◌⊎◌, ℕ, List, [], ◌∷◌, ◌++◌, refl, sym, ap, subst, ◌∙◌, inl, inr, Some, None, Result, Ok, Err}
+use Rattle.std.proofs.Common.{◌≡◌, ◌⊎◌, ℕ, List, [], ◌∷◌, ◌++◌, refl, inl, inr, Some, None, Result, Ok, Err}
 use Rattle.im_digest.specs.Digests.{Hash}
 use Rattle.im_mtree.specs.Checks.{first_fail}
 use Rattle.im_pairs.specs.Pairs.{HasPair}
@@ -12,9 +12,9 @@ use Rattle.im_client.specs.LineChecks.{line_checks}
 use Rattle.im_client.specs.declared.faults.LineFault.{LineFault}
 use Rattle.im_client.specs.declared.faults.LineFault.TheVariants.{Syntax}
 use Rattle.im_client.proofs.LineSome.{LineOrBad, line-or-bad}
-use Rattle.im_facts.specs.Accepted.{Passes, IsAccepted, IsClient}
+use Rattle.im_facts.specs.Accepted.{Passes, IsClient}
 use Rattle.im_facts.specs.Facts.{Known, Agrees, Differs}
-use Rattle.im_facts.specs.Folds.{IsForkedBy, IsVerdict, AreVerdicts, known_by, known_by_all}
+use Rattle.im_facts.specs.Folds.{IsVerdict, AreVerdicts, known_by, known_by_all}
 use Rattle.im_facts.specs.Verdicts.{Verdict, Passed, Accepted, Refused, Forked}
 use Rattle.im_facts.proofs.AgreeLemmas.{agrees-or-differs}
 use Rattle.im_facts.proofs.KeepLemmas.{client-accepts}

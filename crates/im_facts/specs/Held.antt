@@ -1,7 +1,7 @@
 -- What holds of all that a client knows, collisions aside: each kept header is opened under its state, and each kept entry
 -- lies under the kept header of its transaction. Where a definition has `strings`, each string that is hashed on the way
 -- is among these.
-use Rattle.std.specs.Prelude.{◌≡◌, ◌⊎◌, ◌<◌, ℕ, List, All, Option, Some, None}
+use Rattle.std.specs.Prelude.{◌≡◌, ◌⊎◌, ◌<◌, ℕ, List, All, Some}
 use Rattle.im_digest.specs.Digests.{Hash}
 use Rattle.im_model.specs.Entries.{entry_digest, entry_strings}
 use Rattle.im_model.specs.Headers.{alh, header_strings}

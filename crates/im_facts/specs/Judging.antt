@@ -1,7 +1,6 @@
 -- A message that was judged, before anything is put in: the answer to it, and copies of what it adds.
-use Rattle.std.specs.Prelude.{◌≡◌, Bool, true, false, Option, Some, None}
+use Rattle.std.specs.Prelude.{◌≡◌, true, false, Option, Some, None}
 use Rattle.im_digest.specs.Digests.{Hash}
-use Rattle.im_model.specs.declared.headers.Header.{Header}
 use Rattle.im_wire.specs.declared.messages.Message.{Message}
 use Rattle.im_facts.specs.Accepted.{IsAccepted}
 use Rattle.im_facts.specs.Copies.{AreCopies}

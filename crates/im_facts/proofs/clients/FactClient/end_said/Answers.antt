@@ -1,4 +1,4 @@
-use Rattle.std.proofs.Common.{◌≡◌, subst}
+use Rattle.std.proofs.Common.{subst}
 use Rattle.im_wire.specs.declared.messages.Message.{Message}
 use Rattle.im_client.proofs.SaysLemmas.{says-one}
 use Rattle.im_facts.specs.Folds.{IsTakenAs, known_behind}

@@ -1,4 +1,3 @@
-use Rattle.std.proofs.Common.{◌≡◌, Some, None}
 use Rattle.im_facts.specs.Keeping.{known_of}
 use Rattle.im_facts.proofs.JudgeLemmas.{end-adds, end-led, end-puts, end-stays}
 use Rattle.im_facts.proofs.NoteLemmas.{led-rises}

@@ -1,4 +1,4 @@
-use Rattle.std.proofs.Common.{◌≡◌, Ok, rules}
+use Rattle.std.proofs.Common.{rules}
 use Rattle.im_facts.specs.Accepted.{Passes}
 use Rattle.im_facts.specs.Keeping.{known_of}
 use Rattle.im_facts.proofs.JudgeLemmas.{judged-accepted, judged-forked, judged-refused, news-any}
