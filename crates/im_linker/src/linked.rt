@@ -8,12 +8,11 @@ use im_atree::trees::Tree;
 use im_digest::{D32, Hash32};
 use im_table::law::Law;
 use im_table::pass::Pass;
-use im_table::roles::{no_roles, tree_role};
+use im_table::roles::tree_role;
 use im_table::tip::Tip;
 use im_table::tip_name::TipName;
 use std::alloc::AllocError;
 use std::marker::{Model, PhantomData};
-use std::mem;
 
 /// The tree of a history that threads share, with the pass that has the tree's role: what lies under the tree's lock.
 /// A clause sees the tree: its size, and the digests of its whole subtrees.
@@ -92,9 +91,7 @@ impl<N: TipName> Linked<N> {
         ensures durable { result ≤ pass.new.view.least.durable }
         ensures leaves { IsTreeOf N.digest pass.new.view.seen self.new }
     {
-        let stand_in = tip.split(pass, no_roles(), 0);
-        let keeper = mem::replace(&mut self.pass, stand_in);
-        tip.join(pass, keeper);
+        tip.fetch(&mut self.pass, pass);
         self.pass = tip.split(pass, tree_role(), 0);
         self.tree.size()
     }
@@ -120,9 +117,7 @@ impl<N: TipName> Linked<N> {
         ensures within { result.0 ≤ length pass.new.view.seen }
         ensures root { result.1 ≡ bl_root_of N.digest (alhs_in N.digest pass.new.view.seen) result.0 }
     {
-        let stand_in = tip.split(pass, no_roles(), 0);
-        let keeper = mem::replace(&mut self.pass, stand_in);
-        tip.join(pass, keeper);
+        tip.fetch(&mut self.pass, pass);
         self.pass = tip.split(pass, tree_role(), 0);
         (self.tree.size(), root_of(hash, &self.tree))
     }
@@ -151,9 +146,7 @@ impl<N: TipName> Linked<N> {
         ensures err { OnErr result ((self.new ≡ self.old) × (pass.new ≡ pass.old)) }
     {
         self.tree.extend(hash, alhs)?;
-        let stand_in = tip.split(pass, no_roles(), 0);
-        let keeper = mem::replace(&mut self.pass, stand_in);
-        tip.join(pass, keeper);
+        tip.fetch(&mut self.pass, pass);
         let size = self.tree.size();
         tip.store_linked(pass, size);
         self.pass = tip.split(pass, tree_role(), 0);

@@ -1,8 +1,6 @@
 use Rattle.std.proofs.Common.{rules, ◌≡◌, ◌≤◌, ◌+◌, ◌++◌, ◌∙◌, List, ℕ, length, take, drop, ap, sym, subst}
-use mathlib.Core.List.{IsPrefix}
 use Rattle.im_digest.specs.Digests.{Hash}
 use Rattle.im_levels.specs.Leveled.{IsLeveled, Stored}
-use Rattle.im_table.specs.Known.{KnownPass}
 use Rattle.im_table.specs.declared.items.LogItem.{LogItem}
 use Rattle.im_table.specs.declared.view.View.{View}
 use Rattle.im_linker.specs.Trees.{alhs_in, IsTreeOf}
@@ -23,17 +21,15 @@ invariant_of-self-2 g c =
     let alhs = c.args.alhs.now in
     let before = c.self.inside.pass.view.seen in
     let mine = c.args.pass.now.view.seen in
-    let list = c.join.new.pass.view.seen in
+    let list = c.fetch.new.pass.view.seen in
     let old = c.self.inside.tree in
     let new = c.extend.new.self in
     let seen : View → List LogItem = λ v. v.seen in
-    let theirs = subst (λ (p : KnownPass). IsPrefix p.view.seen list) c.replace-keeper.ensures.value c.join.ensures.theirs in
-    let own = subst (λ (l : List LogItem). IsPrefix l list) (ap seen c.split-stand_in.ensures.left.1) c.join.ensures.mine in
     let next = subst (λ (t : Stored). alhs ≡ take (length alhs) (drop t.size (alhs_in hash mine))) (sym c.self.view_is) c.requires.next in
     let within = subst (λ (t : Stored). t.size + length alhs ≤ length mine) (sym c.self.view_is) c.requires.within.0 in
     let leaves : List (List ℕ) = take old.size (alhs_in hash before) in
     let leveled = subst (λ (h : Hash). IsLeveled h leaves old → IsLeveled h (leaves ++ alhs) new) c.requires.hash (c.in_ok-extend.ensures.leaves leaves) c.self.invariant.3 in
-    let tree = tree_linked hash before mine list alhs old new c.self.invariant.3 theirs own next within c.in_ok-extend.ensures.size leveled in (
+    let tree = tree_linked hash before mine list alhs old new c.self.invariant.3 c.fetch.ensures.theirs c.fetch.ensures.mine next within c.in_ok-extend.ensures.size leveled in (
       search rules,
       search rules,
       search rules,
@@ -46,15 +42,13 @@ returns-clause-leaves g c =
     let alhs = c.args.alhs.now in
     let before = c.self.inside.pass.view.seen in
     let mine = c.args.pass.now.view.seen in
-    let list = c.join.new.pass.view.seen in
+    let list = c.fetch.new.pass.view.seen in
     let old = c.self.inside.tree in
     let new = c.extend.new.self in
     let seen : View → List LogItem = λ v. v.seen in
-    let theirs = subst (λ (p : KnownPass). IsPrefix p.view.seen list) c.replace-keeper.ensures.value c.join.ensures.theirs in
-    let own = subst (λ (l : List LogItem). IsPrefix l list) (ap seen c.split-stand_in.ensures.left.1) c.join.ensures.mine in
     let next = subst (λ (t : Stored). alhs ≡ take (length alhs) (drop t.size (alhs_in hash mine))) (sym c.self.view_is) c.requires.next in
     let within = subst (λ (t : Stored). t.size + length alhs ≤ length mine) (sym c.self.view_is) c.requires.within.0 in
     let leaves : List (List ℕ) = take old.size (alhs_in hash before) in
     let leveled = subst (λ (h : Hash). IsLeveled h leaves old → IsLeveled h (leaves ++ alhs) new) c.requires.hash (c.in_ok-extend.ensures.leaves leaves) c.self.invariant.3 in
-    let tree = tree_linked hash before mine list alhs old new c.self.invariant.3 theirs own next within c.in_ok-extend.ensures.size leveled in
+    let tree = tree_linked hash before mine list alhs old new c.self.invariant.3 c.fetch.ensures.theirs c.fetch.ensures.mine next within c.in_ok-extend.ensures.size leveled in
     subst (λ (l : List LogItem). IsTreeOf hash l new) (sym (ap seen c.split.ensures.left.1 ∙ ap seen c.store_linked.ensures.view)) tree

@@ -1,9 +1,7 @@
 use Rattle.std.proofs.Common.{rules, ◌≡◌, ℕ, ◌∙◌, List, length, arith, ap, sym, subst}
-use mathlib.Core.List.{IsPrefix}
 use Rattle.im_digest.specs.Digests.{Hash}
 use Rattle.im_levels.specs.Leveled.{IsLeveled}
 use Rattle.im_model.specs.History.{bl_root_of}
-use Rattle.im_table.specs.Known.{KnownPass}
 use Rattle.im_table.specs.declared.items.LogItem.{LogItem}
 use Rattle.im_table.specs.declared.view.View.{View}
 use Rattle.im_linker.specs.Trees.{alhs_in, IsTreeOf}
@@ -14,9 +12,8 @@ pub invariant_of-self : goal.invariant_of-self
 invariant_of-self g c =
     let hash = g.N.TipName.digest in
     let seen : View → List LogItem = λ v. v.seen in
-    let list = c.join.new.pass.view.seen in
-    let begins = subst (λ (p : KnownPass). IsPrefix p.view.seen list) c.replace-keeper.ensures.value c.join.ensures.theirs in
-    let tree = tree_front hash c.self.inside.pass.view.seen list c.self.inside.tree begins c.self.invariant.3 in (
+    let list = c.fetch.new.pass.view.seen in
+    let tree = tree_front hash c.self.inside.pass.view.seen list c.self.inside.tree c.fetch.ensures.theirs c.self.invariant.3 in (
       search rules,
       search rules,
       search rules,
@@ -26,10 +23,8 @@ invariant_of-self g c =
 pub returns-clause-within : goal.returns-clause-within
 returns-clause-within g c =
     let hash = g.N.TipName.digest in
-    let seen : View → List LogItem = λ v. v.seen in
-    let list = c.join.new.pass.view.seen in
-    let begins = subst (λ (p : KnownPass). IsPrefix p.view.seen list) c.replace-keeper.ensures.value c.join.ensures.theirs in
-    let tree = tree_front hash c.self.inside.pass.view.seen list c.self.inside.tree begins c.self.invariant.3 in
+    let list = c.fetch.new.pass.view.seen in
+    let tree = tree_front hash c.self.inside.pass.view.seen list c.self.inside.tree c.fetch.ensures.theirs c.self.invariant.3 in
     let few = tree_within hash list c.self.inside.tree tree in
     omega (arith, few, c.size.ensures, ap (λ (v : View). length v.seen) c.split.ensures.left.1)
 
@@ -37,9 +32,8 @@ pub returns-clause-root : goal.returns-clause-root
 returns-clause-root g c =
     let hash = g.N.TipName.digest in
     let made = c.root_of.result in
-    let list = c.join.new.pass.view.seen in
-    let begins = subst (λ (p : KnownPass). IsPrefix p.view.seen list) c.replace-keeper.ensures.value c.join.ensures.theirs in
-    let tree = tree_front hash c.self.inside.pass.view.seen list c.self.inside.tree begins c.self.invariant.3 in
+    let list = c.fetch.new.pass.view.seen in
+    let tree = tree_front hash c.self.inside.pass.view.seen list c.self.inside.tree c.fetch.ensures.theirs c.self.invariant.3 in
     let told = subst (λ (h : Hash). (leaves : List (List ℕ)) → IsLeveled h leaves c.self.inside.tree → made ≡ bl_root_of h leaves (length leaves)) c.requires.hash c.root_of.ensures in
     tree_root hash list c.self.inside.tree made tree told
     ∙ ap (λ (n : ℕ). bl_root_of hash (alhs_in hash list) n) (sym c.size.ensures)
