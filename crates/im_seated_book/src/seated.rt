@@ -30,7 +30,7 @@ use im_model::transactions::Transaction;
 use im_table::items::LogItem;
 use im_table::law::Law;
 use im_table::pass::Pass;
-use im_table::roles::{book_role, no_roles};
+use im_table::roles::book_role;
 use im_table::tip::Tip;
 use im_table::tip_name::TipName;
 use im_tx::prepared::Prepared;
@@ -38,7 +38,6 @@ use im_versions::refusals::PlaceError;
 use im_vlog::placing::append_values;
 use std::alloc::{AllocError, Global};
 use std::marker::{Model, PhantomData};
-use std::mem;
 
 /// The book of a history that threads share, with the references of its values, the clock, and the pass that has the
 /// book's role: what lies under the book's lock. A clause sees the whole list of what is placed.
@@ -182,9 +181,7 @@ impl<C: Clock, N: TipName> SeatedBook<C, N> {
         ensures history { IsHistory (history_of self.new) }
         ensures meets { IsLawful L.allows tip.now.logs self.new }
     {
-        let stand_in = tip.split(pass, no_roles(), 0);
-        let keeper = mem::replace(&mut self.pass, stand_in);
-        tip.join(pass, keeper);
+        tip.fetch(&mut self.pass, pass);
         let placed = tip.load_placed(pass);
         self.pass = tip.split(pass, book_role(), 0);
         placed
@@ -267,9 +264,7 @@ impl<C: Clock, N: TipName> SeatedBook<C, N> {
         let eh = entry_root(alloc, hash, entries.as_slice())?;
         self.book.reserve()?;
         self.refs.reserve(1)?;
-        let stand_in = tip.split(pass, no_roles(), 0);
-        let keeper = mem::replace(&mut self.pass, stand_in);
-        tip.join(pass, keeper);
+        tip.fetch(&mut self.pass, pass);
         let (bl, root) = tree.under(hash, tip, pass);
         let tx = transaction_now(&mut self.clock, entries, bl);
         let header = self.book.header_for(alloc, hash, &tx, root, eh);

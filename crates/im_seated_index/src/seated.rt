@@ -10,12 +10,11 @@ use im_index::snapshot::Snapshot;
 use im_model::transactions::Transaction;
 use im_table::law::Law;
 use im_table::pass::Pass;
-use im_table::roles::{index_role, no_roles};
+use im_table::roles::index_role;
 use im_table::tip::Tip;
 use im_table::tip_name::TipName;
 use std::alloc::{AllocError, Global};
 use std::marker::{Model, PhantomData};
-use std::mem;
 
 /// The index of a history that threads share, with the pass that has the index's role: what lies under the index's
 /// lock. A clause sees the index.
@@ -94,9 +93,7 @@ impl<N: TipName> SeatedIndex<N> {
         ensures durable { result ≤ pass.new.view.least.durable }
         ensures first { HasTaken pass.new.view.seen self.new }
     {
-        let stand_in = tip.split(pass, no_roles(), 0);
-        let keeper = mem::replace(&mut self.pass, stand_in);
-        tip.join(pass, keeper);
+        tip.fetch(&mut self.pass, pass);
         self.pass = tip.split(pass, index_role(), 0);
         self.index.taken()
     }
@@ -126,9 +123,7 @@ impl<N: TipName> SeatedIndex<N> {
     {
         self.index.take(alloc, tx)?;
         let taken = self.index.taken();
-        let stand_in = tip.split(pass, no_roles(), 0);
-        let keeper = mem::replace(&mut self.pass, stand_in);
-        tip.join(pass, keeper);
+        tip.fetch(&mut self.pass, pass);
         tip.store_indexed(pass, taken);
         self.pass = tip.split(pass, index_role(), 0);
         Ok(())

@@ -5,13 +5,14 @@ use Rattle.std.proofs.lemmas.List.{append-nil, length-map}
 use Rattle.std.specs.List.{All}
 use Rattle.std.specs.Prelude.{Option, OnErr, OnOk}
 use mathlib.Core.List.{IsPrefix}
+use Rattle.im_octet.proofs.Common.{on-ok}
 use Rattle.im_digest.specs.Digests.{Hash}
 use Rattle.im_disk.specs.Disk.{Told}
 use Rattle.im_disk.specs.Moments.{Leaves}
 use Rattle.im_disk.proofs.Leaving.{leaves_weaker}
 use Rattle.im_model.specs.History.{IsHistory}
 use Rattle.im_model.specs.declared.transactions.Transaction.{Transaction}
-use Rattle.im_format.specs.Batches.{gate_of, joined, spans_of}
+use Rattle.im_format.specs.Batches.{joined}
 use Rattle.im_format.specs.Places.{AreAppended, ArePut, refs_of}
 use Rattle.im_format.specs.Records.{AreRecords}
 use Rattle.im_format.specs.Standing.{StandsFrom}
@@ -24,19 +25,19 @@ use Rattle.im_table.specs.declared.items.LogItem.{LogItem}
 use Rattle.im_table.proofs.FrontLemmas.{prefix_length, prefix_self, prefix_shorter}
 use Rattle.im_table.proofs.HistoryLemmas.{history_front, history_length, map_front, part_front, take_front}
 use Rattle.im_journal.specs.Holding.{AreNext}
-use Rattle.im_journal.specs.Kept.{IsAtRest, IsAtStep, IsInBatch, Kept}
-use Rattle.im_journal.specs.Pieces.{end_of}
-use Rattle.im_seated_journal.specs.Seats.{IsGoing, RoseBy, ServesItems, refs_in}
-use Rattle.im_journal.specs.declared.batches.Step.{Step}
-use Rattle.im_journal.specs.declared.batches.Step.TheVariants.{Idle}
+use Rattle.im_journal.specs.Kept.{IsAtRest, IsInBatch, Kept}
+use Rattle.im_journal.specs.Pieces.{pieces_of}
+use Rattle.im_seated_journal.specs.Seats.{RoseBy, ServesItems, refs_in}
+use Rattle.im_journal.specs.declared.batches.Step.TheVariants.{Idle, Staging}
 use Rattle.im_journal.specs.declared.errors.JournalError.{JournalError}
 use Rattle.im_journal.specs.declared.errors.JournalError.TheVariants.{Stopped}
 use Rattle.im_journal.proofs.Longer.{rest_longer, records_longer}
 use Rattle.im_journal.proofs.Mids.{ok_isnt}
-use Rattle.im_seated_journal.proofs.ServeLemmas.{stands_more}
+use Rattle.im_seated_journal.proofs.MadeLemmas.{begun_made}
+use Rattle.im_seated_journal.proofs.ServeLemmas.{on_sound, rest_in, stands_more}
 
 -- the references of records that have those of items, one behind the other
-refs_joined : (rs : List Record) (items : List LogItem) → map (λ (r : Record). r.refs) rs ≡ refs_in items → refs_of rs ≡ references_of items
+pub refs_joined : (rs : List Record) (items : List LogItem) → map (λ (r : Record). r.refs) rs ≡ refs_in items → refs_of rs ≡ references_of items
 refs_joined [] [] is = refl
 refs_joined [] (x ∷ items) is = absurd (cc (is))
 refs_joined (r ∷ rs) [] is = absurd (cc (is))
@@ -45,7 +46,7 @@ refs_joined (r ∷ rs) (x ∷ items) is =
     ap (λ (l : List ValueRef). l ++ refs_of rs) head ∙ ap (λ (l : List ValueRef). x.refs ++ l) (refs_joined rs items (cc (is)))
 
 -- the values of a front part lie as those of the list
-laid_front : (logs number : ℕ) (before : List ValueRef) (xs ys : List LogItem) → IsPrefix xs ys → AreLaid logs number before ys → AreLaid logs number before xs
+pub laid_front : (logs number : ℕ) (before : List ValueRef) (xs ys : List LogItem) → IsPrefix xs ys → AreLaid logs number before ys → AreLaid logs number before xs
 laid_front logs number before [] ys p laid = tt
 laid_front logs number before (x ∷ xs) [] p laid = absurd (cc (p.1))
 laid_front logs number before (x ∷ xs) (y ∷ ys) p laid =
@@ -66,7 +67,7 @@ put_first logs number before (x ∷ xs) (r ∷ rs) laid fresh is =
     (laid.0 new, put_first logs (number + 1) (before ++ x.refs) xs rs laid.1 (λ k d lt. fresh (suc k) d (omega (arith, lt))) (cc (is)))
 
 -- and so are those of the items behind the first
-put_behind : (logs number : ℕ) (before : List ValueRef) (xs : List LogItem) (n : ℕ) (rs : List Record) → AreLaid logs number before xs → All (λ (x : LogItem). x.found ≡ false) (drop n xs)
+pub put_behind : (logs number : ℕ) (before : List ValueRef) (xs : List LogItem) (n : ℕ) (rs : List Record) → AreLaid logs number before xs → All (λ (x : LogItem). x.found ≡ false) (drop n xs)
     → map (λ (r : Record). r.refs) rs ≡ take (length rs) (drop n (refs_in xs)) → ArePut logs (number + n) (before ++ references_of (take n xs)) rs
 put_behind logs number before xs zero rs laid fresh is =
     let same : number ≡ number + 0 = omega arith in
@@ -80,7 +81,7 @@ put_behind logs number before (x ∷ xs) (suc n) rs laid fresh is =
     (put_behind logs (number + 1) (before ++ x.refs) xs n rs laid.1 fresh is))
 
 -- what is behind the items that were found was not
-fresh_behind : (found items : List LogItem) (n : ℕ) → GoesOn found items → length found ≤ n → All (λ (x : LogItem). x.found ≡ false) (drop n items)
+pub fresh_behind : (found items : List LogItem) (n : ℕ) → GoesOn found items → length found ≤ n → All (λ (x : LogItem). x.found ≡ false) (drop n items)
 fresh_behind found items n goes le = subst (λ (l : List LogItem). All (λ (x : LogItem). x.found ≡ false) (drop n l)) (sym goes.begins) (behind found n le)
   where
     rest : (n : ℕ) (xs : List LogItem) → All (λ (x : LogItem). x.found ≡ false) xs → All (λ (x : LogItem). x.found ≡ false) (drop n xs)
@@ -94,7 +95,7 @@ fresh_behind found items n goes le = subst (λ (l : List LogItem). All (λ (x : 
     behind (x ∷ found) (suc n) le = behind found n (omega (arith, le))
 
 -- records of a front part are those of the list
-records_of_front : (hash : Hash) (xs ys : List LogItem) (behind : ℕ) (rs : List Record) → IsPrefix xs ys → AreRecordsOf hash xs behind rs → AreRecordsOf hash ys behind rs
+pub records_of_front : (hash : Hash) (xs ys : List LogItem) (behind : ℕ) (rs : List Record) → IsPrefix xs ys → AreRecordsOf hash xs behind rs → AreRecordsOf hash ys behind rs
 records_of_front hash xs ys behind rs p are =
     let h = history_front xs ys p in
     let le : behind + length rs ≤ length (history_of xs) = omega (arith, are.within, history_length xs) in
@@ -108,7 +109,7 @@ records_of_front hash xs ys behind rs p are =
     }
 
 -- the first references are those of the first items
-take_refs : (n : ℕ) (xs : List LogItem) → take n (refs_in xs) ≡ refs_in (take n xs)
+pub take_refs : (n : ℕ) (xs : List LogItem) → take n (refs_in xs) ≡ refs_in (take n xs)
 take_refs zero xs = refl
 take_refs (suc n) [] = refl
 take_refs (suc n) (x ∷ xs) = ap (λ (l : List (List ValueRef)). x.refs ∷ l) (take_refs n xs)
@@ -121,7 +122,7 @@ pub record Ready {D : Type 0} (told : D → Option Told) (hash : Hash) (batches 
   pub rest : IsAtRest told hash (history_of items) batches k
   pub next : AreNext hash (history_of items) batches k.durable rs
   pub refs_are : map (λ (r : Record). r.refs) (joined batches) ≡ take k.durable (refs_in items)
-  pub more_refs : map (λ (r : Record). r.refs) rs ≡ take (length rs) (drop k.durable (refs_in items))
+  pub own : AreRecordsOf hash items k.durable rs
 
 module _ {D : Type 0} (told : D → Option Told) (hash : Hash) (found : List LogItem) (logs : ℕ) where
   -- the records are the next ones of a front part that has them
@@ -161,7 +162,7 @@ module _ {D : Type 0} (told : D → Option Told) (hash : Hash) (found : List Log
               rest = rest;
               next = next_of old mine batches rs k.durable refs_mine least goes here some own are;
               refs_are = refs;
-              more_refs = are.refs_are;
+              own = are;
             })
         | inr longer ↦ (
             let begins : IsPrefix old mine = prefix_shorter old mine list p q (omega (arith, longer)) in
@@ -177,39 +178,53 @@ module _ {D : Type 0} (told : D → Option Told) (hash : Hash) (found : List Log
                   (rest_longer told hash (history_of old) h.0 batches k (subst (λ (l : List Transaction). IsHistory l) (sym h.1) is) rest);
               next = next_of mine mine batches rs k.durable refs_mine least goes here some own own;
               refs_are = refs_mine;
-              more_refs = own.refs_are;
+              own = own;
             })
       ]
 
-module _ {D : Type 0} (told : D → Option Told) (faults : D → ℕ) (hash : Hash) (found : List LogItem) (synced : Option Told) (before : ℕ) where
-  -- with no batch in progress the journal is at rest
-  pub rest_in : (items : List LogItem) (batches : List (List Record)) (k : Kept D) → IsGoing told hash items batches k → k.batch.step ≡ Idle → IsAtRest told hash (history_of items) batches k
-  rest_in items batches k (inl rest) idle = rest
-  rest_in items batches k (inr mid) idle =
-      absurd (subst (λ (x : Step). IsAtStep x (told k.disk) (end_of k.ends) (spans_of batches) (gate_of (length batches)) k.batch.pieces k.batch.written) idle mid.1.batch.at)
+module _ {D : Type 0} {told : D → Option Told} {faults : D → ℕ} {hash : Hash} {found : List LogItem} {synced : Option Told} {before : ℕ} where
+  -- a journal at rest can begin a batch of records that its caller has seen
+  pub ready_for : (logs : ℕ) (mine list : List LogItem) (rs : List Record) (k : Kept D) (s : ServesItems told faults hash found synced before list k) → k.failures ≡ 0 → k.batch.step ≡ Idle → IsPrefix mine list
+      → IsHistory (history_of mine) → GoesOn found mine → AreLaid logs 1 [] list → 1 ≤ length rs → AreRecordsOf hash mine k.durable rs → Ready told hash s.batches rs s.items list k
+  ready_for logs mine list rs k s sound idle begins history goes laid some own =
+      ready told hash found logs s.items mine list s.batches rs k s.begins begins (rest_in list k s sound idle).0 s.refs_are s.old history goes laid some own
 
   -- a batch is begun, or nothing is done
   pub begin_serves : {T : Type 0} (list : List LogItem) (rs : List Record) (k next : Kept D) (r : Result T JournalError) (s : ServesItems told faults hash found synced before list k)
-      → (k.failures ≡ 0 → Ready told hash s.batches rs s.items list k)
-      → ((history : List Transaction) → IsAtRest told hash history s.batches k → AreNext hash history s.batches k.durable rs → OnOk r (IsInBatch told hash history s.batches rs next))
-      → next.disk ≡ k.disk → next.durable ≡ k.durable → next.failures ≡ k.failures → OnErr r (next ≡ k) → (0 < k.failures → r ≡ Err (Stopped k.failures))
+      → (k.failures ≡ 0 → k.batch.step ≡ Idle) → (k.failures ≡ 0 → Ready told hash s.batches rs s.items list k) → 1 ≤ length rs
+      → ((h : Hash) (history : List Transaction) (batches : List (List Record)) → IsAtRest told h history batches k → AreNext h history batches k.durable rs → OnOk r (IsInBatch told h history batches rs next))
+      → OnOk r (next.batch.step ≡ Staging) → OnOk r ((next.batch.pieces ≡ pieces_of k.ends (k.durable + 1) rs) × (next.batch.written ≡ 0)) → next.disk ≡ k.disk
+      → (next.ends ≡ k.ends) × (next.durable ≡ k.durable) × (next.failures ≡ k.failures) → OnErr r (next ≡ k) → (0 < k.failures → r ≡ Err (Stopped k.failures))
       → ServesItems told faults hash found synced before list next
-  begin_serves list rs k next (Err e) s can begun disk durable failures left stopped = subst (λ (n : Kept D). ServesItems told faults hash found synced before list n) (sym left) s
-  begin_serves list rs k next (Ok x) s can begun disk durable failures left stopped = elim (cases_lt 0 k.failures) [
+  begin_serves list rs k next (Err e) s idle can some begun step pieces disk kept left stopped = subst (λ (n : Kept D). ServesItems told faults hash found synced before list n) (sym left) s
+  begin_serves list rs k next (Ok x) s idle can some begun step pieces disk kept left stopped = elim (cases_lt 0 k.failures) [
     | inl failed ↦ absurd (ok_isnt x (Stopped k.failures) (stopped failed))
     | inr none ↦ (
-        let a = can (omega (arith, none)) in
-        let batch = begun (history_of a.items) a.rest a.next in
+        let sound : k.failures ≡ 0 = omega (arith, none) in
+        let a = can sound in
+        let rest = rest_in list k s sound (idle sound) in
+        let batch = begun hash (history_of a.items) s.batches a.rest a.next in
         record {
           items = a.items;
           begins = a.begins;
           batches = s.batches;
+          last = rs;
           holds = inr (inl (rs, batch));
-          refs_are = a.refs_are ∙ ap (λ (n : ℕ). take n (refs_in a.items)) (sym durable);
-          going = λ _. inr (rs, record { batch = batch; refs_are = a.more_refs ∙ ap (λ (n : ℕ). take (length rs) (drop n (refs_in a.items))) (sym durable) });
-          old = omega (arith, s.old, durable);
-          rose = subst (λ (n : ℕ). RoseBy before (faults next.disk) n) (sym failures) (subst (λ (d : D). RoseBy before (faults d) k.failures) (sym disk) s.rose);
+          refs_are = a.refs_are ∙ ap (λ (n : ℕ). take n (refs_in a.items)) (sym kept.1);
+          going = λ _. inr (record { batch = batch; refs_are = a.own.refs_are ∙ ap (λ (n : ℕ). take (length rs) (drop n (refs_in a.items))) (sym kept.1) });
+          old = omega (arith, s.old, kept.1);
+          rose = subst (λ (n : ℕ). RoseBy before (faults next.disk) n) (sym kept.2) (subst (λ (d : D). RoseBy before (faults d) k.failures) (sym disk) s.rose);
+          calm = λ _. ap faults disk ∙ s.calm sound;
+          made = begun_made s.items a.items s.batches s.last rs k next s.made sound rest.1 rest.0 some a.own step pieces disk kept.0 kept.1;
           moments = subst (λ (d : D). Leaves (StandsFrom hash (length found) (history_of a.items)) synced (told d)) (sym disk)
               (leaves_weaker (StandsFrom hash (length found) (history_of s.items)) (StandsFrom hash (length found) (history_of a.items)) (stands_more hash (length found) s.items a.items a.more) synced (told k.disk) s.moments);
         })
   ]
+
+  -- a batch has as many transactions as it has records
+  pub begin_count : {T : Type 0} (list : List LogItem) (rs : List Record) (k next : Kept D) (r : Result T JournalError) (s : ServesItems told faults hash found synced before list k)
+      → (k.failures ≡ 0 → Ready told hash s.batches rs s.items list k)
+      → ((h : Hash) (history : List Transaction) (batches : List (List Record)) → IsAtRest told h history batches k → AreNext h history batches k.durable rs → OnOk r (IsInBatch told h history batches rs next))
+      → (0 < k.failures → r ≡ Err (Stopped k.failures)) → OnOk r (next.batch.count ≡ length rs)
+  begin_count list rs k next r s can begun stopped = on_sound k.failures r (next.batch.count ≡ length rs)
+      (λ sound. let a = can sound in on-ok (IsInBatch told hash (history_of a.items) s.batches rs next) (next.batch.count ≡ length rs) r (λ m. m.count) (begun hash (history_of a.items) s.batches a.rest a.next)) stopped

@@ -17,11 +17,10 @@ use Rattle.im_table.specs.declared.items.LogItem.{LogItem}
 use Rattle.im_table.specs.declared.view.View.{View}
 use Rattle.im_table.proofs.HistoryLemmas.{history_length}
 use Rattle.im_journal.specs.Faults.{IsReadCounted}
-use Rattle.im_journal.specs.Holding.{AreFirst}
 use Rattle.im_journal.specs.Kept.{Kept}
 use Rattle.im_seated_journal.specs.Seats.{HasItemValue, RoseBy, ServesItems, refs_in, told_failures}
-use Rattle.im_journal.specs.Values.{HasValue, HoldsBatches}
-use Rattle.im_seated_journal.proofs.ServeLemmas.{rose_more}
+use Rattle.im_journal.specs.Values.{HasValue}
+use Rattle.im_seated_journal.proofs.ServeLemmas.{first_of, rose_more}
 
 module _ {A : Type 0} where
   -- what stands at a place of the first elements stands there in the list, and the place is one of theirs
@@ -74,12 +73,7 @@ record_at hash items batches durable number holder txs refs lt at =
     let same : first.0 ≡ second.0 = cc (first.1, second.1) in
     (first.0, first.1, first.2, ap (λ (r : Record). r.refs) same ∙ second.2)
 
-module _ {D : Type 0} (told : D → Option Told) (faults : D → ℕ) (hash : Hash) (found : List LogItem) (synced : Option Told) (before : ℕ) where
-  first_of : (items : List LogItem) (batches : List (List Record)) (k : Kept D) → HoldsBatches told hash (history_of items) batches k → AreFirst hash (history_of items) batches k.durable k.ends
-  first_of items batches k (inl rest) = rest.first
-  first_of items batches k (inr (inl mid)) = mid.1.first
-  first_of items batches k (inr (inr held)) = held.first
-
+module _ {D : Type 0} {told : D → Option Told} {faults : D → ℕ} {hash : Hash} {found : List LogItem} {synced : Option Told} {before : ℕ} where
   -- a value of a durable item is one of the batches
   pub value_held : (mine seen : List LogItem) (durable : ℕ) (k : Kept D) (value : List ℕ) (ref : ValueRef) → (s : ServesItems told faults hash found synced before seen k) → IsPrefix mine seen
       → durable ≤ k.durable → HasItemValue (take durable mine) value ref → HasValue (joined s.batches) value ref
@@ -119,6 +113,12 @@ read_rose before was now old new (Ok x) rose counted = stays before was now old 
 read_rose before was now old new (Err DiskFault) rose counted = rose_more before was now old new rose (counted.rose refl) (omega (arith, counted.more refl))
 read_rose before was now old new (Err (Corrupt want got)) rose counted = stays before was now old new rose (counted.faults (λ f. absurd (cc (f)))) (counted.failures (λ f. absurd (cc (f))))
 read_rose before was now old new (Err Memory) rose counted = stays before was now old new rose (counted.faults (λ f. absurd (cc (f)))) (counted.failures (λ f. absurd (cc (f))))
+
+pub read_calm : {T : Type 0} (before was now old new : ℕ) (r : Result T ValueError) → (old ≡ 0 → was ≡ before) → IsReadCounted was now old new r → new ≡ 0 → now ≡ before
+read_calm before was now old new (Ok x) calm counted none = counted.faults (λ f. absurd (cc (f))) ∙ calm (sym (counted.failures (λ f. absurd (cc (f)))) ∙ none)
+read_calm before was now old new (Err DiskFault) calm counted none = absurd (omega (arith, none, counted.more refl))
+read_calm before was now old new (Err (Corrupt want got)) calm counted none = counted.faults (λ f. absurd (cc (f))) ∙ calm (sym (counted.failures (λ f. absurd (cc (f)))) ∙ none)
+read_calm before was now old new (Err Memory) calm counted none = counted.faults (λ f. absurd (cc (f))) ∙ calm (sym (counted.failures (λ f. absurd (cc (f)))) ∙ none)
 
 -- a count with one more, or none, is no less
 pub one_more : (old new : ℕ) → (new ≡ old) ⊎ (new ≡ old + 1) → old ≤ new

@@ -1,4 +1,5 @@
 ghost use Rattle.std.specs.Prelude.{◌≡◌, ◌<◌, ◌≤◌, ◌⊎◌, ◌+◌, ◌-◌, ℕ, List, [], true, length, take, Err, IfErr, IfOk, IfSome, IsErrOf, IsSome, OnErr, OnOk};
+ghost use mathlib.Core.List.{IsPrefix};
 ghost use Rattle.im_disk.specs.Disk.{seen};
 ghost use Rattle.im_disk.specs.Moments.{Leaves, LeavesNow};
 ghost use Rattle.im_format.specs.Standing.{Stands, StandsFrom};
@@ -7,11 +8,14 @@ ghost use Rattle.im_vlog.specs.Showing.{IsCorrupt, shown};
 ghost use Rattle.im_table.specs.Histories.{history_of, GoesOn};
 ghost use Rattle.im_table.specs.Passes.{IsPassOf, IsKeeper, Later, AddsNothing, AddsFaults, journal_role};
 ghost use Rattle.im_table.specs.Records.{AreRecordsOf};
-ghost use Rattle.im_table.specs.Views.{looked_placed};
+ghost use Rattle.im_table.specs.References.{AreLaid};
+ghost use Rattle.im_table.specs.Views.{left_of, looked_placed, right_of};
+ghost use Rattle.im_table.specs.declared.items.LogItem.{LogItem};
 ghost use Rattle.im_journal.specs.Faults.{IsCounted, IsReadCounted};
 ghost use Rattle.im_journal.specs.Kept.{HasSealed, HasStaged};
 ghost use Rattle.im_journal.specs.Made.{Makes, calls_to_seal, calls_to_settle, calls_to_stage};
 ghost use Rattle.im_journal.specs.Pieces.{pieces_of};
+ghost use Rattle.im_seated_journal.specs.Calls.{MakesBatches};
 ghost use Rattle.im_seated_journal.specs.Seats.{HasItemValue, RoseBy, ServesItems, told_failures};
 ghost use Rattle.im_journal.specs.declared.batches.Step.TheVariants.{Idle, Staging, Staged, Sealed};
 
@@ -23,13 +27,12 @@ use im_journal::errors::JournalError;
 use im_journal::journal::Journal;
 use im_table::law::Law;
 use im_table::pass::Pass;
-use im_table::roles::{journal_role, no_roles};
+use im_table::roles::journal_role;
 use im_table::tip::Tip;
 use im_table::tip_name::TipName;
 use im_vlog::showing::ValueError;
 use std::alloc::Global;
 use std::marker::{Model, PhantomData};
-use std::mem;
 
 /// The journal of a history that threads share, with the pass that has the journal's role: what lies under the
 /// journal's lock. A clause sees the journal: its disk, what is durable, the batch in progress, and how many calls of
@@ -46,8 +49,9 @@ use std::mem;
 ///
 /// `durable` and `failures` are the words durable and failed, and `ServesItems`: what is durable is the front of the pass's
 /// list, and held behind a failed call too; the batch in progress is of the transactions behind it; failures are no more
-/// than the disk has counted since it was opened; and at each moment since then each image stood for a front part of
-/// the pass's list that has what was found.
+/// than the disk has counted since it was opened, and none only where it counted none; the calls that it got since then
+/// are those of batches, one after the other, and of a last one as far as they came; and at each moment since then each
+/// image stood for a front part of the pass's list that has what was found.
 #[derive(Drop)]
 pub struct SeatedJournal<D: Disk, N: TipName> {
     journal: Journal<D>,
@@ -84,19 +88,25 @@ impl<D: Disk, N: TipName> SeatedJournal<D, N> {
     }
 
     /// Hands the journal and the pass back, and with them what the lock has kept: images now and at each moment since
-    /// opening, and the failures that were counted.
+    /// opening, the calls that the disk got since then, which are those of batches of each list that begins with the
+    /// pass's, over the number of value logs by which its values lie, and the failures that were counted: none only where
+    /// the disk counted none.
     pub fn into_parts(self) -> (Journal<D>, Pass)
         ensures journal { result.0 ≡ self }
         ensures pass { IsKeeper N.table journal_role result.1 }
         ensures words { (result.1.view.least.durable ≡ self.durable) × (result.1.view.least.failed ≡ self.failures) }
         ensures within { self.durable ≤ length result.1.view.seen }
+        ensures old { length N.found ≤ self.durable }
         ensures images { LeavesNow (StandsFrom N.digest self.durable (history_of result.1.view.seen)) (D.told self.disk) }
         ensures settled { self.failures ≡ 0 → length result.1.view.seen ≤ self.durable
             → LeavesNow (λ image. Stands N.digest image (history_of result.1.view.seen)) (D.told self.disk) }
         ensures whole { self.failures ≡ 0 → self.batch.step ≡ Idle
             → LeavesNow (λ image. Stands N.digest image (take self.durable (history_of result.1.view.seen))) (D.told self.disk) }
         ensures moments { Leaves (StandsFrom N.digest (length N.found) (history_of result.1.view.seen)) N.synced (D.told self.disk) }
+        ensures calls { (w : ℕ) (list : List LogItem) → IsPrefix result.1.view.seen list → GoesOn N.found list → AreLaid w 1 [] list
+            → MakesBatches N.digest w (length N.found) self.durable (history_of list) N.synced (D.told self.disk) }
         ensures rose { RoseBy N.faults (D.faults self.disk) self.failures }
+        ensures calm { self.failures ≡ 0 → D.faults self.disk ≡ N.faults }
     {
         let SeatedJournal {
             journal,
@@ -124,9 +134,7 @@ impl<D: Disk, N: TipName> SeatedJournal<D, N> {
         ensures words { (pass.new.view.least.durable ≡ self.new.durable) × (pass.new.view.least.failed ≡ self.new.failures) }
         ensures images { LeavesNow (StandsFrom N.digest self.new.durable (history_of pass.new.view.seen)) (D.told self.new.disk) }
     {
-        let stand_in = tip.split(pass, no_roles(), 0);
-        let keeper = mem::replace(&mut self.pass, stand_in);
-        tip.join(pass, keeper);
+        tip.fetch(&mut self.pass, pass);
         self.pass = tip.split(pass, journal_role(), 0);
     }
 
@@ -166,20 +174,20 @@ impl<D: Disk, N: TipName> SeatedJournal<D, N> {
         ensures going { (faults : ℕ) → IsErrOf result (JournalError.Stopped faults) → 0 < self.old.failures }
         ensures device { IsErrOf result JournalError.DiskFault → ⊥ }
     {
-        let stand_in = tip.split(pass, no_roles(), 0);
-        let keeper = mem::replace(&mut self.pass, stand_in);
-        tip.join(pass, keeper);
+        tip.fetch(&mut self.pass, pass);
         tip.load_placed(pass);
         let answer = self.journal.begin(alloc, records);
         self.pass = tip.split(pass, journal_role(), 0);
         answer
     }
 
-    /// Writes the pieces of the batch in progress that are left: one write for each. It takes no memory of its own.
+    /// Writes the pieces of the batch in progress that are left: one write for each, in order, and no other call. It begins
+    /// no batch, whose records it would copy, so the memory that it may want is the disk's.
     ///
     /// # Errors
     ///
-    /// After `Memory` the same call goes on where this one stopped. `DiskFault` is told as one failure more.
+    /// Behind `Memory` the pieces before the one at which it came are written, and the same call goes on there. `DiskFault`
+    /// is told as one failure more.
     pub fn stage<L: Law>(
         &mut self,
         alloc: Global,
@@ -204,12 +212,9 @@ impl<D: Disk, N: TipName> SeatedJournal<D, N> {
         ensures going { (faults : ℕ) → IsErrOf result (JournalError.Stopped faults) → 0 < self.old.failures }
     {
         let before = self.journal.failures();
-        let stand_in = tip.split(pass, no_roles(), 0);
-        let keeper = mem::replace(&mut self.pass, stand_in);
-        tip.join(pass, keeper);
+        tip.fetch(&mut self.pass, pass);
         let answer = self.journal.stage(alloc, &[]);
-        tell_failures(tip, pass, before, self.journal.failures());
-        self.pass = tip.split(pass, journal_role(), 0);
+        put_back(tip, &mut self.pass, pass, before, self.journal.failures());
         answer
     }
 
@@ -239,12 +244,9 @@ impl<D: Disk, N: TipName> SeatedJournal<D, N> {
         ensures going { (faults : ℕ) → IsErrOf result (JournalError.Stopped faults) → 0 < self.old.failures }
     {
         let before = self.journal.failures();
-        let stand_in = tip.split(pass, no_roles(), 0);
-        let keeper = mem::replace(&mut self.pass, stand_in);
-        tip.join(pass, keeper);
+        tip.fetch(&mut self.pass, pass);
         let answer = self.journal.seal();
-        tell_failures(tip, pass, before, self.journal.failures());
-        self.pass = tip.split(pass, journal_role(), 0);
+        put_back(tip, &mut self.pass, pass, before, self.journal.failures());
         answer
     }
 
@@ -274,13 +276,10 @@ impl<D: Disk, N: TipName> SeatedJournal<D, N> {
         ensures going { (faults : ℕ) → IsErrOf result (JournalError.Stopped faults) → 0 < self.old.failures }
     {
         let before = self.journal.failures();
-        let stand_in = tip.split(pass, no_roles(), 0);
-        let keeper = mem::replace(&mut self.pass, stand_in);
-        tip.join(pass, keeper);
+        tip.fetch(&mut self.pass, pass);
         let answer = self.journal.settle();
         tip.store_durable(pass, self.journal.durable());
-        tell_failures(tip, pass, before, self.journal.failures());
-        self.pass = tip.split(pass, journal_role(), 0);
+        put_back(tip, &mut self.pass, pass, before, self.journal.failures());
         answer
     }
 
@@ -318,14 +317,26 @@ impl<D: Disk, N: TipName> SeatedJournal<D, N> {
         ensures counted { IsReadCounted (D.faults self.old.disk) (D.faults self.new.disk) self.old.failures self.new.failures result }
     {
         let before = self.journal.failures();
-        let stand_in = tip.split(pass, no_roles(), 0);
-        let keeper = mem::replace(&mut self.pass, stand_in);
-        tip.join(pass, keeper);
+        tip.fetch(&mut self.pass, pass);
         let answer = self.journal.read_value(alloc, hash, value);
-        tell_failures(tip, pass, before, self.journal.failures());
-        self.pass = tip.split(pass, journal_role(), 0);
+        put_back(tip, &mut self.pass, pass, before, self.journal.failures());
         answer
     }
+}
+
+// Tells what failed, and hands the journal's role back to the pass that lies under the lock: there were `before` failures,
+// and there are `now`.
+fn put_back<L: Law>(tip: &Tip<L>, keeper: &mut Pass, pass: &mut Pass, before: u64, now: u64)
+    requires table { pass.old.table ≡ tip.now.table }
+    requires role { pass.old.view.roles.journal ≡ true }
+    requires weight { 0 < pass.old.view.weight }
+    requires known { before ≡ pass.old.view.least.failed }
+    requires one { (now ≡ before) ⊎ (now ≡ before + 1) }
+    ensures pass { (pass.new.table ≡ pass.old.table) × (pass.new.view ≡ left_of journal_role 0 (told_failures pass.old.view now)) }
+    ensures keeper { (keeper.new.table ≡ pass.old.table) × (keeper.new.view ≡ right_of journal_role 0 (told_failures pass.old.view now)) }
+{
+    tell_failures(tip, pass, before, now);
+    *keeper = tip.split(pass, journal_role(), 0);
 }
 
 // Tells that one call more of the disk has failed, where one has: there were `before`, and there are `now`.

@@ -35,7 +35,7 @@ returns-clause-history g c =
 
 pub returns-clause-meets : goal.returns-clause-meets
 returns-clause-meets g c =
-    let same : c.split.result.view.seen ≡ c.join.new.pass.view.seen = search rules in
+    let same : c.split.result.view.seen ≡ c.fetch.new.pass.view.seen = search rules in
     subst (λ (l : List LogItem). IsLawful g.L.Law.allows c.args.tip.now.logs l) (sym same) c.load_placed-placed.ensures.sees.lawful
 
 pub returns-clause-over : goal.returns-clause-over

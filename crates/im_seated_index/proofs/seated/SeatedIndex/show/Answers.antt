@@ -1,6 +1,4 @@
 use Rattle.std.proofs.Common.{rules, ◌≤◌, List, ap, sym, subst, arith}
-use mathlib.Core.List.{IsPrefix}
-use Rattle.im_table.specs.Known.{KnownPass}
 use Rattle.im_table.specs.declared.items.LogItem.{LogItem}
 use Rattle.im_table.specs.declared.view.View.{View}
 use Rattle.im_seated_index.specs.Seats.{HasTaken}
@@ -10,9 +8,8 @@ use Rattle.im_seated_index.proofs.seated.SeatedIndex.show.Goals as goal
 pub invariant_of-self : goal.invariant_of-self
 invariant_of-self g c =
     let seen : View → List LogItem = λ v. v.seen in
-    let list = c.join.new.pass.view.seen in
-    let begins = subst (λ (p : KnownPass). IsPrefix p.view.seen list) c.replace-keeper.ensures.value c.join.ensures.theirs in
-    let first = taken_front c.self.inside.pass.view.seen list c.self.inside.index begins c.self.invariant.3 in (
+    let list = c.fetch.new.pass.view.seen in
+    let first = taken_front c.self.inside.pass.view.seen list c.self.inside.index c.fetch.ensures.theirs c.self.invariant.3 in (
       search rules,
       search rules,
       search rules,
@@ -22,13 +19,10 @@ invariant_of-self g c =
 pub returns-clause-first : goal.returns-clause-first
 returns-clause-first g c =
     let seen : View → List LogItem = λ v. v.seen in
-    let list = c.join.new.pass.view.seen in
-    let begins = subst (λ (p : KnownPass). IsPrefix p.view.seen list) c.replace-keeper.ensures.value c.join.ensures.theirs in
-    let first = taken_front c.self.inside.pass.view.seen list c.self.inside.index begins c.self.invariant.3 in
+    let list = c.fetch.new.pass.view.seen in
+    let first = taken_front c.self.inside.pass.view.seen list c.self.inside.index c.fetch.ensures.theirs c.self.invariant.3 in
     subst (λ (l : List LogItem). HasTaken l c.self.inside.index) (sym (ap seen c.split.ensures.left.1)) first
 
 pub returns-clause-durable : goal.returns-clause-durable
 returns-clause-durable g c =
-    let known = c.join.new.pass.view.least.durable in
-    let more = subst (λ (p : KnownPass). p.view.least.durable ≤ known) c.replace-keeper.ensures.value c.join.ensures.durable.1 in
-    omega (arith, c.self.invariant.2, more, c.taken.ensures, ap (λ (v : View). v.least.durable) c.split.ensures.left.1)
+    omega (arith, c.self.invariant.2, c.fetch.ensures.durable.1, c.taken.ensures, ap (λ (v : View). v.least.durable) c.split.ensures.left.1)

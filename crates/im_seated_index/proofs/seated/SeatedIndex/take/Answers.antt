@@ -1,7 +1,5 @@
 use Rattle.std.proofs.Common.{rules, ◌≡◌, ℕ, List, Some, slice_get, take, arith, ap, sym, subst, ◌∙◌}
-use mathlib.Core.List.{IsPrefix}
 use Rattle.im_table.specs.Histories.{history_of}
-use Rattle.im_table.specs.Known.{KnownPass}
 use Rattle.im_table.specs.declared.items.LogItem.{LogItem}
 use Rattle.im_table.specs.declared.view.View.{View}
 use Rattle.im_index.specs.Indexed.{Indexed}
@@ -14,7 +12,7 @@ store_indexed-requires-clause-more g c =
     let before = c.self.inside.pass.view.seen in
     let old = c.self.inside.index in
     let one = taken_count before c.args.tx.now old c.take.new.self c.self.invariant.3 (c.in_ok-take.ensures.taken (take old.taken (history_of before)) c.self.invariant.3) in
-    let known : c.join.new.pass.view.least.indexed ≡ old.taken = search rules in
+    let known : c.fetch.new.pass.view.least.indexed ≡ old.taken = search rules in
     omega (arith, known, one, c.taken-taken.ensures)
 
 pub store_indexed-requires-clause-within : goal.store_indexed-requires-clause-within
@@ -28,8 +26,7 @@ store_indexed-requires-clause-within g c =
       c.taken-taken.ensures,
       c.requires.durable,
       ap (λ (i : Indexed). i.taken) c.self.view_is,
-      ap (λ (v : View). v.least.durable) c.split-stand_in.ensures.left.1,
-      c.join.ensures.durable.0,
+      c.fetch.ensures.durable.0,
     )
 
 pub invariant_of-self : goal.invariant_of-self
@@ -45,19 +42,17 @@ invariant_of-self-2 g c =
     let seen : View → List LogItem = λ v. v.seen in
     let before = c.self.inside.pass.view.seen in
     let mine = c.args.pass.now.view.seen in
-    let list = c.join.new.pass.view.seen in
+    let list = c.fetch.new.pass.view.seen in
     let old = c.self.inside.index in
     let new = c.take.new.self in
-    let theirs = subst (λ (p : KnownPass). IsPrefix p.view.seen list) c.replace-keeper.ensures.value c.join.ensures.theirs in
-    let own = subst (λ (l : List LogItem). IsPrefix l list) (ap seen c.split-stand_in.ensures.left.1) c.join.ensures.mine in
     let next = subst (λ (i : Indexed). slice_get (history_of mine) i.taken ≡ Some c.args.tx.now) (sym c.self.view_is) c.requires.next in
-    let more = taken_more before mine list c.args.tx.now old new c.self.invariant.3 theirs own next (c.in_ok-take.ensures.taken (take old.taken (history_of before)) c.self.invariant.3) in
+    let more = taken_more before mine list c.args.tx.now old new c.self.invariant.3 c.fetch.ensures.theirs c.fetch.ensures.mine next (c.in_ok-take.ensures.taken (take old.taken (history_of before)) c.self.invariant.3) in
     let one = taken_count before c.args.tx.now old new c.self.invariant.3 (c.in_ok-take.ensures.taken (take old.taken (history_of before)) c.self.invariant.3) in
     let known : View → ℕ = λ v. v.least.durable in
-    let durable : c.split.result.view.least.durable ≡ c.join.new.pass.view.least.durable = ap known c.split.ensures.right.1 ∙ ap known c.store_indexed.ensures.view in (
+    let durable : c.split.result.view.least.durable ≡ c.fetch.new.pass.view.least.durable = ap known c.split.ensures.right.1 ∙ ap known c.store_indexed.ensures.view in (
       search rules,
       search rules,
-      omega (arith, one, c.requires.durable, ap (λ (i : Indexed). i.taken) c.self.view_is, ap known c.split-stand_in.ensures.left.1, c.join.ensures.durable.0, durable),
+      omega (arith, one, c.requires.durable, ap (λ (i : Indexed). i.taken) c.self.view_is, c.fetch.ensures.durable.0, durable),
       subst (λ (l : List LogItem). HasTaken l new) (sym (ap seen c.split.ensures.right.1 ∙ ap seen c.store_indexed.ensures.view)) more,
     )
 
@@ -74,11 +69,9 @@ returns-clause-first g c =
     let seen : View → List LogItem = λ v. v.seen in
     let before = c.self.inside.pass.view.seen in
     let mine = c.args.pass.now.view.seen in
-    let list = c.join.new.pass.view.seen in
+    let list = c.fetch.new.pass.view.seen in
     let old = c.self.inside.index in
     let new = c.take.new.self in
-    let theirs = subst (λ (p : KnownPass). IsPrefix p.view.seen list) c.replace-keeper.ensures.value c.join.ensures.theirs in
-    let own = subst (λ (l : List LogItem). IsPrefix l list) (ap seen c.split-stand_in.ensures.left.1) c.join.ensures.mine in
     let next = subst (λ (i : Indexed). slice_get (history_of mine) i.taken ≡ Some c.args.tx.now) (sym c.self.view_is) c.requires.next in
-    let more = taken_more before mine list c.args.tx.now old new c.self.invariant.3 theirs own next (c.in_ok-take.ensures.taken (take old.taken (history_of before)) c.self.invariant.3) in
+    let more = taken_more before mine list c.args.tx.now old new c.self.invariant.3 c.fetch.ensures.theirs c.fetch.ensures.mine next (c.in_ok-take.ensures.taken (take old.taken (history_of before)) c.self.invariant.3) in
     subst (λ (l : List LogItem). HasTaken l new) (sym (ap seen c.split.ensures.left.1 ∙ ap seen c.store_indexed.ensures.view)) more
