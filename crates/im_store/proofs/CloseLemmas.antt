@@ -1,6 +1,6 @@
 -- Passes that come together by the holder of all roles.
 use Rattle.std.proofs.Common.{◌≡◌, ◌+◌, ◌++◌, true, [], ◌∷◌, ◌∙◌, ℕ, suc, List, length, refl, ap, subst, arith}
-use Rattle.std.specs.List.{All}
+use Rattle.std.specs.List.{All, sum_by}
 use Rattle.im_table.specs.Known.{KnownPass}
 use Rattle.im_table.specs.Passes.{book_role, index_role, journal_role, tree_role}
 use Rattle.im_table.specs.Views.{chosen, either_of, picked, view_joined}
@@ -15,6 +15,11 @@ nil_of (x ∷ xs) e = absurd (omega (arith, e))
 pub all_middle : (P : KnownPass → Type 0) (xs ys : List KnownPass) (x : KnownPass) → All P (xs ++ x ∷ ys) → P x
 all_middle P [] ys x all = all 0 x (omega arith)
 all_middle P (y ∷ xs) ys x all = all_middle P xs ys x (λ k d lt. all (suc k) d (omega (arith, lt)))
+
+-- of nothing each there is nothing in all
+pub sum_none : (f : KnownPass → ℕ) (xs : List KnownPass) → All (λ p. f p ≡ 0) xs → sum_by f xs ≡ 0
+sum_none f [] all = refl
+sum_none f (x ∷ xs) all = omega (arith, all 0 x (omega arith), sum_none f xs (λ k d lt. all (suc k) d (omega (arith, lt))))
 
 -- what holds of each behind an equal value
 pub all_same : {X : Type 0} (P : X → KnownPass → Type 0) (a b : X) (ps : List KnownPass) → a ≡ b → All (λ p. P a p) ps → All (λ p. P b p) ps
@@ -82,6 +87,11 @@ module _ (k w i t a b d : KnownPass) (rk : k.view.roles ≡ book_role) (rw : w.v
   pub gathered_leaves : k.view.leaves ≡ 0 → w.view.leaves ≡ 0 → i.view.leaves ≡ 0 → t.view.leaves ≡ 0 → d.view.leaves ≡ 0
   gathered_leaves ek ew ei et =
       let e : d.view.leaves ≡ ((k.view.leaves + w.view.leaves) + i.view.leaves) + t.view.leaves = ap (λ (v : View). v.leaves) gathered in
+      omega (arith, e, ek, ew, ei, et)
+
+  pub gathered_faults : k.view.faults ≡ 0 → w.view.faults ≡ 0 → i.view.faults ≡ 0 → t.view.faults ≡ 0 → d.view.faults ≡ 0
+  gathered_faults ek ew ei et =
+      let e : d.view.faults ≡ ((k.view.faults + w.view.faults) + i.view.faults) + t.view.faults = ap (λ (v : View). v.faults) gathered in
       omega (arith, e, ek, ew, ei, et)
 
   pub gathered_own : k.view.own ≡ [] → w.view.own ≡ [] → i.view.own ≡ [] → t.view.own ≡ [] → d.view.own ≡ []

@@ -20,6 +20,10 @@ weight_in p = p.view.weight
 abbrev pub leaves_linked : KnownPass → ℕ
 leaves_linked p = p.view.leaves
 
+-- how many failures a pass told
+abbrev pub failures_told : KnownPass → ℕ
+failures_told p = p.view.faults
+
 -- how often a number stands among a pass's own
 abbrev pub own_count : ℕ → KnownPass → ℕ
 own_count k p = times k p.view.own
@@ -36,7 +40,7 @@ AreAll passes = sum_by weight_in passes ≡ 1048576
 -- of it, which holds what any of the passes knows to be durable; and at each moment since the disk was opened each image stood for one
 -- not shorter than what was found. The disk has failed since at least as often as any of them knows. Where none of its calls failed, and
 -- all of the list is durable, each image stands for the whole of it. Where the passes have the whole weight, their own numbers are those of
--- all that was not found, each once, and the tree has grown by their leaves. None of them knows of more leaves than the tree has. The clock
+-- all that was not found, each once, the tree has grown by their leaves, and where none of them told a failure the disk counted none. None of them knows of more leaves than the tree has. The clock
 -- gave the times of what was placed, in order.
 pub record ClosesStore {D : Type 0} (told : D → Option Told) (faults : D → ℕ) (hash : Hash) (found : List LogItem) (synced : Option Told) (before : ℕ)
     (time : Option ℤ) (given : Option (List ℤ)) (passes : List KnownPass) (disk : D) (constant : Option ℤ) (now : Option (List ℤ)) : Type 0 where
@@ -52,6 +56,7 @@ pub record ClosesStore {D : Type 0} (told : D → Option Told) (faults : D → �
   pub failures : ℕ
   pub rose : RoseBy before (faults disk) failures
   pub failed : All (λ p. p.view.least.failed ≤ failures) passes
+  pub calm : AreAll passes → All (λ p. p.view.faults ≡ 0) passes → faults disk ≡ before
   pub whole : failures ≡ 0 → durable ≡ length items → LeavesNow (λ image. Stands hash image (history_of items)) (told disk)
   pub owned : AreAll passes → (k : ℕ) → sum_by (own_count k) passes ≡ times k (placed_by items)
   pub linked : ℕ

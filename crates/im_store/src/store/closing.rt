@@ -4,7 +4,7 @@ ghost use Rattle.std.specs.List.{All, sum_by};
 ghost use mathlib.Core.List.{IsPrefix};
 ghost use Rattle.im_table.specs.Passes.{IsPassOf};
 ghost use Rattle.im_table.specs.Views.{times};
-ghost use Rattle.im_store.specs.Closing.{HoldsAll, ClosesStore, leaves_linked, own_count, weight_in};
+ghost use Rattle.im_store.specs.Closing.{HoldsAll, ClosesStore, failures_told, leaves_linked, own_count, weight_in};
 
 use crate::store::Store;
 use im_digest::Hash32;
@@ -61,6 +61,7 @@ fn take_in<L: Law>(tip: &Tip<L>, keeper: &mut Pass, passes: Vec<Pass>)
     ensures linked { All (λ p. p.view.least.linked ≤ keeper.new.view.least.linked) passes.items }
     ensures weight { keeper.new.view.weight ≡ keeper.old.view.weight + sum_by weight_in passes.items }
     ensures leaves { keeper.new.view.leaves ≡ keeper.old.view.leaves + sum_by leaves_linked passes.items }
+    ensures faults { keeper.new.view.faults ≡ keeper.old.view.faults + sum_by failures_told passes.items }
     ensures own { (k : ℕ) → times k keeper.new.view.own ≡ times k keeper.old.view.own + sum_by (own_count k) passes.items }
 {
     for pass in passes {

@@ -13,8 +13,8 @@ use Rattle.im_table.specs.declared.roles.Roles.{Roles}
 use Rattle.im_table.specs.declared.view.Least.{Least}
 use Rattle.im_table.proofs.FrontLemmas.{prefix_length, prefix_trans}
 use Rattle.im_seated_journal.proofs.ServeLemmas.{stands_more}
-use Rattle.im_store.specs.Closing.{own_count, AreAll, ClosesStore}
-use Rattle.im_store.proofs.CloseLemmas.{gathered_durable, gathered_failed, gathered_leaves, gathered_linked, gathered_own, gathered_roles, gathered_seen, gathered_weight}
+use Rattle.im_store.specs.Closing.{failures_told, own_count, AreAll, ClosesStore}
+use Rattle.im_store.proofs.CloseLemmas.{gathered_durable, gathered_failed, gathered_faults, gathered_leaves, gathered_linked, gathered_own, gathered_roles, gathered_seen, gathered_weight, sum_none}
 use Rattle.im_store.proofs.MomentLemmas.{front_now, whole_now}
 use Rattle.im_store.proofs.store.Store.close.Goals as goal
 
@@ -94,6 +94,7 @@ returns g c =
     ap (λ (l : Least). l.linked) c.take_in.ensures.same.1 ∙ gathered_linked k w i t a b d book.pass.1 journal.pass.1 index.pass.1 tree.pass.1 va vb vd ∙ tree.size.0 in
     let none : d.view.weight ≡ 0 = gathered_weight k w i t a b d book.pass.1 journal.pass.1 index.pass.1 tree.pass.1 va vb vd book.pass.2 journal.pass.2 index.pass.2 tree.pass.2 in
     let bare : d.view.leaves ≡ 0 = gathered_leaves k w i t a b d book.pass.1 journal.pass.1 index.pass.1 tree.pass.1 va vb vd book.pass.4 journal.pass.4 index.pass.4 tree.pass.4 in
+    let quiet : d.view.faults ≡ 0 = gathered_faults k w i t a b d book.pass.1 journal.pass.1 index.pass.1 tree.pass.1 va vb vd book.pass.5 journal.pass.5 index.pass.5 tree.pass.5 in
     let own = gathered_own k w i t a b d book.pass.1 journal.pass.1 index.pass.1 tree.pass.1 va vb vd book.pass.3 journal.pass.3 index.pass.3 tree.pass.3 in
     let whole : AreAll c.args.passes.items → last.view.weight ≡ 1048576 = λ all. omega (arith, c.take_in.ensures.weight, none, all) in
     let disk : c.into_disk.result ≡ kept.disk = c.into_disk.ensures ∙ ap (λ (j : Kept g.row.D.Denot). j.disk) journal.journal in
@@ -112,6 +113,8 @@ returns g c =
       failures = kept.failures;
       rose = journal.rose;
       failed = subst (λ (n : ℕ). All (λ (p : KnownPass). p.view.least.failed ≤ n) c.args.passes.items) failed c.take_in.ensures.failed;
+      calm = λ all none. (let told : last.view.faults ≡ last.view.least.failed = c.close.ensures.faults (whole all) (ap (λ (r : Roles). r.journal) c.take_in.ensures.keeper.1) in
+          journal.calm (omega (arith, told, failed, c.take_in.ensures.faults, quiet, sum_none failures_told c.args.passes.items none)));
       whole = λ sound all. (let le = prefix_length w.view.seen items writer in
           whole_now hash w.view.seen items (told kept.disk) writer (omega (arith, all, journal.within)) (journal.settled sound (omega (arith, le, all))));
       owned = λ all n. (let sums : sum_by (own_count n) c.args.passes.items ≡ times n last.view.own = omega (arith, c.take_in.ensures.own n, ap (λ (l : List ℕ). times n l) own) in

@@ -11,7 +11,7 @@ use Rattle.im_table.specs.declared.items.LogItem.{LogItem}
 use Rattle.im_table.specs.declared.view.Least.{Least}
 use Rattle.im_table.specs.declared.view.View.{View}
 use Rattle.im_table.proofs.NumberLemmas.{times_append}
-use Rattle.im_store.specs.Closing.{leaves_linked, own_count, weight_in}
+use Rattle.im_store.specs.Closing.{failures_told, leaves_linked, own_count, weight_in}
 use Rattle.im_store.proofs.CloseLemmas.{all_middle, all_same, held_least, held_roles, held_seen, nil_of}
 use Rattle.im_store.proofs.store.closing.take_in.Goals as goal
 
@@ -54,6 +54,7 @@ loop-pass-preserved g c =
           (all_same (λ (n : Least) (p : KnownPass). p.view.least.linked ≤ n.linked) old.view.least new.view.least c.loop-pass.yielded (sym least) i.linked) j.linked.1;
       weight = (let e = ap (λ (v : View). v.weight) j.view in omega (arith, e, i.weight, sum_by_push weight_in c.loop-pass.yielded x));
       leaves = (let e = ap (λ (v : View). v.leaves) j.view in omega (arith, e, i.leaves, sum_by_push leaves_linked c.loop-pass.yielded x));
+      faults = (let e = ap (λ (v : View). v.faults) j.view in omega (arith, e, i.faults, sum_by_push failures_told c.loop-pass.yielded x));
       own = λ k. (let e = ap (λ (v : View). times k v.own) j.view in omega (arith, e, times_append k old.view.own x.view.own, i.own k, sum_by_push (own_count k) c.loop-pass.yielded x));
     }
 
@@ -98,6 +99,13 @@ returns-clause-leaves g c =
     let none : length rs.items ≡ 0 = search rules in
     let e : c.loop-pass.yielded ≡ c.args.passes.items = sym (c.loop-pass.invariant.all ∙ ap (λ (l : List KnownPass). c.loop-pass.yielded ++ l) (nil_of rs.items none) ∙ append-nil c.loop-pass.yielded) in
     c.loop-pass.invariant.leaves ∙ ap (λ (l : List KnownPass). c.args.keeper.now.view.leaves + sum_by leaves_linked l) e
+
+pub returns-clause-faults : goal.returns-clause-faults
+returns-clause-faults g c =
+    let rs = c.loop-pass.pass-iterator.rest in
+    let none : length rs.items ≡ 0 = search rules in
+    let e : c.loop-pass.yielded ≡ c.args.passes.items = sym (c.loop-pass.invariant.all ∙ ap (λ (l : List KnownPass). c.loop-pass.yielded ++ l) (nil_of rs.items none) ∙ append-nil c.loop-pass.yielded) in
+    c.loop-pass.invariant.faults ∙ ap (λ (l : List KnownPass). c.args.keeper.now.view.faults + sum_by failures_told l) e
 
 pub returns-clause-own : goal.returns-clause-own
 returns-clause-own g c k =

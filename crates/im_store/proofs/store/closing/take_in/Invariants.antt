@@ -2,7 +2,7 @@ use Rattle.std.proofs.Common.{◌≡◌, ◌≤◌, ◌+◌, ◌++◌, ℕ}
 use Rattle.std.specs.List.{All, sum_by}
 use mathlib.Core.List.{IsPrefix}
 use Rattle.im_table.specs.Views.{times}
-use Rattle.im_store.specs.Closing.{leaves_linked, own_count, weight_in, HoldsAll}
+use Rattle.im_store.specs.Closing.{failures_told, leaves_linked, own_count, weight_in, HoldsAll}
 use Rattle.im_store.proofs.store.closing.take_in.Given as goal
 
 abbrev pub invariant-loop-pass : goal.invariant-loop-pass
@@ -18,5 +18,6 @@ invariant-loop-pass g l = record {
   linked : All (λ p. p.view.least.linked ≤ l.keeper.view.least.linked) l.yielded;
   weight : l.keeper.view.weight ≡ l.initial.keeper.view.weight + sum_by weight_in l.yielded;
   leaves : l.keeper.view.leaves ≡ l.initial.keeper.view.leaves + sum_by leaves_linked l.yielded;
+  faults : l.keeper.view.faults ≡ l.initial.keeper.view.faults + sum_by failures_told l.yielded;
   own : (k : ℕ) → times k l.keeper.view.own ≡ times k l.initial.keeper.view.own + sum_by (own_count k) l.yielded;
 }
