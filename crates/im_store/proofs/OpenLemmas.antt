@@ -1,21 +1,19 @@
 -- What lies under the locks as a store is opened.
-use Rattle.std.proofs.Common.{◌≡◌, ◌+◌, ◌++◌, ◌∷◌, [], ◌∙◌, ◌≤◌, ◌<◌, ℕ, zero, suc, ℤ, List, length, map, take, true, Option, Some, refl, ap, sym, subst, arith, inl}
+use Rattle.std.proofs.Common.{◌≡◌, ◌+◌, ◌++◌, ◌∷◌, [], ◌∙◌, ◌≤◌, ◌<◌, ℕ, zero, suc, ℤ, List, length, map, take, true, Option, Some, refl, ap, sym, subst, arith}
 use Rattle.std.proofs.Math.Seq.{drop-length, take-length}
 use Rattle.std.proofs.lemmas.List.{append-nil, length-map}
 use Rattle.std.specs.List.{All}
 use Rattle.im_digest.specs.Digests.{Hash}
-use Rattle.im_disk.specs.Disk.{after, seen, Files, Images, Told}
-use Rattle.im_disk.specs.Moments.{Leaves, LeavesNow}
+use Rattle.im_disk.specs.Disk.{after, seen, Told}
+use Rattle.im_disk.specs.Moments.{Leaves}
 use Rattle.im_disk.specs.declared.calls.Call.TheVariants.{Synced}
-use Rattle.im_disk.proofs.Leaving.{if_told, leaves_nothing}
 use Rattle.im_format.specs.Batches.{joined}
 use Rattle.im_format.specs.Places.{refs_of}
 use Rattle.im_format.specs.Records.{AreRecords}
-use Rattle.im_format.specs.Standing.{Stands, StandsFrom}
+use Rattle.im_format.specs.Standing.{Stands}
 use Rattle.im_format.specs.declared.records.Record.{Record}
 use Rattle.im_format.specs.declared.references.ValueRef.{ValueRef}
 use Rattle.im_journal.specs.Kept.{IsAtRest, Kept}
-use Rattle.im_journal.proofs.Mids.{rest_stands}
 use Rattle.im_journal.proofs.Rooms.{ends_behind, room_behind}
 use Rattle.im_levels.specs.Leveled.{IsLeveled, Stored}
 use Rattle.im_linker.specs.Trees.{IsTreeOf}
@@ -33,10 +31,10 @@ use Rattle.im_index.specs.Indexed.{Indexed, IsIndexOf}
 use Rattle.im_seated_book.specs.Seats.{HasTimed, HaveReferences, HoldsItems}
 use Rattle.im_seated_index.specs.Seats.{HasTaken}
 use Rattle.im_seated_journal.specs.Seats.{refs_in, ServesItems}
+use Rattle.im_seated_journal.proofs.StartLemmas.{rests_serve}
 use Rattle.im_table.specs.Histories.{history_of, GoesOn}
 use Rattle.im_table.specs.References.{references_of}
 use Rattle.im_table.specs.declared.items.LogItem.{LogItem}
-use Rattle.im_table.proofs.FrontLemmas.{prefix_self}
 use Rattle.im_table.proofs.HistoryLemmas.{history_length}
 use Rattle.im_vlog.specs.Ends.{AreEnds, HaveRoom}
 use Rattle.im_book.specs.Booked.{last_bl, last_bl_or, Booked, IsBook}
@@ -74,34 +72,15 @@ goes_none items = record { rest = []; begins = sym (append-nil items); fresh = �
 
 module _ {D : Type 0} (told : D → Option Told) (faults : D → ℕ) (hash : Hash) (rs : List Record) (batches : List (List Record)) (k : Kept D)
     (joined_is : joined batches ≡ rs) (rest : IsAtRest told hash (history_of (items_of rs)) batches k) (all : k.durable ≡ length rs) where
-  -- each image stands for what was found
-  images : LeavesNow (StandsFrom hash (length (items_of rs)) (history_of (items_of rs))) (told k.disk)
-  images =
-      let history = history_of (items_of rs) in
-      let count : length history ≡ k.durable = ap (λ (l : List Transaction). length l) (found_history rs) ∙ length-map rs (λ (r : Record). r.tx) ∙ sym all in
-      let whole : k.durable ≡ length (items_of rs) = omega (arith, all, found_count rs) in
-      if_told (λ t. (image : Files) → Images t image → Stands hash image (take k.durable history)) (λ t. (image : Files) → Images t image → StandsFrom hash (length (items_of rs)) history image)
-      (λ t each image left. record { count = k.durable; no_fewer = omega (arith, whole); no_more = omega (arith, count); stands = each image left })
-      (told k.disk) (rest_stands told hash history batches k rest)
-
   -- the journal serves what was found
   pub opened_serves : (before : ℕ) (synced : Option Told) → k.failures ≡ 0 → faults k.disk ≡ before → told k.disk ≡ synced
       → ServesItems told faults hash (items_of rs) synced before (items_of rs) k
-  opened_serves before synced sound same now = record {
-    items = items_of rs;
-    begins = prefix_self (items_of rs);
-    batches = batches;
-    holds = inl rest;
-    refs_are = (
-        let count : length (refs_in (items_of rs)) ≡ k.durable = ap (λ (l : List (List ValueRef)). length l) (found_refs rs) ∙ length-map rs (λ (r : Record). r.refs) ∙ sym all in
-        ap (λ (l : List Record). map (λ (r : Record). r.refs) l) joined_is ∙ sym (found_refs rs) ∙ sym (take-length (refs_in (items_of rs)))
-        ∙ ap (λ (n : ℕ). take n (refs_in (items_of rs))) count);
-    going = λ none. inl rest;
-    old = omega (arith, found_count rs, all);
-    rose = inl (omega (arith, sound, same));
-    moments = subst (λ (o : Option Told). Leaves (StandsFrom hash (length (items_of rs)) (history_of (items_of rs))) o (told k.disk)) now
-        (leaves_nothing (StandsFrom hash (length (items_of rs)) (history_of (items_of rs))) (told k.disk), images);
-  }
+  opened_serves before synced sound same now =
+      let items = items_of rs in
+      let refs : map (λ (r : Record). r.refs) (joined batches) ≡ refs_in items = ap (λ (l : List Record). map (λ (r : Record). r.refs) l) joined_is ∙ sym (found_refs rs) in
+      subst (λ (n : ℕ). ServesItems told faults hash items synced n items k) same
+      (subst (λ (o : Option Told). ServesItems told faults hash items o (faults k.disk) items k) now
+      (rests_serve told faults hash items batches k rest refs (all ∙ sym (found_count rs)) sound))
 
   -- the book holds it, and the value logs end behind it
   pub opened_holds : (book : Booked) (refs : List (List ValueRef)) → book.transactions ≡ history_of (items_of rs) → IsBook hash book → refs ≡ map (λ (x : LogItem). x.refs) (items_of rs)
