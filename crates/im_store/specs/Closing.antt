@@ -8,6 +8,7 @@ use Rattle.im_disk.specs.Moments.{Leaves, LeavesNow}
 use Rattle.im_format.specs.Standing.{Stands, StandsFrom}
 use Rattle.im_model.specs.History.{IsHistory}
 use Rattle.im_seated_book.specs.Seats.{HasTimed}
+use Rattle.im_seated_journal.specs.Calls.{MakesBatches}
 use Rattle.im_seated_journal.specs.Seats.{RoseBy}
 use Rattle.im_table.specs.Histories.{history_of, GoesOn}
 use Rattle.im_table.specs.Known.{KnownPass, TableId}
@@ -38,11 +39,12 @@ AreAll passes = sum_by weight_in passes ≡ 1048576
 
 -- There is one list. It begins with what was found, and with the list of each pass that was handed in. Each image stands for a front part
 -- of it, which holds what any of the passes knows to be durable; and at each moment since the disk was opened each image stood for one
--- not shorter than what was found. The disk has failed since at least as often as any of them knows. Where none of its calls failed, and
--- all of the list is durable, each image stands for the whole of it. Where the passes have the whole weight, their own numbers are those of
--- all that was not found, each once, the tree has grown by their leaves, and where none of them told a failure the disk counted none. None of them knows of more leaves than the tree has. The clock
--- gave the times of what was placed, in order.
-pub record ClosesStore {D : Type 0} (told : D → Option Told) (faults : D → ℕ) (hash : Hash) (found : List LogItem) (synced : Option Told) (before : ℕ)
+-- not shorter than what was found. The calls that the disk got since then are those of batches of the list, one after the other, and of a
+-- last one as far as they came. The disk has failed since at least as often as any of the passes knows. Where none of its calls failed, and
+-- all of the list is durable, each image stands for the whole of it. None of the passes knows of more leaves than the tree has. Where they
+-- have the whole weight, their own numbers are those of all that was not found, each once; the tree has grown by their leaves; and where
+-- none of them told a failure, the disk counted none. The clock gave the times of what was placed, in order.
+pub record ClosesStore {D : Type 0} (told : D → Option Told) (faults : D → ℕ) (hash : Hash) (logs : ℕ) (found : List LogItem) (synced : Option Told) (before : ℕ)
     (time : Option ℤ) (given : Option (List ℤ)) (passes : List KnownPass) (disk : D) (constant : Option ℤ) (now : Option (List ℤ)) : Type 0 where
   pub items : List LogItem
   pub goes_on : GoesOn found items
@@ -53,6 +55,7 @@ pub record ClosesStore {D : Type 0} (told : D → Option Told) (faults : D → �
   pub known : All (λ p. p.view.least.durable ≤ durable) passes
   pub images : LeavesNow (StandsFrom hash durable (history_of items)) (told disk)
   pub moments : Leaves (StandsFrom hash (length found) (history_of items)) synced (told disk)
+  pub calls : MakesBatches hash logs (length found) durable (history_of items) synced (told disk)
   pub failures : ℕ
   pub rose : RoseBy before (faults disk) failures
   pub failed : All (λ p. p.view.least.failed ≤ failures) passes

@@ -71,7 +71,7 @@ pub fn an_admitted_commit_is_not_refused()
 /// found.
 pub fn moments_from_opening_to_closing<D: Disk>()
     ensures { (n : Naming) (t : Told) (passes : List KnownPass) (disk : D)
-        (constant : Option ℤ) (now : Option (List ℤ)) (closed : ClosesStore D.told D.faults n.digest n.found n.synced n.faults n.time n.given passes disk constant now)
+        (constant : Option ℤ) (now : Option (List ℤ)) (closed : ClosesStore D.told D.faults n.digest n.logs n.found n.synced n.faults n.time n.given passes disk constant now)
         → OpensAs (Some t) n.faults n
         → Leaves (StandsFrom n.digest (length n.found) (history_of closed.items)) (Some (after Synced t)) (D.told disk) }
 {}
