@@ -58,10 +58,10 @@ fn is_same(one: &Table, other: &Table) -> bool {
         && one.key.as_slice() == other.key.as_slice()
 }
 
-// Whether a table has this text, and is read back from it.
+// Whether this table is read from a text, and what was read has that text.
 fn is_kept(alloc: Global, table: &Table, text: &[u8]) -> Result<bool, Fail> {
-    let written = table_text(alloc, table)?;
     let read = read_table(alloc, b"t", text)?;
+    let written = table_text(alloc, &read)?;
     let kept = written.as_slice() == text && is_same(&read, table);
     drop(read);
     Ok(kept)
