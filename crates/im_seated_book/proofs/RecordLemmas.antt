@@ -1,8 +1,9 @@
 -- The records of items, copied.
 use Rattle.std.proofs.Common.{◌≡◌, ℕ, zero, suc, ◌+◌, ◌-◌, ◌<◌, ◌≤◌, ◌∙◌, List, [], ◌∷◌, ◌++◌, length, map, take, drop, get_or, refl, sym, ap, subst, arith, if◌then◌else◌, Result, Ok, Err}
 use Rattle.std.specs.Prelude.{IfOk}
-use Rattle.std.proofs.lemmas.List.{drop_more, length-drop, length-map, length-take-le, map-append, take_more}
+use Rattle.std.proofs.lemmas.List.{drop_more, length-map, map-append, take_more}
 use Rattle.im_digest.specs.Digests.{Hash}
+use Rattle.im_index.proofs.BlockLemmas.{part-length}
 use Rattle.im_format.specs.Records.{AreRecords, AreReferences}
 use Rattle.im_format.specs.declared.records.Record.{Record}
 use Rattle.im_format.specs.declared.references.ValueRef.{ValueRef}
@@ -20,10 +21,6 @@ pub mapped_more : {A B : Type 0} (f : A → B) (xs ys : List A) (x : A) (zs : Li
 mapped_more {A} {B} f xs ys x zs d k grown is within next =
     ap (λ (l : List A). map f l) grown ∙ map-append f xs (x ∷ []) ∙ ap (λ (l : List B). l ++ f x ∷ []) is
     ∙ ap (λ (y : B). take k zs ++ y ∷ []) next ∙ sym (take_more zs k d within)
-
--- a part of a list has as many elements as were asked for
-pub part_length : {A : Type 0} (xs : List A) (n m : ℕ) → n + m ≤ length xs → length (take m (drop n xs)) ≡ m
-part_length xs n m le = length-take-le m (drop n xs) (omega (arith, le, length-drop n xs))
 
 -- the references of the items behind the first
 referred_drop : (hash : Hash) (m n : ℕ) (items : List LogItem) → HaveReferences hash m items → HaveReferences hash (m + n) (drop n items)
@@ -60,8 +57,7 @@ pub records_are : (hash : Hash) (items : List LogItem) (behind count : ℕ) (rs 
     → map (λ (r : Record). r.alh) rs ≡ take count (drop behind (alhs_of hash (history_of items))) → (length rs ≡ count) × AreRecordsOf hash items behind rs
 records_are hash items behind count rs referred within txs refs alhs =
     let history = history_of items in
-    let long : count ≤ length (drop behind history) = omega (arith, within, length-drop behind history, history_length items) in
-    let many : length rs ≡ count = sym (length-map rs (λ (r : Record). r.tx)) ∙ ap (λ (l : List Transaction). length l) txs ∙ length-take-le count (drop behind history) long in
+    let many : length rs ≡ count = sym (length-map rs (λ (r : Record). r.tx)) ∙ ap (λ (l : List Transaction). length l) txs ∙ part-length history behind count (omega (arith, within, history_length items)) in
     let tx_rows = txs ∙ ap (λ (n : ℕ). take n (drop behind history)) (sym many) in
     let ref_rows = refs ∙ ap (λ (n : ℕ). take n (drop behind (map (λ (x : LogItem). x.refs) items))) (sym many) in
     let alh_rows = alhs ∙ ap (λ (n : ℕ). take n (drop behind (alhs_of hash history))) (sym many) in

@@ -9,7 +9,8 @@ use Rattle.im_table.specs.Histories.{history_of}
 use Rattle.im_table.specs.Records.{AreRecordsOf}
 use Rattle.im_table.specs.declared.items.LogItem.{LogItem}
 use Rattle.im_table.proofs.HistoryLemmas.{history_length}
-use Rattle.im_seated_book.proofs.RecordLemmas.{ok_then, part_length, records_are}
+use Rattle.im_index.proofs.BlockLemmas.{part-length}
+use Rattle.im_seated_book.proofs.RecordLemmas.{ok_then, records_are}
 use Rattle.im_seated_book.proofs.seated.SeatedBook.records.Goals as goal
 
 pub part-transactions-requires : goal.part-transactions-requires
@@ -42,8 +43,8 @@ records_of-requires-clause-alhs g c =
     let alhs = c.alhs.ensures ∙ h.is_book.alhs ∙ ap (λ (l : List Transaction). alhs_of hash l) h.transactions in
     let most : c.args.behind + c.args.count ≤ length c.alhs.result.now = omega (arith, within, ap (λ (l : List (List ℕ)). length l) alhs, length-alhs_of hash (history_of items), history_length items) in
     let few : c.args.behind + c.args.count ≤ length c.transactions.result.now = omega (arith, within, ap (λ (l : List Transaction). length l) (c.transactions.ensures ∙ h.transactions), history_length items) in
-    ap (λ (l : List (List ℕ)). length l) c.part-alhs.ensures ∙ part_length c.alhs.result.now c.args.behind c.args.count most
-    ∙ sym (ap (λ (l : List Transaction). length l) c.part-transactions.ensures ∙ part_length c.transactions.result.now c.args.behind c.args.count few)
+    ap (λ (l : List (List ℕ)). length l) c.part-alhs.ensures ∙ part-length c.alhs.result.now c.args.behind c.args.count most
+    ∙ sym (ap (λ (l : List Transaction). length l) c.part-transactions.ensures ∙ part-length c.transactions.result.now c.args.behind c.args.count few)
 
 pub returns-clause-count : goal.returns-clause-count
 returns-clause-count g c =
