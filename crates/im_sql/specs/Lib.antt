@@ -1,4 +1,0 @@
-pub mod Writing
-pub mod Working
-pub mod Entries
-pub mod Ranges
