@@ -1,4 +1,5 @@
-use Rattle.std.proofs.Common.{Err, ap, inr, refl}
+use Rattle.std.proofs.Common.{◌≡◌, Err, ap, inr, refl, subst}
+use Rattle.im_verify.specs.Judged.{StopsHeld}
 use Rattle.im_verify.specs.declared.lines.LineEnd.TheVariants as line
 use Rattle.im_verify.proofs.KeepLemmas.{stops_held, takes_held}
 use Rattle.im_verify.proofs.RunLemmas.{breaks-at, breaks-into, breaks-off, verifies}
@@ -49,8 +50,8 @@ returns-in-Err-KeeperFault-clause-fault g c = λ source is _. inr (
     is refl (takes_held (g.H.Hash32.digest c.args.hash.now) held c.args.lines.now c.args.lines.now took.0 c.requires refl took.2)
     ((rw c.in-Ok.ensures.hash at (c.in-Err-KeeperFault.ensures.accepted (ap Err c.in-Err-KeeperFault.field-0-is))) took.0 took.1))
 
-pub returns-in-Err-Memory-take_lines-clause-off : goal.returns-in-Err-Memory-take_lines-clause-off
-returns-in-Err-Memory-take_lines-clause-off g c = λ source is _. inr (
+pub returns-clause-off : goal.returns-clause-off
+returns-clause-off g c = λ source is _. inr (
     let held = g.P.Keeper.kept c.args.keeper.now in
     let took = c.in-Ok.ensures.ok in
     breaks-off (g.H.Hash32.digest c.args.hash.now) source held held c.args.stream.now took.0
@@ -60,5 +61,7 @@ returns-in-Err-Memory-take_lines-clause-off g c = λ source is _. inr (
 
 pub returns-in-Err-Line-clause-kept : goal.returns-in-Err-Line-clause-kept
 returns-in-Err-Line-clause-kept g c = λ k e.
-    stops_held (g.H.Hash32.digest c.args.hash.now) (g.P.Keeper.kept c.args.keeper.now) c.args.lines.now c.args.lines.now k c.requires refl
-    (c.in-Err-Line.ensures.line k (ap Err c.in-Err-Line.field-0-is))
+    let same : c.in-Err-Line.line ≡ k = cc in
+    subst (StopsHeld (g.H.Hash32.digest c.args.hash.now) (g.P.Keeper.kept c.args.keeper.now)) same
+    (stops_held (g.H.Hash32.digest c.args.hash.now) (g.P.Keeper.kept c.args.keeper.now) c.args.lines.now c.args.lines.now c.in-Err-Line.line c.requires refl
+    (c.in-Err-Line.ensures.line c.in-Err-Line.line (ap Err c.in-Err-Line.field-0-is)))
