@@ -24,31 +24,31 @@ loop-halvings-preserved g c =
     let p = c.begin_part in
     record {
       follows = follows_then 0 c.args.pass.now c.loop-halvings.pass p.new.pass i.follows p.ensures.follows;
-      same = c.in-Err.ensures.err ∙ i.same;
+      same = c.in-Err-Memory.ensures.err ∙ i.same;
       failed = p.ensures.failed ∙ i.failed;
       durable = p.ensures.durable ∙ i.durable;
       placed = λ some. omega (arith, p.ensures.placed, prefix_length c.args.pass.now.view.seen c.loop-halvings.pass.view.seen i.follows.later.seen);
     }
 
 -- a batch is begun
-pub returns-clause-follows : goal.returns-clause-follows
-returns-clause-follows g c =
+pub returns-in_default-clause-follows : goal.returns-in_default-clause-follows
+returns-in_default-clause-follows g c =
     follows_then 0 c.args.pass.now c.loop-halvings.pass c.begin_part.new.pass c.loop-halvings.invariant.follows c.begin_part.ensures.follows
 
-pub returns-clause-failed : goal.returns-clause-failed
-returns-clause-failed g c = c.begin_part.ensures.failed ∙ c.loop-halvings.invariant.failed
+pub returns-in_default-clause-failed : goal.returns-in_default-clause-failed
+returns-in_default-clause-failed g c = c.begin_part.ensures.failed ∙ c.loop-halvings.invariant.failed
 
-pub returns-clause-durable : goal.returns-clause-durable
-returns-clause-durable g c = c.begin_part.ensures.durable ∙ c.loop-halvings.invariant.durable
+pub returns-in_default-clause-durable : goal.returns-in_default-clause-durable
+returns-in_default-clause-durable g c = c.begin_part.ensures.durable ∙ c.loop-halvings.invariant.durable
 
-pub returns-clause-placed : goal.returns-clause-placed
-returns-clause-placed g c =
+pub returns-in_default-clause-placed : goal.returns-in_default-clause-placed
+returns-in_default-clause-placed g c =
     let i = c.loop-halvings.invariant in
     omega (arith, c.begin_part.ensures.placed, prefix_length c.args.pass.now.view.seen c.loop-halvings.pass.view.seen i.follows.later.seen)
 
 -- there is memory for none
-pub returns-2-clause-placed : goal.returns-2-clause-placed
-returns-2-clause-placed g c = c.loop-halvings.invariant.placed (omega arith)
+pub returns-clause-placed : goal.returns-clause-placed
+returns-clause-placed g c = c.loop-halvings.invariant.placed (omega arith)
 
-pub returns-2-clause-going : goal.returns-2-clause-going
-returns-2-clause-going g c = ap (λ k. k.failures) c.loop-halvings.invariant.same ∙ c.requires.going
+pub returns-clause-going : goal.returns-clause-going
+returns-clause-going g c = ap (λ k. k.failures) c.loop-halvings.invariant.same ∙ c.requires.going

@@ -14,8 +14,8 @@ use Rattle.im_store.proofs.GainLemmas.{follows_placed, follows_then}
 use Rattle.im_store.proofs.store.Store.begin_part.Goals as goal
 
 -- what is placed is behind what is durable
-pub sub-requires : goal.sub-requires
-sub-requires g c =
+pub overflow_sub-placed : goal.overflow_sub-placed
+overflow_sub-placed g c =
     let show = c.show-placed in
     omega (
       arith,

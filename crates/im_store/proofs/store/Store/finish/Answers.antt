@@ -33,7 +33,7 @@ pub returns-in_err-stage-clause-follows : goal.returns-in_err-stage-clause-follo
 returns-in_err-stage-clause-follows g c =
     let stage = c.stage in
     let told = counted_told _ _ _ _ _ c.requires.going c.in_err-stage.ensures.counted in
-    subst (λ (k : ℕ). HasStepped k c.args.pass.now stage.new.pass) (told ∙ passed_told _ _ c.in_err-stage.field-0.0 c.from_residual.result c.from_residual.ensures.1)
+    subst (λ (k : ℕ). HasStepped k c.args.pass.now stage.new.pass) (told ∙ passed_told (Unit {0}) _ c.in_err-stage.field-0.0 c.from_residual.result c.from_residual.ensures.1)
     (follows_told (stage.new.self.failures - c.args.journal.now.failures) c.args.pass.now stage.new.pass stage.ensures.later stage.ensures.adds stage.ensures.looks)
 
 pub returns-in_err-stage-clause-err : goal.returns-in_err-stage-clause-err
@@ -55,7 +55,7 @@ returns-in_err-seal-clause-follows g c =
     (follows_told (stage.new.self.failures - c.args.journal.now.failures) c.args.pass.now stage.new.pass stage.ensures.later stage.ensures.adds stage.ensures.looks) in
     let told = counted_told _ _ _ _ _ none c.in_err-seal.ensures.counted in
     let b = subst (λ (k : ℕ). HasStepped k stage.new.pass seal.new.pass)
-    (told ∙ passed_told _ _ c.in_err-seal.field-0.0 c.from_residual-in_err-seal.result c.from_residual-in_err-seal.ensures.1)
+    (told ∙ passed_told (Unit {0}) _ c.in_err-seal.field-0.0 c.from_residual-in_err-seal.result c.from_residual-in_err-seal.ensures.1)
     (follows_told (seal.new.self.failures - stage.new.self.failures) stage.new.pass seal.new.pass seal.ensures.later seal.ensures.adds seal.ensures.looks) in
     follows_then _ c.args.pass.now stage.new.pass seal.new.pass a b
 

@@ -35,7 +35,7 @@ returns-in_err-begin-clause-follows g c =
     let cause : JournalError = c.in_err-begin.field-0.0 in
     let memory : cause ≡ halts.Memory = c.in_err-begin.ensures.memory in
     let none : 0 ≡ faults_told {T = Unit {0}} (Err cause) = ap (λ (k : JournalError). faults_told {T = Unit {0}} (Err k)) (sym memory) in
-    subst (λ (k : ℕ). HasStepped k c.args.pass.now c.begin.new.pass) (none ∙ passed_told _ _ cause c.from_residual.result c.from_residual.ensures.1) c.begin.ensures.follows
+    subst (λ (k : ℕ). HasStepped k c.args.pass.now c.begin.new.pass) (none ∙ passed_told (Unit {0}) _ cause c.from_residual.result c.from_residual.ensures.1) c.begin.ensures.follows
 
 pub returns-in_err-begin-clause-err : goal.returns-in_err-begin-clause-err
 returns-in_err-begin-clause-err g c =

@@ -23,7 +23,7 @@ loop-init g c = record {
 pub flush-requires-clause-some : goal.flush-requires-clause-some
 flush-requires-clause-some g c =
     let i = c.loop.invariant in
-    omega (arith, c.requires.seen, prefix_length c.args.pass.now.view.seen c.loop.pass.view.seen i.follows.later.seen, c.durable.ensures)
+    omega (arith, c.requires.seen, prefix_length c.args.pass.now.view.seen c.loop.pass.view.seen i.follows.later.seen, c.durable.ensures, ap (λ k. k.durable) c.journal.ensures)
 
 pub loop-preserved : goal.loop-preserved
 loop-preserved g c =
@@ -34,9 +34,9 @@ loop-preserved g c =
     record {
       can = tt;
       finite = tt;
-      follows = follows_then 0 c.args.pass.now c.loop.pass f.new.pass i.follows f.ensures.follows;
+      follows = follows_then 0 c.args.pass.now c.loop.pass f.new.pass i.follows c.in_ok-flush.ensures.follows;
       words = c.in_ok-flush.ensures.words;
-      failed = f.ensures.failed (λ h. h) ∙ i.failed;
+      failed = c.in_ok-flush.ensures.failed (λ h. h) ∙ i.failed;
       durable = f.ensures.durable ∙ i.durable;
       placed = λ last. f.ensures.placed c.args.n seen (i.placed last);
     }
@@ -44,7 +44,7 @@ loop-preserved g c =
 -- a batch failed
 pub returns-in_err-flush-clause-follows : goal.returns-in_err-flush-clause-follows
 returns-in_err-flush-clause-follows g c =
-    subst (λ (k : ℕ). HasStepped k c.args.pass.now c.flush.new.pass) (passed_told _ _ c.in_err-flush.field-0.0 c.from_residual.result c.from_residual.ensures.1)
+    subst (λ (k : ℕ). HasStepped k c.args.pass.now c.flush.new.pass) (passed_told (Unit {0}) _ c.in_err-flush.field-0.0 c.from_residual.result c.from_residual.ensures.1)
     (follows_then _ c.args.pass.now c.loop.pass c.flush.new.pass c.loop.invariant.follows c.in_err-flush.ensures.follows)
 
 pub returns-in_err-flush-clause-err : goal.returns-in_err-flush-clause-err
@@ -55,7 +55,7 @@ returns-in_err-flush-clause-err g c =
 
 pub returns-in_err-flush-clause-failed : goal.returns-in_err-flush-clause-failed
 returns-in_err-flush-clause-failed g c going =
-    c.in_err-flush.ensures.failed (passed_going _ _ c.in_err-flush.field-0.0 c.from_residual.result c.from_residual.ensures.1 going) ∙ c.loop.invariant.failed
+    c.in_err-flush.ensures.failed (passed_going (Unit {0}) _ c.in_err-flush.field-0.0 c.from_residual.result c.from_residual.ensures.1 going) ∙ c.loop.invariant.failed
 
 pub returns-in_err-flush-clause-durable : goal.returns-in_err-flush-clause-durable
 returns-in_err-flush-clause-durable g c = c.flush.ensures.durable ∙ c.loop.invariant.durable
@@ -67,11 +67,11 @@ returns-in_err-flush-clause-placed g c last =
     (c.loop.invariant.placed last)
 
 -- they are durable
-pub returns-clause-ok : goal.returns-clause-ok
-returns-clause-ok g c = omega (arith, c.loop.invariant.words.0, c.durable.ensures)
+pub returns-then-n-durable-clause-ok : goal.returns-then-n-durable-clause-ok
+returns-then-n-durable-clause-ok g c = omega (arith, c.loop.invariant.words.0, c.durable.ensures, ap (λ k. k.durable) c.journal.ensures)
 
-pub returns-clause-failed : goal.returns-clause-failed
-returns-clause-failed g c going = c.loop.invariant.failed
+pub returns-then-n-durable-clause-failed : goal.returns-then-n-durable-clause-failed
+returns-then-n-durable-clause-failed g c going = c.loop.invariant.failed
 
-pub returns-clause-placed : goal.returns-clause-placed
-returns-clause-placed g c last = c.loop.invariant.placed last
+pub returns-then-n-durable-clause-placed : goal.returns-then-n-durable-clause-placed
+returns-then-n-durable-clause-placed g c last = c.loop.invariant.placed last

@@ -25,33 +25,33 @@ loop-look-preserved g c =
     }
 
 -- they are durable
-pub returns-clause-follows : goal.returns-clause-follows
-returns-clause-follows g c =
+pub returns-then-n-load_durable-clause-follows : goal.returns-then-n-load_durable-clause-follows
+returns-then-n-load_durable-clause-follows g c =
     let l = c.load_durable in
     follows_then 0 c.args.pass.now c.loop-look.pass l.new.pass c.loop-look.invariant.follows
     (load_durable_follows c.loop-look.pass l.new.pass l.result l.ensures.table l.ensures.view l.ensures.finds.least)
 
-pub returns-clause-failed : goal.returns-clause-failed
-returns-clause-failed g c = ap (λ (v : View). v.looks.failed) c.load_durable.ensures.view ∙ c.loop-look.invariant.failed
+pub returns-then-n-load_durable-clause-failed : goal.returns-then-n-load_durable-clause-failed
+returns-then-n-load_durable-clause-failed g c = ap (λ (v : View). v.looks.failed) c.load_durable.ensures.view ∙ c.loop-look.invariant.failed
 
-pub returns-clause-placed : goal.returns-clause-placed
-returns-clause-placed g c = ap (λ (v : View). v.looks.placed) c.load_durable.ensures.view ∙ c.loop-look.invariant.placed
+pub returns-then-n-load_durable-clause-placed : goal.returns-then-n-load_durable-clause-placed
+returns-then-n-load_durable-clause-placed g c = ap (λ (v : View). v.looks.placed) c.load_durable.ensures.view ∙ c.loop-look.invariant.placed
 
 -- the lock was got
-pub returns-2-clause-follows : goal.returns-2-clause-follows
-returns-2-clause-follows g c =
+pub returns-in-Some-clause-follows : goal.returns-in-Some-clause-follows
+returns-in-Some-clause-follows g c =
     let l = c.load_durable in
     follows_then 0 c.args.pass.now c.loop-look.pass l.new.pass c.loop-look.invariant.follows
     (load_durable_follows c.loop-look.pass l.new.pass l.result l.ensures.table l.ensures.view l.ensures.finds.least)
 
-pub returns-2-clause-failed : goal.returns-2-clause-failed
-returns-2-clause-failed g c = ap (λ (v : View). v.looks.failed) c.load_durable.ensures.view ∙ c.loop-look.invariant.failed
+pub returns-in-Some-clause-failed : goal.returns-in-Some-clause-failed
+returns-in-Some-clause-failed g c = ap (λ (v : View). v.looks.failed) c.load_durable.ensures.view ∙ c.loop-look.invariant.failed
 
-pub returns-2-clause-placed : goal.returns-2-clause-placed
-returns-2-clause-placed g c = ap (λ (v : View). v.looks.placed) c.load_durable.ensures.view ∙ c.loop-look.invariant.placed
+pub returns-in-Some-clause-placed : goal.returns-in-Some-clause-placed
+returns-in-Some-clause-placed g c = ap (λ (v : View). v.looks.placed) c.load_durable.ensures.view ∙ c.loop-look.invariant.placed
 
-pub returns-2-clause-some : goal.returns-2-clause-some
-returns-2-clause-some g c =
+pub returns-in-Some-clause-some : goal.returns-in-Some-clause-some
+returns-in-Some-clause-some g c =
     let l = c.load_durable in
     record {
       durable = l.result;
@@ -61,5 +61,5 @@ returns-2-clause-some g c =
     }
 
 -- the lock was waited for
-pub returns-3-clause-some : goal.returns-3-clause-some
-returns-3-clause-some g c = c.loop-look.invariant.fewer (omega arith)
+pub returns-clause-some : goal.returns-clause-some
+returns-clause-some g c = c.loop-look.invariant.fewer (omega arith)

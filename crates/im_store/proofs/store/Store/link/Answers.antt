@@ -1,4 +1,4 @@
-use Rattle.std.proofs.Common.{◌≡◌, ◌≤◌, ◌+◌, ◌-◌, ◌∙◌, ℕ, List, length, min, take, drop, ap, sym, arith}
+use Rattle.std.proofs.Common.{rules, ◌≡◌, ◌≤◌, ◌+◌, ◌-◌, ◌∙◌, ℕ, List, length, min, take, drop, ap, sym, arith}
 use Rattle.im_linker.specs.Trees.{alhs_in}
 use Rattle.im_model.specs.History.{alhs_of}
 use Rattle.im_model.proofs.HistoryLemmas.{length-alhs_of}
@@ -48,8 +48,11 @@ copied-requires-clause-within g c =
     let few : length book.new.self ≤ 1048576 = omega (arith, book.ensures.history.few, history_length book.new.self) in
     let order : size ≤ end = omega arith in
     let reach : end ≤ durable = omega arith in
+    let same : c.deref.result.now ≡ book.new.self = search rules in
+    let here : c.alhs.result.now ≡ alhs_of g.N.TipName.digest (history_of book.new.self) =
+    c.alhs.ensures ∙ ap (λ (l : List LogItem). alhs_of g.N.TipName.digest (history_of l)) same in
     let all : length c.alhs.result.now ≡ length book.new.self =
-    ap (λ (l : List (List ℕ)). length l) c.alhs.ensures ∙ length-alhs_of g.N.TipName.digest (history_of book.new.self) ∙ history_length book.new.self in
+    ap (λ (l : List (List ℕ)). length l) here ∙ length-alhs_of g.N.TipName.digest (history_of book.new.self) ∙ history_length book.new.self in
     omega arith
 
 -- the Alh that are copied are those of the pass's list behind the tree's
@@ -71,7 +74,8 @@ link-linked-requires-clause-next g c =
     let reach : end ≤ durable = omega arith in
     let hash = g.N.TipName.digest in
     let all : List (List ℕ) = alhs_in hash book.new.pass.view.seen in
-    let here : c.alhs.result.now ≡ all = c.alhs.ensures ∙ ap (λ (l : List LogItem). alhs_of hash (history_of l)) (sym book.ensures.seen.0) in
+    let same : c.deref.result.now ≡ book.new.self = search rules in
+    let here : c.alhs.result.now ≡ all = c.alhs.ensures ∙ ap (λ (l : List LogItem). alhs_of hash (history_of l)) (same ∙ sym book.ensures.seen.0) in
     let long : length all ≡ length book.new.self =
     length-alhs_of hash (history_of book.new.pass.view.seen) ∙ history_length book.new.pass.view.seen ∙ ap (λ (l : List LogItem). length l) book.ensures.seen.0 in
     let copy : c.as_slice.result.now ≡ take (end - size) (drop size all) =
@@ -98,7 +102,8 @@ link-linked-requires-clause-within g c =
     let reach : end ≤ durable = omega arith in
     let hash = g.N.TipName.digest in
     let all : List (List ℕ) = alhs_in hash book.new.pass.view.seen in
-    let here : c.alhs.result.now ≡ all = c.alhs.ensures ∙ ap (λ (l : List LogItem). alhs_of hash (history_of l)) (sym book.ensures.seen.0) in
+    let same : c.deref.result.now ≡ book.new.self = search rules in
+    let here : c.alhs.result.now ≡ all = c.alhs.ensures ∙ ap (λ (l : List LogItem). alhs_of hash (history_of l)) (same ∙ sym book.ensures.seen.0) in
     let long : length all ≡ length book.new.self =
     length-alhs_of hash (history_of book.new.pass.view.seen) ∙ history_length book.new.pass.view.seen ∙ ap (λ (l : List LogItem). length l) book.ensures.seen.0 in
     let copy : c.as_slice.result.now ≡ take (end - size) (drop size all) =
@@ -127,7 +132,8 @@ returns-clause-ok g c =
     let reach : end ≤ durable = omega arith in
     let hash = g.N.TipName.digest in
     let all : List (List ℕ) = alhs_in hash book.new.pass.view.seen in
-    let here : c.alhs.result.now ≡ all = c.alhs.ensures ∙ ap (λ (l : List LogItem). alhs_of hash (history_of l)) (sym book.ensures.seen.0) in
+    let same : c.deref.result.now ≡ book.new.self = search rules in
+    let here : c.alhs.result.now ≡ all = c.alhs.ensures ∙ ap (λ (l : List LogItem). alhs_of hash (history_of l)) (same ∙ sym book.ensures.seen.0) in
     let long : length all ≡ length book.new.self =
     length-alhs_of hash (history_of book.new.pass.view.seen) ∙ history_length book.new.pass.view.seen ∙ ap (λ (l : List LogItem). length l) book.ensures.seen.0 in
     let copy : c.as_slice.result.now ≡ take (end - size) (drop size all) =

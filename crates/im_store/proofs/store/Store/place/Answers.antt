@@ -1,4 +1,4 @@
-use Rattle.std.proofs.Common.{◌∙◌, List, length, ap}
+use Rattle.std.proofs.Common.{rules, ◌≡◌, ◌∙◌, List, length, ap}
 use Rattle.im_table.specs.declared.items.LogItem.{LogItem}
 use Rattle.im_store.proofs.PlaceLemmas.{not_placed}
 use Rattle.im_store.proofs.CommitLemmas.{placed_now}
@@ -16,16 +16,17 @@ returns-in-Ok-clause-placed g c =
 pub returns-in-Ok-clause-looks : goal.returns-in-Ok-clause-looks
 returns-in-Ok-clause-looks g c = (_, c.place.ensures.looks)
 
-pub returns-in-Err-clause-gains : goal.returns-in-Err-clause-gains
-returns-in-Err-clause-gains g c = gains_none c.args.pass.now c.place.new.pass c.in-Err.ensures.err.1
+pub returns-clause-gains : goal.returns-clause-gains
+returns-clause-gains g c = gains_none c.args.pass.now c.place.new.pass c.in-Err.ensures.err.1
 
-pub returns-in-Err-clause-refused : goal.returns-in-Err-clause-refused
-returns-in-Err-clause-refused g c =
+pub returns-clause-refused : goal.returns-clause-refused
+returns-clause-refused g c =
     let above = c.place.ensures.above in
     let same = c.in-Err.ensures.err.0 in
-    let at = c.len.ensures ∙ ap (λ (l : List LogItem). length l) same in
+    let now : c.deref.result.now ≡ c.place.new.self = search rules in
+    let at = c.len.ensures ∙ ap (λ (l : List LogItem). length l) (now ∙ same) in
     not_placed g.N.TipName.time c.args.prepared c.args.pass.now _ c.in-Err.why c.len.result c.place.new.pass c.unplaced.result c.unplaced.ensures above.0 above.1
     c.place.ensures.history at (c.place.ensures.seen ∙ same) c.in-Err.ensures.refused
 
-pub returns-in-Err-clause-looks : goal.returns-in-Err-clause-looks
-returns-in-Err-clause-looks g c = (_, c.place.ensures.looks)
+pub returns-clause-looks : goal.returns-clause-looks
+returns-clause-looks g c = (_, c.place.ensures.looks)

@@ -26,7 +26,7 @@ returns-in-Err-clause-none g c = ap (λ (e : CommitError). number_told e) c.halt
 
 pub returns-in-Err-clause-follows : goal.returns-in-Err-clause-follows
 returns-in-Err-clause-follows g c =
-    let told = subst (λ (k : ℕ). HasStepped k c.args.pass.now c.settle_to.new.pass) (halted_faults _ c.in-Err.cause None) c.in-Err.ensures.follows in
+    let told = subst (λ (k : ℕ). HasStepped k c.args.pass.now c.settle_to.new.pass) (halted_faults (Unit {0}) c.in-Err.cause None) c.in-Err.ensures.follows in
     subst (λ (e : CommitError). HasStepped (faults_of_error e) c.args.pass.now c.settle_to.new.pass) (sym c.halted.ensures) told
 
 pub returns-in-Err-clause-told : goal.returns-in-Err-clause-told
@@ -34,4 +34,4 @@ returns-in-Err-clause-told g c = inr (c.in-Err.cause, c.halted.ensures, c.in-Err
 
 pub returns-in-Err-clause-failed : goal.returns-in-Err-clause-failed
 returns-in-Err-clause-failed g c going =
-    c.in-Err.ensures.failed (halted_going _ c.in-Err.cause None (subst (λ (e : CommitError). IsStop e → ⊥) c.halted.ensures going))
+    c.in-Err.ensures.failed (halted_going (Unit {0}) c.in-Err.cause None (subst (λ (e : CommitError). IsStop e → ⊥) c.halted.ensures going))

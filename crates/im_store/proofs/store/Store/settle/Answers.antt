@@ -4,13 +4,13 @@ use Rattle.im_store.proofs.SettleLemmas.{beyond_settles, ok_settles, passed_gain
 use Rattle.im_store.proofs.store.Store.settle.Goals as goal
 
 -- fewer are placed
-pub returns-clause-gains : goal.returns-clause-gains
-returns-clause-gains g c =
+pub returns-then-placed-n-clause-gains : goal.returns-then-placed-n-clause-gains
+returns-then-placed-n-clause-gains g c =
     let show = c.show-placed in
     (follows_placed show.result c.args.pass.now show.new.pass show.ensures.later show.ensures.adds show.ensures.looks).gains
 
-pub returns-clause-answer : goal.returns-clause-answer
-returns-clause-answer g c =
+pub returns-then-placed-n-clause-answer : goal.returns-then-placed-n-clause-answer
+returns-then-placed-n-clause-answer g c =
     let show = c.show-placed in
     beyond_settles _ c.args.pass.now show.new.pass show.result c.args.n show.ensures.looks (omega arith)
 
@@ -24,7 +24,7 @@ returns-in_err-settle_to-clause-later g c =
 pub returns-in_err-settle_to-clause-gains : goal.returns-in_err-settle_to-clause-gains
 returns-in_err-settle_to-clause-gains g c =
     let show = c.show-placed in
-    passed_gains _ _ c.args.pass.now c.settle_to.new.pass c.in_err-settle_to.field-0.0 c.from_residual.result c.from_residual.ensures.1
+    passed_gains (Unit {0}) _ c.args.pass.now c.settle_to.new.pass c.in_err-settle_to.field-0.0 c.from_residual.result c.from_residual.ensures.1
     (follows_then _ c.args.pass.now show.new.pass c.settle_to.new.pass
     (follows_placed show.result c.args.pass.now show.new.pass show.ensures.later show.ensures.adds show.ensures.looks) c.in_err-settle_to.ensures.follows).gains
 
@@ -36,20 +36,20 @@ returns-in_err-settle_to-clause-answer g c =
     show.ensures.looks (omega arith) wait.ensures.follows wait.ensures.placed c.in_err-settle_to.ensures.err
 
 -- they are durable
-pub returns-2-clause-later : goal.returns-2-clause-later
-returns-2-clause-later g c =
+pub returns-clause-later : goal.returns-clause-later
+returns-clause-later g c =
     let show = c.show-placed in
     (follows_then _ c.args.pass.now show.new.pass c.settle_to.new.pass
     (follows_placed show.result c.args.pass.now show.new.pass show.ensures.later show.ensures.adds show.ensures.looks) c.settle_to.ensures.follows).later
 
-pub returns-2-clause-gains : goal.returns-2-clause-gains
-returns-2-clause-gains g c =
+pub returns-clause-gains : goal.returns-clause-gains
+returns-clause-gains g c =
     let show = c.show-placed in
     (follows_then 0 c.args.pass.now show.new.pass c.settle_to.new.pass
     (follows_placed show.result c.args.pass.now show.new.pass show.ensures.later show.ensures.adds show.ensures.looks) c.in_ok-settle_to.ensures.follows).gains
 
-pub returns-2-clause-answer : goal.returns-2-clause-answer
-returns-2-clause-answer g c =
+pub returns-clause-answer : goal.returns-clause-answer
+returns-clause-answer g c =
     let show = c.show-placed in
     let wait = c.settle_to in
     ok_settles c.args.pass.now show.new.pass wait.new.pass show.result c.args.n _ _ show.ensures.looks (omega arith) wait.ensures.follows wait.ensures.placed
