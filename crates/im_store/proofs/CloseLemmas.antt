@@ -1,6 +1,7 @@
 -- Passes that come together by the holder of all roles.
 use Rattle.std.proofs.Common.{◌≡◌, ◌+◌, ◌++◌, true, [], ◌∷◌, ◌∙◌, ℕ, suc, List, length, refl, ap, subst, arith}
 use Rattle.std.specs.List.{All, sum_by}
+use Rattle.std.proofs.lemmas.List.Sums.{sum_by-cons}
 use Rattle.im_table.specs.Known.{KnownPass}
 use Rattle.im_table.specs.Passes.{book_role, index_role, journal_role, tree_role}
 use Rattle.im_table.specs.Views.{chosen, either_of, picked, view_joined}
@@ -19,7 +20,7 @@ all_middle P (y ∷ xs) ys x all = all_middle P xs ys x (λ k d lt. all (suc k) 
 -- of nothing each there is nothing in all
 pub sum_none : (f : KnownPass → ℕ) (xs : List KnownPass) → All (λ p. f p ≡ 0) xs → sum_by f xs ≡ 0
 sum_none f [] all = refl
-sum_none f (x ∷ xs) all = omega (arith, all 0 x (omega arith), sum_none f xs (λ k d lt. all (suc k) d (omega (arith, lt))))
+sum_none f (x ∷ xs) all = omega (arith, sum_by-cons f x xs, all 0 x (omega arith), sum_none f xs (λ k d lt. all (suc k) d (omega (arith, lt))))
 
 -- what holds of each behind an equal value
 pub all_same : {X : Type 0} (P : X → KnownPass → Type 0) (a b : X) (ps : List KnownPass) → a ≡ b → All (λ p. P a p) ps → All (λ p. P b p) ps

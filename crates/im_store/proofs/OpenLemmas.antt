@@ -39,7 +39,7 @@ use Rattle.im_table.proofs.HistoryLemmas.{history_length}
 use Rattle.im_vlog.specs.Ends.{AreEnds, HaveRoom}
 use Rattle.im_book.specs.Booked.{last_bl, last_bl_or, Booked, IsBook}
 use Rattle.im_store.specs.Found.{items_of}
-use Rattle.im_store.specs.Names.{Naming, OpensAs}
+use Rattle.im_store.specs.Names.{Naming, OpensAs, Unnamed}
 
 -- the history, the references and the marks of items that were found
 pub found_history : (rs : List Record) → history_of (items_of rs) ≡ txs_of rs
@@ -165,3 +165,23 @@ pub found_taken : (items : List LogItem) (index : Indexed) → IsIndexOf index (
 found_taken items index is =
     let whole : take index.taken (history_of items) ≡ history_of items = ap (λ (n : ℕ). take n (history_of items)) is.taken ∙ take-length (history_of items) in
     (subst (λ (l : List Transaction). IsIndexOf index l) (sym whole) is, is.taken ∙ history_length items)
+
+-- what is seen of an opened store is seen of each that is equal
+module _ {H D C : Type 0} {a b : Unnamed H D C} where
+  pub same_table : a ≡ b → a.table ≡ b.table
+  same_table e = ap (λ (o : Unnamed H D C). o.table) e
+
+  pub same_found : a ≡ b → a.found ≡ b.found
+  same_found e = ap (λ (o : Unnamed H D C). o.found) e
+
+  pub same_logs : a ≡ b → a.logs ≡ b.logs
+  same_logs e = ap (λ (o : Unnamed H D C). o.logs) e
+
+  pub same_hash : a ≡ b → a.hash ≡ b.hash
+  same_hash e = ap (λ (o : Unnamed H D C). o.hash) e
+
+  pub same_disk : a ≡ b → a.disk ≡ b.disk
+  same_disk e = ap (λ (o : Unnamed H D C). o.disk) e
+
+  pub same_clock : a ≡ b → a.clock ≡ b.clock
+  same_clock e = ap (λ (o : Unnamed H D C). o.clock) e

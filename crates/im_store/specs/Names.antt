@@ -22,6 +22,29 @@ pub record Naming : Type 0 where
   pub time : Option ℤ
   pub given : Option (List ℤ)
 
+-- what is seen of a store that was opened and has no name yet: the tip, what was found, the number of value logs, the hash function, the disk and
+-- the clock
+pub record Unnamed (H D C : Type 0) : Type 0 where
+  pub table : TableId
+  pub found : List LogItem
+  pub logs : ℕ
+  pub hash : H
+  pub disk : D
+  pub clock : C
+
+-- what names it, by what these tell: the hash, what the disk tells and how often it has failed, the clock's times
+abbrev pub naming_of : {H D C : Type 0} → (H → Hash) → (D → Option Told) → (D → ℕ) → (C → Option ℤ) → (C → Option (List ℤ)) → Unnamed H D C → Naming
+naming_of digest told faults constant given o = record {
+  table = o.table;
+  found = o.found;
+  logs = o.logs;
+  digest = digest o.hash;
+  synced = told o.disk;
+  faults = faults o.disk;
+  time = constant o.clock;
+  given = given o.clock;
+}
+
 -- A disk, which told this, is opened as a store. Its files stand for the history that is found, and for no other, and each image of
 -- each moment behind the opening's first sync does. None of its calls failed. Each item is marked as found.
 pub record OpensAs (told : Option Told) (faults : ℕ) (n : Naming) : Type 0 where

@@ -26,9 +26,9 @@
 //!     rt: &R, alloc: Global, opened: Opened<'_, H, D, C, Free>, one: Prepared, two: Prepared,
 //! ) -> Option<D>
 //!     requires tip { (opened.table ≡ N.table) × (opened.found ≡ N.found) × (opened.logs ≡ N.logs) }
-//!     requires hash { opened.digest ≡ N.digest }
-//!     requires disk { (opened.synced ≡ N.synced) × (opened.faults ≡ N.faults) }
-//!     requires clock { (opened.time ≡ N.time) × (opened.given ≡ N.given) }
+//!     requires hash { H.digest opened.hash ≡ N.digest }
+//!     requires disk { (D.told opened.disk ≡ N.synced) × (D.faults opened.disk ≡ N.faults) }
+//!     requires clock { (C.constant opened.clock ≡ N.time) × (C.given opened.clock ≡ N.given) }
 //! {
 //!     let (store, mut main) = opened.named::<N>();
 //!     let first = store.pass(&mut main);

@@ -4,7 +4,7 @@ ghost use Rattle.im_opening.specs.Opening.{IsOneHistory};
 ghost use Rattle.im_opening.specs.Opens.{FailsToOpen};
 ghost use Rattle.im_opening.specs.declared.errors.OpenError.TheVariants.{Memory};
 ghost use Rattle.im_store.specs.Found.{items_of, HoldsFound};
-ghost use Rattle.im_store.specs.Names.{OpensAs};
+ghost use Rattle.im_store.specs.Names.{naming_of, OpensAs};
 
 use crate::opened::parts::{Parts, parts_of};
 use im_digest::Hash32;
@@ -33,14 +33,14 @@ pub struct OpenFailed<D, C> {
     pub clock: C,
 }
 
-/// A store that was opened and has no name yet: `named` gives it. A clause sees what names it (`Naming`): the tip, what was found, the
-/// number of value logs, the hash, what the disk told and how often it had failed when it was opened, and the clock's times.
+/// A store that was opened and has no name yet: `named` gives it. A clause sees what names it (`Unnamed`): the tip, what was found, the
+/// number of value logs, the hash function, the disk as it was opened, and the clock.
 ///
 /// Threads share a store under locks, and of a value under a lock only its type's facts are known. So the type of a store has a
 /// parameter `N: TipName`, which names one opened store in contracts alone. A function that opens a store calls one that is generic in `N`
 /// at `Brand`, hands it the opened store, and picks there what names it: of `fn serve<N: TipName, ..>(opened: Opened<..>, ..)`, called
 /// as `serve::<Brand, ..>(opened, ..)`, the caller's `Invariants.antt` says
-/// `ghosts-serve g a = record { table = a.opened.table; found = a.opened.found; .. }`, field by field.
+/// `ghosts-serve g a = record { table = a.opened.table; digest = g.H.Hash32.digest a.opened.hash; .. }`, field by field.
 ///
 /// # Invariants
 ///
@@ -57,19 +57,18 @@ pub struct Opened<'h, H: Hash32, D: Disk, C: Clock, L: Law> {
 }
 
 impl<'h, H: Hash32, D: Disk, C: Clock, L: Law> Model for Opened<'h, H, D, C, L> {
-    ghost use Rattle.im_store.specs.Names.{Naming};
+    ghost use Rattle.im_store.specs.Found.{HoldsFound};
+    ghost use Rattle.im_store.specs.Names.{Unnamed};
 
-    ghost Value = { Naming };
+    ghost Value = { Unnamed H D C };
 
     ghost view = { λ o. record {
       table = o.tip.table;
       found = o.tip.found;
       logs = o.logs;
-      digest = H.digest o.hash.now;
-      synced = D.told o.journal.disk;
-      faults = D.faults o.journal.disk;
-      time = C.constant o.clock;
-      given = C.given o.clock;
+      hash = o.hash.now;
+      disk = o.journal.disk;
+      clock = o.clock;
     } };
 
     ghost invariant = { λ o. HoldsFound D.told (H.digest o.hash.now) o.logs o.tip o.journal o.parts };
@@ -80,9 +79,9 @@ impl<'h, H: Hash32, D: Disk, C: Clock, L: Law> Opened<'h, H, D, C, L> {
     fn of(hash: &'h H, tip: Tip<L>, journal: Journal<D>, clock: C, logs: u8, parts: Parts) -> Self
         requires { HoldsFound D.told (H.digest hash.now) logs tip journal parts }
         ensures found { result.found ≡ tip.found }
-        ensures disk { (result.synced ≡ D.told journal.disk) × (result.faults ≡ D.faults journal.disk) }
-        ensures given { (result.digest ≡ H.digest hash.now) × (result.logs ≡ logs) }
-        ensures clock { (result.time ≡ C.constant clock) × (result.given ≡ C.given clock) }
+        ensures given { (result.hash ≡ hash.now) × (result.logs ≡ logs) }
+        ensures disk { result.disk ≡ journal.disk }
+        ensures clock { result.clock ≡ clock }
     {
         Opened {
             hash,
@@ -114,9 +113,9 @@ pub fn open<'h, H: Hash32, D: Disk, C: Clock, L: Law>(
     logs: u8,
 ) -> Result<Opened<'h, H, D, C, L>, OpenFailed<D, C>>
     requires logs { (1 ≤ logs) × (logs ≤ 4) }
-    ensures opens { IfOk result (λ opened. OpensAs (D.told disk) (D.faults disk) opened) }
-    ensures given { IfOk result (λ opened. (opened.digest ≡ H.digest hash.now) × (opened.logs ≡ logs)) }
-    ensures clock { IfOk result (λ opened. (opened.time ≡ C.constant clock) × (opened.given ≡ C.given clock)) }
+    ensures opens { IfOk result (λ opened. OpensAs (D.told disk) (D.faults disk) (naming_of H.digest D.told D.faults C.constant C.given opened)) }
+    ensures given { IfOk result (λ opened. (opened.hash ≡ hash.now) × (opened.logs ≡ logs)) }
+    ensures clock { IfOk result (λ opened. opened.clock ≡ clock) }
     ensures failed { IfErr result (λ failed. FailsToOpen D.told D.faults (H.digest hash.now) disk failed.disk failed.why) }
     ensures back { IfErr result (λ failed. failed.clock ≡ clock) }
 {
@@ -143,10 +142,9 @@ fn opened_over<'h, H: Hash32, D: Disk, C: Clock, L: Law>(
     requires rests { IsFound D.told (H.digest hash.now) journal found.records.items }
     requires found { IsOneHistory (H.digest hash.now) found }
     requires going { journal.failures ≡ 0 }
-    ensures found { IfOk result (λ opened. (opened.found ≡ items_of found.records.items) × (opened.digest ≡ H.digest hash.now)
-        × (opened.synced ≡ D.told journal.disk) × (opened.faults ≡ D.faults journal.disk)) }
-    ensures given { IfOk result (λ opened. (opened.digest ≡ H.digest hash.now) × (opened.logs ≡ logs)) }
-    ensures clock { IfOk result (λ opened. (opened.time ≡ C.constant clock) × (opened.given ≡ C.given clock)) }
+    ensures found { IfOk result (λ opened. (opened.found ≡ items_of found.records.items) × (opened.hash ≡ hash.now) × (opened.disk ≡ journal.disk)) }
+    ensures given { IfOk result (λ opened. (opened.hash ≡ hash.now) × (opened.logs ≡ logs)) }
+    ensures clock { IfOk result (λ opened. opened.clock ≡ clock) }
     ensures back { IfErr result (λ failed. (failed.disk ≡ journal.disk) × (failed.clock ≡ clock) × (failed.why ≡ Memory)) }
 {
     match parts_of(alloc, hash, found, logs) {

@@ -21,9 +21,9 @@ impl<'h, H: Hash32, D: Disk, C: Clock, L: Law> Opened<'h, H, D, C, L> {
     /// The store under a name, and a pass of the whole weight, 1,048,576, that has seen and knows all that was found. It takes no memory.
     pub fn named<N: TipName>(self) -> (Store<'h, H, D, C, L, N>, Pass)
         requires tip { (self.table ≡ N.table) × (self.found ≡ N.found) × (self.logs ≡ N.logs) }
-        requires hash { self.digest ≡ N.digest }
-        requires disk { (self.synced ≡ N.synced) × (self.faults ≡ N.faults) }
-        requires clock { (self.time ≡ N.time) × (self.given ≡ N.given) }
+        requires hash { H.digest self.hash ≡ N.digest }
+        requires disk { (D.told self.disk ≡ N.synced) × (D.faults self.disk ≡ N.faults) }
+        requires clock { (C.constant self.clock ≡ N.time) × (C.given self.clock ≡ N.given) }
         ensures pass { IsPassOf N.table result.1 × (result.1.view.weight ≡ 1048576) }
         ensures seen { result.1.view.seen ≡ N.found }
         ensures durable { result.1.view.least.durable ≡ length N.found }

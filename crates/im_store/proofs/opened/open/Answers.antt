@@ -1,4 +1,4 @@
-use Rattle.std.proofs.Common.{subst, sym}
+use Rattle.std.proofs.Common.{ap, subst, sym}
 use Rattle.std.proofs.lemmas.Result.{IfErr-weaker, IfOk-weaker}
 use Rattle.im_digest.specs.Digests.{Hash}
 use Rattle.im_opening.specs.Opens.{FailsToOpen}
@@ -6,6 +6,7 @@ use Rattle.im_opening.specs.Reach.{txs_of}
 use Rattle.im_opening.specs.declared.errors.OpenError.{OpenError}
 use Rattle.im_opening.specs.declared.errors.OpenError.TheVariants.{Memory}
 use Rattle.im_opening.proofs.OpensLemmas.{fails-behind}
+use Rattle.im_store.specs.Names.{naming_of}
 use Rattle.im_store.proofs.OpenLemmas.{found_opens}
 use Rattle.im_store.proofs.opened.open.Goals as goal
 
@@ -17,7 +18,8 @@ returns-in-Ok-clause-opens g c =
     let journal = c.in-Ok.journal in
     let rs = c.in-Ok.found.records.items in
     IfOk-weaker c.opened_over.result _ _
-    (λ opened all. found_opens told faults hash c.args.disk journal.disk journal.ends.commits rs c.in-Ok.ensures.opens opened all.0 all.1 all.2 all.3)
+    (λ opened all. found_opens told faults hash c.args.disk journal.disk journal.ends.commits rs c.in-Ok.ensures.opens
+    (naming_of g.H.Hash32.digest told faults g.C.Clock.constant g.C.Clock.given opened) all.0 (ap g.H.Hash32.digest all.1) (ap told all.2) (ap faults all.2))
     c.opened_over.ensures.found
 
 pub returns-in-Ok-clause-failed : goal.returns-in-Ok-clause-failed

@@ -23,4 +23,4 @@ of-requires g c =
 
 pub returns-in-Ok-clause-found : goal.returns-in-Ok-clause-found
 returns-in-Ok-clause-found g c =
-    (c.of.ensures.found ∙ c.in-Ok.ensures.found, c.of.ensures.given.0, c.of.ensures.disk.0, c.of.ensures.disk.1)
+    (c.of.ensures.found ∙ c.in-Ok.ensures.found, c.of.ensures.given.0, c.of.ensures.disk)

@@ -13,9 +13,8 @@ use Rattle.im_model.specs.declared.transactions.Transaction.{Transaction}
 use Rattle.im_book.specs.Booked.{last_bl}
 use Rattle.im_table.proofs.HistoryLemmas.{history_length}
 use Rattle.im_store.specs.Found.{items_of}
-use Rattle.im_store.specs.Names.{Naming}
 use Rattle.im_store.proofs.SplitLemmas.{behind_indexer, behind_keeper, behind_writer, held_first, held_fourth, held_is, held_second, held_third, keeper_is, left_is, right_is}
-use Rattle.im_store.proofs.OpenLemmas.{bl_below, found_count, found_taken, found_timed, opened_holds, opened_serves}
+use Rattle.im_store.proofs.OpenLemmas.{bl_below, found_count, found_taken, found_timed, opened_holds, opened_serves, same_clock, same_disk, same_found, same_hash, same_logs, same_table}
 use Rattle.im_store.proofs.opened.Opened.named.Goals as goal
 
 -- what the opened store keeps is what is put under the locks: `i.records` are those that were found, and `i.parts_are` says the parts
@@ -27,13 +26,13 @@ new-journal-requires-clause-serves g c =
     let rs = i.records in
     let items : List LogItem = items_of rs in
     let hash : Hash = g.H.Hash32.digest c.self.inside.hash.now in
-    let digest : hash ≡ g.N.TipName.digest = ap (λ (n : Naming). n.digest) v ∙ c.requires.hash in
-    let found : items ≡ g.N.TipName.found = sym p.found ∙ ap (λ (n : Naming). n.found) v ∙ c.requires.tip.1 in
+    let digest : hash ≡ g.N.TipName.digest = ap g.H.Hash32.digest (same_hash v) ∙ c.requires.hash in
+    let found : items ≡ g.N.TipName.found = sym p.found ∙ same_found v ∙ c.requires.tip.1 in
     let told = g.D.Disk.told in
     let faults = g.D.Disk.faults in
     let journal = c.self.inside.journal in
-    let synced = ap (λ (n : Naming). n.synced) v ∙ c.requires.disk.0 in
-    let before = ap (λ (n : Naming). n.faults) v ∙ c.requires.disk.1 in
+    let synced = ap g.D.Disk.told (same_disk v) ∙ c.requires.disk.0 in
+    let before = ap g.D.Disk.faults (same_disk v) ∙ c.requires.disk.1 in
     let seen : c.split-writer.result.view.seen ≡ items = ap (λ (w : View). w.seen) c.split-writer.ensures.right.1 ∙ ap (λ (w : View). w.seen) p.view in
     let serves = opened_serves told faults hash rs i.batches journal i.joined_is i.rests i.all g.N.TipName.faults g.N.TipName.synced i.going before synced in
     subst (λ (l : List LogItem). ServesItems told faults g.N.TipName.digest g.N.TipName.found g.N.TipName.synced g.N.TipName.faults l journal) (sym seen)
@@ -72,8 +71,8 @@ new-book-requires-clause-items g c =
     let rs = i.records in
     let items : List LogItem = items_of rs in
     let hash : Hash = g.H.Hash32.digest c.self.inside.hash.now in
-    let digest : hash ≡ g.N.TipName.digest = ap (λ (n : Naming). n.digest) v ∙ c.requires.hash in
-    let found : items ≡ g.N.TipName.found = sym p.found ∙ ap (λ (n : Naming). n.found) v ∙ c.requires.tip.1 in
+    let digest : hash ≡ g.N.TipName.digest = ap g.H.Hash32.digest (same_hash v) ∙ c.requires.hash in
+    let found : items ≡ g.N.TipName.found = sym p.found ∙ same_found v ∙ c.requires.tip.1 in
     let book = c.self.inside.parts.book in
     let refs = c.self.inside.parts.refs.items in
     let ends = c.self.inside.journal.ends.values in
@@ -100,10 +99,10 @@ new-book-requires-clause-timed g c =
     let rs = i.records in
     let items : List LogItem = items_of rs in
     let hash : Hash = g.H.Hash32.digest c.self.inside.hash.now in
-    let digest : hash ≡ g.N.TipName.digest = ap (λ (n : Naming). n.digest) v ∙ c.requires.hash in
-    let found : items ≡ g.N.TipName.found = sym p.found ∙ ap (λ (n : Naming). n.found) v ∙ c.requires.tip.1 in
-    let time = ap (λ (n : Naming). n.time) v ∙ c.requires.clock.0 in
-    let given = ap (λ (n : Naming). n.given) v ∙ c.requires.clock.1 in
+    let digest : hash ≡ g.N.TipName.digest = ap g.H.Hash32.digest (same_hash v) ∙ c.requires.hash in
+    let found : items ≡ g.N.TipName.found = sym p.found ∙ same_found v ∙ c.requires.tip.1 in
+    let time = ap g.C.Clock.constant (same_clock v) ∙ c.requires.clock.0 in
+    let given = ap g.C.Clock.given (same_clock v) ∙ c.requires.clock.1 in
     let constant = g.C.Clock.constant c.self.inside.clock in
     let told = g.C.Clock.given c.self.inside.clock in
     let seen : c.split-keeper.result.view.seen ≡ items = ap (λ (w : View). w.seen) c.split-keeper.ensures.right.1 ∙ ap (λ (w : View). w.seen) c.split-indexer.ensures.left.1 ∙ ap (λ (w : View). w.seen) c.split-writer.ensures.left.1 ∙ ap (λ (w : View). w.seen) p.view in
@@ -126,8 +125,8 @@ new-tree-requires-clause-leaves g c =
     let rs = i.records in
     let items : List LogItem = items_of rs in
     let hash : Hash = g.H.Hash32.digest c.self.inside.hash.now in
-    let digest : hash ≡ g.N.TipName.digest = ap (λ (n : Naming). n.digest) v ∙ c.requires.hash in
-    let found : items ≡ g.N.TipName.found = sym p.found ∙ ap (λ (n : Naming). n.found) v ∙ c.requires.tip.1 in
+    let digest : hash ≡ g.N.TipName.digest = ap g.H.Hash32.digest (same_hash v) ∙ c.requires.hash in
+    let found : items ≡ g.N.TipName.found = sym p.found ∙ same_found v ∙ c.requires.tip.1 in
     let seen : c.split-linker.result.view.seen ≡ items = ap (λ (w : View). w.seen) c.split-linker.ensures.right.1 ∙ ap (λ (w : View). w.seen) c.split-keeper.ensures.left.1 ∙ ap (λ (w : View). w.seen) c.split-indexer.ensures.left.1 ∙ ap (λ (w : View). w.seen) c.split-writer.ensures.left.1 ∙ ap (λ (w : View). w.seen) p.view in
     subst (λ (l : List LogItem). IsTreeOf g.N.TipName.digest l c.self.inside.parts.tree) (sym seen)
     (subst (λ (h : Hash). IsTreeOf h items c.self.inside.parts.tree) digest p.tree_is)
@@ -202,14 +201,14 @@ split-linker-requires-clause-weight g c =
 pub new-journal-requires-clause-pass : goal.new-journal-requires-clause-pass
 new-journal-requires-clause-pass g c =
     let items : List LogItem = items_of c.self.invariant.records in
-    let of = c.split-writer.ensures.right.0 ∙ c.self.invariant.parts_are.table ∙ ap (λ (n : Naming). n.table) c.self.view_is ∙ c.requires.tip.0 in
+    let of = c.split-writer.ensures.right.0 ∙ c.self.invariant.parts_are.table ∙ same_table c.self.view_is ∙ c.requires.tip.0 in
     keeper_is g.N.TipName.table journal_role c.split-writer.result (opener items) of
     (right_is c.journal_role.result journal_role c.self.inside.parts.pass.view c.split-writer.result.view (opener items) c.journal_role.ensures c.self.invariant.parts_are.view c.split-writer.ensures.right.1)
 
 pub new-index-requires-clause-pass : goal.new-index-requires-clause-pass
 new-index-requires-clause-pass g c =
     let items : List LogItem = items_of c.self.invariant.records in
-    let of = c.split-indexer.ensures.right.0 ∙ c.split-writer.ensures.left.0 ∙ c.self.invariant.parts_are.table ∙ ap (λ (n : Naming). n.table) c.self.view_is ∙ c.requires.tip.0 in
+    let of = c.split-indexer.ensures.right.0 ∙ c.split-writer.ensures.left.0 ∙ c.self.invariant.parts_are.table ∙ same_table c.self.view_is ∙ c.requires.tip.0 in
     let a = left_is c.journal_role.result journal_role c.self.inside.parts.pass.view c.split-writer.new.pass.view (opener items) c.journal_role.ensures c.self.invariant.parts_are.view c.split-writer.ensures.left.1 in
     keeper_is g.N.TipName.table index_role c.split-indexer.result (behind_writer items) of
     (right_is c.index_role.result index_role c.split-writer.new.pass.view c.split-indexer.result.view (behind_writer items) c.index_role.ensures a c.split-indexer.ensures.right.1)
@@ -217,7 +216,7 @@ new-index-requires-clause-pass g c =
 pub new-book-requires-clause-pass : goal.new-book-requires-clause-pass
 new-book-requires-clause-pass g c =
     let items : List LogItem = items_of c.self.invariant.records in
-    let of = c.split-keeper.ensures.right.0 ∙ c.split-indexer.ensures.left.0 ∙ c.split-writer.ensures.left.0 ∙ c.self.invariant.parts_are.table ∙ ap (λ (n : Naming). n.table) c.self.view_is ∙ c.requires.tip.0 in
+    let of = c.split-keeper.ensures.right.0 ∙ c.split-indexer.ensures.left.0 ∙ c.split-writer.ensures.left.0 ∙ c.self.invariant.parts_are.table ∙ same_table c.self.view_is ∙ c.requires.tip.0 in
     let a = left_is c.journal_role.result journal_role c.self.inside.parts.pass.view c.split-writer.new.pass.view (opener items) c.journal_role.ensures c.self.invariant.parts_are.view c.split-writer.ensures.left.1 in
     let b = left_is c.index_role.result index_role c.split-writer.new.pass.view c.split-indexer.new.pass.view (behind_writer items) c.index_role.ensures a c.split-indexer.ensures.left.1 in
     keeper_is g.N.TipName.table book_role c.split-keeper.result (behind_indexer items) of
@@ -226,7 +225,7 @@ new-book-requires-clause-pass g c =
 pub new-tree-requires-clause-pass : goal.new-tree-requires-clause-pass
 new-tree-requires-clause-pass g c =
     let items : List LogItem = items_of c.self.invariant.records in
-    let of = c.split-linker.ensures.right.0 ∙ c.split-keeper.ensures.left.0 ∙ c.split-indexer.ensures.left.0 ∙ c.split-writer.ensures.left.0 ∙ c.self.invariant.parts_are.table ∙ ap (λ (n : Naming). n.table) c.self.view_is ∙ c.requires.tip.0 in
+    let of = c.split-linker.ensures.right.0 ∙ c.split-keeper.ensures.left.0 ∙ c.split-indexer.ensures.left.0 ∙ c.split-writer.ensures.left.0 ∙ c.self.invariant.parts_are.table ∙ same_table c.self.view_is ∙ c.requires.tip.0 in
     let a = left_is c.journal_role.result journal_role c.self.inside.parts.pass.view c.split-writer.new.pass.view (opener items) c.journal_role.ensures c.self.invariant.parts_are.view c.split-writer.ensures.left.1 in
     let b = left_is c.index_role.result index_role c.split-writer.new.pass.view c.split-indexer.new.pass.view (behind_writer items) c.index_role.ensures a c.split-indexer.ensures.left.1 in
     let d = left_is c.book_role.result book_role c.split-indexer.new.pass.view c.split-keeper.new.pass.view (behind_indexer items) c.book_role.ensures b c.split-keeper.ensures.left.1 in
@@ -236,31 +235,31 @@ new-tree-requires-clause-pass g c =
 pub new-book-requires-clause-logs : goal.new-book-requires-clause-logs
 new-book-requires-clause-logs g c =
     let p = c.self.invariant.parts_are in
-    (ap (λ (n : Naming). n.logs) c.self.view_is ∙ c.requires.tip.2, p.some, p.few)
+    (same_logs c.self.view_is ∙ c.requires.tip.2, p.some, p.few)
 
 -- the store is what the name says
 pub of-requires-clause-tip : goal.of-requires-clause-tip
 of-requires-clause-tip g c =
     let v = c.self.view_is in
     let p = c.self.invariant.parts_are in
-    (ap (λ (n : Naming). n.table) v ∙ c.requires.tip.0, p.logs_are ∙ ap (λ (n : Naming). n.logs) v ∙ c.requires.tip.2, ap (λ (n : Naming). n.found) v ∙ c.requires.tip.1)
+    (same_table v ∙ c.requires.tip.0, p.logs_are ∙ same_logs v ∙ c.requires.tip.2, same_found v ∙ c.requires.tip.1)
 
 pub of-requires-clause-hash : goal.of-requires-clause-hash
-of-requires-clause-hash g c = ap (λ (n : Naming). n.digest) c.self.view_is ∙ c.requires.hash
+of-requires-clause-hash g c = ap g.H.Hash32.digest (same_hash c.self.view_is) ∙ c.requires.hash
 
 -- the pass that is handed out has seen and knows all of it
 pub returns-clause-seen : goal.returns-clause-seen
 returns-clause-seen g c =
     let v = c.self.view_is in
     let p = c.self.invariant.parts_are in
-    let found : items_of c.self.invariant.records ≡ g.N.TipName.found = sym p.found ∙ ap (λ (n : Naming). n.found) v ∙ c.requires.tip.1 in
+    let found : items_of c.self.invariant.records ≡ g.N.TipName.found = sym p.found ∙ same_found v ∙ c.requires.tip.1 in
     ap (λ (w : View). w.seen) c.split-linker.ensures.left.1 ∙ ap (λ (w : View). w.seen) c.split-keeper.ensures.left.1 ∙ ap (λ (w : View). w.seen) c.split-indexer.ensures.left.1 ∙ ap (λ (w : View). w.seen) c.split-writer.ensures.left.1 ∙ ap (λ (w : View). w.seen) p.view ∙ found
 
 pub returns-clause-durable : goal.returns-clause-durable
 returns-clause-durable g c =
     let v = c.self.view_is in
     let p = c.self.invariant.parts_are in
-    let found : items_of c.self.invariant.records ≡ g.N.TipName.found = sym p.found ∙ ap (λ (n : Naming). n.found) v ∙ c.requires.tip.1 in
+    let found : items_of c.self.invariant.records ≡ g.N.TipName.found = sym p.found ∙ same_found v ∙ c.requires.tip.1 in
     let least = ap (λ (w : View). w.least) c.split-linker.ensures.left.1 ∙ ap (λ (w : View). w.least) c.split-keeper.ensures.left.1 ∙ ap (λ (w : View). w.least) c.split-indexer.ensures.left.1 ∙ ap (λ (w : View). w.least) c.split-writer.ensures.left.1 ∙ ap (λ (w : View). w.least) p.view in
     ap (λ (l : Least). l.durable) least ∙ ap (λ (l : List LogItem). length l) found
 
@@ -268,7 +267,7 @@ pub returns-clause-known : goal.returns-clause-known
 returns-clause-known g c =
     let v = c.self.view_is in
     let p = c.self.invariant.parts_are in
-    let found : items_of c.self.invariant.records ≡ g.N.TipName.found = sym p.found ∙ ap (λ (n : Naming). n.found) v ∙ c.requires.tip.1 in
+    let found : items_of c.self.invariant.records ≡ g.N.TipName.found = sym p.found ∙ same_found v ∙ c.requires.tip.1 in
     let least = ap (λ (w : View). w.least) c.split-linker.ensures.left.1 ∙ ap (λ (w : View). w.least) c.split-keeper.ensures.left.1 ∙ ap (λ (w : View). w.least) c.split-indexer.ensures.left.1 ∙ ap (λ (w : View). w.least) c.split-writer.ensures.left.1 ∙ ap (λ (w : View). w.least) p.view in
     let count = ap (λ (l : List LogItem). length l) found in
     (ap (λ (l : Least). l.linked) least ∙ count, ap (λ (l : Least). l.indexed) least ∙ count, ap (λ (l : Least). l.failed) least)
@@ -276,7 +275,7 @@ returns-clause-known g c =
 pub returns-clause-pass : goal.returns-clause-pass
 returns-clause-pass g c =
     let items : List LogItem = items_of c.self.invariant.records in
-    let of = c.split-linker.ensures.left.0 ∙ c.split-keeper.ensures.left.0 ∙ c.split-indexer.ensures.left.0 ∙ c.split-writer.ensures.left.0 ∙ c.self.invariant.parts_are.table ∙ ap (λ (n : Naming). n.table) c.self.view_is ∙ c.requires.tip.0 in
+    let of = c.split-linker.ensures.left.0 ∙ c.split-keeper.ensures.left.0 ∙ c.split-indexer.ensures.left.0 ∙ c.split-writer.ensures.left.0 ∙ c.self.invariant.parts_are.table ∙ same_table c.self.view_is ∙ c.requires.tip.0 in
     let a = left_is c.journal_role.result journal_role c.self.inside.parts.pass.view c.split-writer.new.pass.view (opener items) c.journal_role.ensures c.self.invariant.parts_are.view c.split-writer.ensures.left.1 in
     let b = left_is c.index_role.result index_role c.split-writer.new.pass.view c.split-indexer.new.pass.view (behind_writer items) c.index_role.ensures a c.split-indexer.ensures.left.1 in
     let d = left_is c.book_role.result book_role c.split-indexer.new.pass.view c.split-keeper.new.pass.view (behind_indexer items) c.book_role.ensures b c.split-keeper.ensures.left.1 in

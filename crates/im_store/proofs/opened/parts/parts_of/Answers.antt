@@ -43,7 +43,7 @@ returns g c =
     let alhs : List (List ℕ) = found.alhs.items in
     let slice : c.as_slice.result.now ≡ alhs = c.as_slice.ensures.value in
     let all : c.len.result ≡ length alhs = omega (arith, c.len.ensures, found.alhs.ok.0) in
-    let history : c.in_ok-transactions.field-0.0.items ≡ history_of (items_of rs) =
+    let history : c.in_ok-transactions.transactions.items ≡ history_of (items_of rs) =
     c.in_ok-transactions.ensures.transactions ∙ ap (λ (l : List LogItem). history_of l) c.in_ok-tip.ensures.items in
     let N : ℕ → Type 0 = λ n. take n alhs ≡ alhs in
     let M : List (List ℕ) → Type 0 = λ l. IsLeveled hash l c.raise.new.tree in

@@ -3,17 +3,17 @@ use Rattle.im_store.proofs.GainLemmas.{follows_self, load_durable_follows, load_
 use Rattle.im_store.proofs.store.Store.check_between.Goals as goal
 
 -- they aren't in order
-pub returns-clause-follows : goal.returns-clause-follows
-returns-clause-follows g c = follows_self c.args.pass.now
+pub returns-then-s-eq0-clause-follows : goal.returns-then-s-eq0-clause-follows
+returns-then-s-eq0-clause-follows g c = follows_self c.args.pass.now
 
 -- the greater isn't durable
-pub returns-2-clause-follows : goal.returns-2-clause-follows
-returns-2-clause-follows g c =
+pub returns-then-durable-t-clause-follows : goal.returns-then-durable-t-clause-follows
+returns-then-durable-t-clause-follows g c =
     let l = c.load_durable-durable in
     load_durable_follows c.args.pass.now l.new.pass l.result l.ensures.table l.ensures.view l.ensures.finds.least
 
-pub returns-2-clause-err : goal.returns-2-clause-err
-returns-2-clause-err g c =
+pub returns-then-durable-t-clause-err : goal.returns-then-durable-t-clause-err
+returns-then-durable-t-clause-err g c =
     let l = c.load_durable-durable in
     record {
       some = omega arith;
@@ -23,13 +23,13 @@ returns-2-clause-err g c =
     }
 
 -- both are
-pub returns-3-clause-follows : goal.returns-3-clause-follows
-returns-3-clause-follows g c =
+pub returns-clause-follows : goal.returns-clause-follows
+returns-clause-follows g c =
     let l = c.load_durable-durable in
     load_durable_follows c.args.pass.now l.new.pass l.result l.ensures.table l.ensures.view l.ensures.finds.least
 
-pub returns-3-clause-ok : goal.returns-3-clause-ok
-returns-3-clause-ok g c =
+pub returns-clause-ok : goal.returns-clause-ok
+returns-clause-ok g c =
     let l = c.load_durable-durable in
     record {
       durable = l.result;

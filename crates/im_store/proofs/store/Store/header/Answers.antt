@@ -6,25 +6,25 @@ use Rattle.im_store.proofs.GainLemmas.{follows_self, follows_then, load_durable_
 use Rattle.im_store.proofs.store.Store.header.Goals as goal
 
 -- there is no transaction 0
-pub returns-clause-later : goal.returns-clause-later
-returns-clause-later g c = (follows_self c.args.pass.now).later
+pub returns-then-k-eq0-clause-later : goal.returns-then-k-eq0-clause-later
+returns-then-k-eq0-clause-later g c = (follows_self c.args.pass.now).later
 
-pub returns-clause-gains : goal.returns-clause-gains
-returns-clause-gains g c = (follows_self c.args.pass.now).gains
+pub returns-then-k-eq0-clause-gains : goal.returns-then-k-eq0-clause-gains
+returns-then-k-eq0-clause-gains g c = (follows_self c.args.pass.now).gains
 
 -- fewer are durable
-pub returns-2-clause-later : goal.returns-2-clause-later
-returns-2-clause-later g c =
+pub returns-then-durable-k-clause-later : goal.returns-then-durable-k-clause-later
+returns-then-durable-k-clause-later g c =
     let l = c.load_durable-durable in
     (load_durable_follows c.args.pass.now l.new.pass l.result l.ensures.table l.ensures.view l.ensures.finds.least).later
 
-pub returns-2-clause-gains : goal.returns-2-clause-gains
-returns-2-clause-gains g c =
+pub returns-then-durable-k-clause-gains : goal.returns-then-durable-k-clause-gains
+returns-then-durable-k-clause-gains g c =
     let l = c.load_durable-durable in
     (load_durable_follows c.args.pass.now l.new.pass l.result l.ensures.table l.ensures.view l.ensures.finds.least).gains
 
-pub returns-2-clause-err : goal.returns-2-clause-err
-returns-2-clause-err g c =
+pub returns-then-durable-k-clause-err : goal.returns-then-durable-k-clause-err
+returns-then-durable-k-clause-err g c =
     let l = c.load_durable-durable in
     record {
       some = omega arith;
@@ -51,20 +51,20 @@ returns-in_err-copy_header-clause-gains g c =
     (load_durable_follows c.args.pass.now l.new.pass l.result l.ensures.table l.ensures.view l.ensures.finds.least) c.copy_header.ensures.follows).gains
 
 -- it is copied
-pub returns-3-clause-later : goal.returns-3-clause-later
-returns-3-clause-later g c =
+pub returns-clause-later : goal.returns-clause-later
+returns-clause-later g c =
     let l = c.load_durable-durable in
     (follows_then 0 c.args.pass.now l.new.pass c.copy_header.new.pass
     (load_durable_follows c.args.pass.now l.new.pass l.result l.ensures.table l.ensures.view l.ensures.finds.least) c.copy_header.ensures.follows).later
 
-pub returns-3-clause-gains : goal.returns-3-clause-gains
-returns-3-clause-gains g c =
+pub returns-clause-gains : goal.returns-clause-gains
+returns-clause-gains g c =
     let l = c.load_durable-durable in
     (follows_then 0 c.args.pass.now l.new.pass c.copy_header.new.pass
     (load_durable_follows c.args.pass.now l.new.pass l.result l.ensures.table l.ensures.view l.ensures.finds.least) c.copy_header.ensures.follows).gains
 
-pub returns-3-clause-ok : goal.returns-3-clause-ok
-returns-3-clause-ok g c =
+pub returns-clause-ok : goal.returns-clause-ok
+returns-clause-ok g c =
     let l = c.load_durable-durable in
     record {
       durable = record {

@@ -28,18 +28,18 @@ width_of-requires-clause-durable g c =
     omega (arith, c.in_ok-check_between.ensures.ok.order, known_durable c.args.pass.now c.check_between.new.pass c.args.t c.args.s c.in_ok-check_between.ensures.ok)
 
 -- it has fewer entries
-pub returns-clause-later : goal.returns-clause-later
-returns-clause-later g c =
+pub returns-then-i-width-clause-later : goal.returns-then-i-width-clause-later
+returns-then-i-width-clause-later g c =
     let w = c.width_of-width in
     (follows_then 0 c.args.pass.now c.check_between.new.pass w.new.pass c.check_between.ensures.follows w.ensures.follows).later
 
-pub returns-clause-gains : goal.returns-clause-gains
-returns-clause-gains g c =
+pub returns-then-i-width-clause-gains : goal.returns-then-i-width-clause-gains
+returns-then-i-width-clause-gains g c =
     let w = c.width_of-width in
     (follows_then 0 c.args.pass.now c.check_between.new.pass w.new.pass c.check_between.ensures.follows w.ensures.follows).gains
 
-pub returns-clause-err : goal.returns-clause-err
-returns-clause-err g c =
+pub returns-then-i-width-clause-err : goal.returns-then-i-width-clause-err
+returns-then-i-width-clause-err g c =
     let w = c.width_of-width in
     let ok = c.in_ok-check_between.ensures.ok in
     record {
@@ -84,20 +84,20 @@ returns-in_err-entry_of-clause-gains g c =
     (follows_then 0 c.args.pass.now c.check_between.new.pass w.new.pass c.check_between.ensures.follows w.ensures.follows) c.entry_of.ensures.follows).gains
 
 -- it is proved
-pub returns-2-clause-later : goal.returns-2-clause-later
-returns-2-clause-later g c =
+pub returns-clause-later : goal.returns-clause-later
+returns-clause-later g c =
     let w = c.width_of-width in
     (follows_then 0 c.args.pass.now w.new.pass c.entry_of.new.pass
     (follows_then 0 c.args.pass.now c.check_between.new.pass w.new.pass c.check_between.ensures.follows w.ensures.follows) c.entry_of.ensures.follows).later
 
-pub returns-2-clause-gains : goal.returns-2-clause-gains
-returns-2-clause-gains g c =
+pub returns-clause-gains : goal.returns-clause-gains
+returns-clause-gains g c =
     let w = c.width_of-width in
     (follows_then 0 c.args.pass.now w.new.pass c.entry_of.new.pass
     (follows_then 0 c.args.pass.now c.check_between.new.pass w.new.pass c.check_between.ensures.follows w.ensures.follows) c.entry_of.ensures.follows).gains
 
-pub returns-2-clause-ok : goal.returns-2-clause-ok
-returns-2-clause-ok g c =
+pub returns-clause-ok : goal.returns-clause-ok
+returns-clause-ok g c =
     let w = c.width_of-width in
     let e = c.entry_of in
     let entry = c.in_ok-entry_of.ensures.entry in

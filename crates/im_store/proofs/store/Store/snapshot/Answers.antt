@@ -10,38 +10,38 @@ use Rattle.im_store.proofs.store.Store.snapshot.Goals as goal
 use Rattle.im_seated_index.proofs.SeatLemmas.{taken_within}
 
 -- fewer are durable
-pub returns-clause-later : goal.returns-clause-later
-returns-clause-later g c =
+pub returns-then-durable-n-clause-later : goal.returns-then-durable-n-clause-later
+returns-then-durable-n-clause-later g c =
     let l = c.load_durable-durable in
     (load_durable_follows c.args.pass.now l.new.pass l.result l.ensures.table l.ensures.view l.ensures.finds.least).later
 
-pub returns-clause-gains : goal.returns-clause-gains
-returns-clause-gains g c =
+pub returns-then-durable-n-clause-gains : goal.returns-then-durable-n-clause-gains
+returns-then-durable-n-clause-gains g c =
     let l = c.load_durable-durable in
     (load_durable_follows c.args.pass.now l.new.pass l.result l.ensures.table l.ensures.view l.ensures.finds.least).gains
 
-pub returns-clause-err : goal.returns-clause-err
-returns-clause-err g c =
+pub returns-then-durable-n-clause-err : goal.returns-then-durable-n-clause-err
+returns-then-durable-n-clause-err g c =
     let l = c.load_durable-durable in
     (load_durable_saw c.args.pass.now l.new.pass l.result l.ensures.table l.ensures.view l.ensures.finds.least, omega arith)
 
 -- fewer are indexed
-pub returns-2-clause-later : goal.returns-2-clause-later
-returns-2-clause-later g c =
+pub returns-then-indexed-n-clause-later : goal.returns-then-indexed-n-clause-later
+returns-then-indexed-n-clause-later g c =
     let l = c.load_durable-durable in
     let i = c.load_indexed-indexed in
     (follows_then 0 c.args.pass.now l.new.pass i.new.pass (load_durable_follows c.args.pass.now l.new.pass l.result l.ensures.table l.ensures.view l.ensures.finds.least)
     (load_indexed_follows l.new.pass i.new.pass i.result i.ensures.table i.ensures.view i.ensures.finds.least)).later
 
-pub returns-2-clause-gains : goal.returns-2-clause-gains
-returns-2-clause-gains g c =
+pub returns-then-indexed-n-clause-gains : goal.returns-then-indexed-n-clause-gains
+returns-then-indexed-n-clause-gains g c =
     let l = c.load_durable-durable in
     let i = c.load_indexed-indexed in
     (follows_then 0 c.args.pass.now l.new.pass i.new.pass (load_durable_follows c.args.pass.now l.new.pass l.result l.ensures.table l.ensures.view l.ensures.finds.least)
     (load_indexed_follows l.new.pass i.new.pass i.result i.ensures.table i.ensures.view i.ensures.finds.least)).gains
 
-pub returns-2-clause-err : goal.returns-2-clause-err
-returns-2-clause-err g c =
+pub returns-then-indexed-n-clause-err : goal.returns-then-indexed-n-clause-err
+returns-then-indexed-n-clause-err g c =
     let l = c.load_durable-durable in
     let i = c.load_indexed-indexed in
     let first = load_durable_follows c.args.pass.now l.new.pass l.result l.ensures.table l.ensures.view l.ensures.finds.least in
@@ -83,8 +83,8 @@ returns-in_err-snapshot-clause-gains g c =
     (follows_then 0 c.args.pass.now i.new.pass c.show.new.pass (follows_then 0 c.args.pass.now l.new.pass i.new.pass first second) third).gains
 
 -- it is shown
-pub returns-3-clause-later : goal.returns-3-clause-later
-returns-3-clause-later g c =
+pub returns-clause-later : goal.returns-clause-later
+returns-clause-later g c =
     let l = c.load_durable-durable in
     let i = c.load_indexed-indexed in
     let first = load_durable_follows c.args.pass.now l.new.pass l.result l.ensures.table l.ensures.view l.ensures.finds.least in
@@ -92,8 +92,8 @@ returns-3-clause-later g c =
     let third = follows_shown i.new.pass c.show.new.pass c.show.ensures.later c.show.ensures.adds c.show.ensures.looks in
     (follows_then 0 c.args.pass.now i.new.pass c.show.new.pass (follows_then 0 c.args.pass.now l.new.pass i.new.pass first second) third).later
 
-pub returns-3-clause-gains : goal.returns-3-clause-gains
-returns-3-clause-gains g c =
+pub returns-clause-gains : goal.returns-clause-gains
+returns-clause-gains g c =
     let l = c.load_durable-durable in
     let i = c.load_indexed-indexed in
     let first = load_durable_follows c.args.pass.now l.new.pass l.result l.ensures.table l.ensures.view l.ensures.finds.least in
@@ -101,8 +101,8 @@ returns-3-clause-gains g c =
     let third = follows_shown i.new.pass c.show.new.pass c.show.ensures.later c.show.ensures.adds c.show.ensures.looks in
     (follows_then 0 c.args.pass.now i.new.pass c.show.new.pass (follows_then 0 c.args.pass.now l.new.pass i.new.pass first second) third).gains
 
-pub returns-3-clause-ok : goal.returns-3-clause-ok
-returns-3-clause-ok g c =
+pub returns-clause-ok : goal.returns-clause-ok
+returns-clause-ok g c =
     let l = c.load_durable-durable in
     let i = c.load_indexed-indexed in
     let show = c.show in
