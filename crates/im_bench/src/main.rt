@@ -11,11 +11,8 @@ mod sharing;
 use counted::Counted;
 use im_digest::Sha;
 use im_disk::locked_folder::LockedFolder;
-use im_edge::clock::FixedClock;
-use im_store::opened::open;
-use sharing::run_threads;
+use sharing::{NotRun, run};
 use std::env;
-use std::marker::Brand;
 use std::process::ExitCode;
 
 // The folder in the working folder whose files are the store's.
@@ -32,17 +29,16 @@ fn main(rt: HostRuntime) -> ExitCode {
         return ExitCode::from(2);
     };
     let disk = Counted::new(LockedFolder::new(&rt, rt.alloc(), STORED, LOCK));
-    let opened = match open(rt.alloc(), &Sha, disk, FixedClock { time: 0 }, 1) {
-        Ok(opened) => opened,
-        Err(failed) => {
-            drop(failed);
+    let (made, disk) = match run(&rt, rt.alloc(), &Sha, disk, threads, each) {
+        Ok(ended) => ended,
+        Err(NotRun::NotOpened) => {
             eprintln!(rt; "not opened").ok();
             return ExitCode::from(3);
         }
-    };
-    let Ok((made, disk)) = run_threads::<_, Brand, _>(&rt, rt.alloc(), opened, threads, each) else {
-        eprintln!(rt; "out of memory").ok();
-        return ExitCode::from(4);
+        Err(NotRun::Memory) => {
+            eprintln!(rt; "out of memory").ok();
+            return ExitCode::from(4);
+        }
     };
     let told = println!(rt;
         "commits {made} batches {} flushes {}",

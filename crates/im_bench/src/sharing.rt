@@ -1,15 +1,14 @@
-ghost use Rattle.std.specs.Prelude.{◌≡◌, ◌<◌, ◌≤◌, ◌-◌};
+ghost use Rattle.std.specs.Prelude.{◌≡◌, ◌<◌, ◌≤◌, ◌-◌, None, Some};
 ghost use Rattle.im_table.specs.Passes.{IsPassOf};
 
-use crate::counted::Counted;
-use im_digest::Sha;
+use im_digest::Hash32;
 use im_disk::disk::Disk;
 use im_draft::drafts::{Attrs, Draft};
 use im_draft::preconditions::Pres;
 use im_draft::refusals::PrepareError;
 use im_edge::clock::FixedClock;
 use im_octet::octets::Octets;
-use im_store::opened::Opened;
+use im_store::opened::{Opened, open};
 use im_store::store::Store;
 use im_table::law::Free;
 use im_table::pass::Pass;
@@ -17,25 +16,65 @@ use im_table::tip_name::TipName;
 use im_tx::prepare::prepare;
 use im_tx::prepared::Prepared;
 use std::alloc::{AllocError, Global};
+use std::marker::Brand;
 use std::sync::Wait;
 use std::thread::{Threads, join};
 
-type Open<'h, D> = Opened<'h, Sha, Counted<D>, FixedClock, Free>;
+type Open<'h, H, D> = Opened<'h, H, D, FixedClock, Free>;
 
-type Shared<'h, D, N> = Store<'h, Sha, Counted<D>, FixedClock, Free, N>;
+type Shared<'h, H, D, N> = Store<'h, H, D, FixedClock, Free, N>;
 
-/// So many threads, 1 to 1000, commit, each of them `each` times: how many of the commits were durable, and the disk.
-pub fn run_threads<D: Disk + Send, N: TipName + Send + Sync, R: Threads + Wait + Sync>(
+/// Why nothing was measured.
+#[derive(Clone, Copy, Debug)]
+pub enum NotRun {
+    /// The disk isn't opened as a store.
+    NotOpened,
+    /// Memory ran out.
+    Memory,
+}
+
+/// Opens a disk as a store of one value log, and has so many threads, 1 to 1000, commit, each of them `each` times: how many of the
+/// commits were durable, and the disk.
+pub fn run<H: Hash32 + Sync, D: Disk + Send, R: Threads + Wait + Sync>(
     rt: &R,
     alloc: Global,
-    opened: Open<'_, D>,
+    hash: &H,
+    disk: D,
     threads: u32,
     each: u64,
-) -> Result<(u64, Counted<D>), AllocError>
+) -> Result<(u64, D), NotRun>
+    requires { threads ≤ 1000 }
+{
+    let opened = match open(alloc, hash, disk, FixedClock { time: 0 }, 1) {
+        Ok(opened) => opened,
+        Err(failed) => {
+            drop(failed);
+            return Err(NotRun::NotOpened);
+        }
+    };
+    match run_threads::<H, D, Brand, R>(rt, alloc, opened, threads, each) {
+        Ok(ended) => Ok(ended),
+        Err(_) => Err(NotRun::Memory),
+    }
+}
+
+// So many threads commit on an opened store, which is closed then.
+fn run_threads<
+    H: Hash32 + Sync,
+    D: Disk + Send,
+    N: TipName + Send + Sync,
+    R: Threads + Wait + Sync,
+>(
+    rt: &R,
+    alloc: Global,
+    opened: Open<'_, H, D>,
+    threads: u32,
+    each: u64,
+) -> Result<(u64, D), AllocError>
     requires tip { (opened.table ≡ N.table) × (opened.found ≡ N.found) × (opened.logs ≡ N.logs) }
-    requires hash { opened.digest ≡ N.digest }
-    requires disk { (opened.synced ≡ N.synced) × (opened.faults ≡ N.faults) }
-    requires clock { (opened.time ≡ N.time) × (opened.given ≡ N.given) }
+    requires hash { H.digest opened.hash ≡ N.digest }
+    requires disk { (D.told opened.disk ≡ N.synced) × (D.faults opened.disk ≡ N.faults) }
+    requires clock { (Some opened.clock.time ≡ N.time) × (None ≡ N.given) }
     requires threads { threads ≤ 1000 }
 {
     let (store, pass) = opened.named::<N>();
@@ -46,10 +85,15 @@ pub fn run_threads<D: Disk + Send, N: TipName + Send + Sync, R: Threads + Wait +
 
 // So many threads commit, one of them by a pass that is split off here, and the others at the same time.
 #[cycle(chain)]
-fn share<D: Disk + Send, N: TipName + Send + Sync, R: Threads + Wait + Sync>(
+fn share<
+    H: Hash32 + Sync,
+    D: Disk + Send,
+    N: TipName + Send + Sync,
+    R: Threads + Wait + Sync,
+>(
     rt: &R,
     alloc: Global,
-    store: &Shared<'_, D, N>,
+    store: &Shared<'_, H, D, N>,
     mut pass: Pass,
     threads: u32,
     each: u64,
@@ -76,10 +120,10 @@ fn share<D: Disk + Send, N: TipName + Send + Sync, R: Threads + Wait + Sync>(
 }
 
 // One thread commits: its pass, and how many of its commits were durable.
-fn commit_all<D: Disk, N: TipName, R: Wait>(
+fn commit_all<H: Hash32, D: Disk, N: TipName, R: Wait>(
     rt: &R,
     alloc: Global,
-    store: &Shared<'_, D, N>,
+    store: &Shared<'_, H, D, N>,
     mut pass: Pass,
     each: u64,
 ) -> (Pass, u64)
@@ -96,10 +140,10 @@ fn commit_all<D: Disk, N: TipName, R: Wait>(
 }
 
 // Whether the commit that sets the key of a number is durable.
-fn is_committed<D: Disk, N: TipName, R: Wait>(
+fn is_committed<H: Hash32, D: Disk, N: TipName, R: Wait>(
     rt: &R,
     alloc: Global,
-    store: &Shared<'_, D, N>,
+    store: &Shared<'_, H, D, N>,
     pass: &mut Pass,
     number: u64,
 ) -> bool

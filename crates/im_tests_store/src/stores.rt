@@ -1,6 +1,8 @@
 //! A store, by one thread and by two: what its calls answer, and what its disk holds then.
 
-ghost use Rattle.std.specs.Prelude.{◌≡◌};
+ghost use Rattle.std.specs.Prelude.{◌≡◌, None, Some};
+ghost use Rattle.im_digest.specs.Digests.{sum_digest};
+ghost use Rattle.im_disk.specs.Recorded.{told_by};
 ghost use Rattle.im_table.specs.Passes.{IsPassOf};
 
 use im_digest::Sum;
@@ -135,9 +137,9 @@ fn one_thread<N: TipName, R: Wait>(
     set: Prepared,
 ) -> Result<bool, Fail>
     requires tip { (opened.table ≡ N.table) × (opened.found ≡ N.found) × (opened.logs ≡ N.logs) }
-    requires hash { opened.digest ≡ N.digest }
-    requires disk { (opened.synced ≡ N.synced) × (opened.faults ≡ N.faults) }
-    requires clock { (opened.time ≡ N.time) × (opened.given ≡ N.given) }
+    requires hash { sum_digest ≡ N.digest }
+    requires disk { (Some (told_by opened.disk) ≡ N.synced) × (opened.disk.faults ≡ N.faults) }
+    requires clock { (Some opened.clock.time ≡ N.time) × (None ≡ N.given) }
 {
     let (store, mut pass) = opened.named::<N>();
     let mut other = store.pass(&mut pass);
@@ -178,9 +180,9 @@ fn halts<N: TipName, R: Wait>(
     two: Prepared,
 ) -> Result<bool, Fail>
     requires tip { (opened.table ≡ N.table) × (opened.found ≡ N.found) × (opened.logs ≡ N.logs) }
-    requires hash { opened.digest ≡ N.digest }
-    requires disk { (opened.synced ≡ N.synced) × (opened.faults ≡ N.faults) }
-    requires clock { (opened.time ≡ N.time) × (opened.given ≡ N.given) }
+    requires hash { sum_digest ≡ N.digest }
+    requires disk { (Some (told_by opened.disk) ≡ N.synced) × (opened.disk.faults ≡ N.faults) }
+    requires clock { (Some opened.clock.time ≡ N.time) × (None ≡ N.given) }
 {
     let (store, mut pass) = opened.named::<N>();
     let fault = match store.commit(rt, alloc, &mut pass, one) {
@@ -238,9 +240,9 @@ fn two_threads<N: TipName + Send + Sync, R: Threads + Wait + Sync>(
     two: Prepared,
 ) -> Result<bool, Fail>
     requires tip { (opened.table ≡ N.table) × (opened.found ≡ N.found) × (opened.logs ≡ N.logs) }
-    requires hash { opened.digest ≡ N.digest }
-    requires disk { (opened.synced ≡ N.synced) × (opened.faults ≡ N.faults) }
-    requires clock { (opened.time ≡ N.time) × (opened.given ≡ N.given) }
+    requires hash { sum_digest ≡ N.digest }
+    requires disk { (Some (told_by opened.disk) ≡ N.synced) × (opened.disk.faults ≡ N.faults) }
+    requires clock { (Some opened.clock.time ≡ N.time) × (None ≡ N.given) }
 {
     let (store, mut main) = opened.named::<N>();
     let first = store.pass(&mut main);
