@@ -120,7 +120,10 @@ pub fn open<'h, H: Hash32, D: Disk, C: Clock, L: Law>(
     ensures back { IfErr result (λ failed. failed.clock ≡ clock) }
 {
     match recover(alloc, hash, disk) {
-        Ok(Recovered { journal, found }) => opened_over(alloc, hash, journal, found, clock, logs),
+        Ok(recovered) => {
+            let Recovered { journal, found } = recovered;
+            opened_over(alloc, hash, journal, found, clock, logs)
+        }
         Err(NotRecovered { disk, error }) => Err(OpenFailed {
             why: error,
             disk,

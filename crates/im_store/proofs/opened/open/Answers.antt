@@ -15,8 +15,8 @@ returns-in-Ok-clause-opens g c =
     let hash : Hash = g.H.Hash32.digest c.args.hash.now in
     let told = g.D.Disk.told in
     let faults = g.D.Disk.faults in
-    let journal = c.in-Ok.journal in
-    let rs = c.in-Ok.found.records.items in
+    let journal = c.in-Ok.recovered.journal in
+    let rs = c.in-Ok.recovered.found.records.items in
     IfOk-weaker c.opened_over.result _ _
     (λ opened all. found_opens told faults hash c.args.disk journal.disk journal.ends.commits rs c.in-Ok.ensures.opens
     (naming_of g.H.Hash32.digest told faults g.C.Clock.constant g.C.Clock.given opened) all.0 (ap g.H.Hash32.digest all.1) (ap told all.2) (ap faults all.2))
@@ -27,8 +27,8 @@ returns-in-Ok-clause-failed g c =
     let hash : Hash = g.H.Hash32.digest c.args.hash.now in
     let told = g.D.Disk.told in
     let faults = g.D.Disk.faults in
-    let journal = c.in-Ok.journal in
-    let behind = fails-behind told faults hash c.args.disk journal.disk journal.ends.commits (txs_of c.in-Ok.found.records.items) c.in-Ok.ensures.opens in
+    let journal = c.in-Ok.recovered.journal in
+    let behind = fails-behind told faults hash c.args.disk journal.disk journal.ends.commits (txs_of c.in-Ok.recovered.found.records.items) c.in-Ok.ensures.opens in
     IfErr-weaker c.opened_over.result _ _
     (λ failed back. subst (λ (why : OpenError). FailsToOpen told faults hash c.args.disk failed.disk why) (sym back.2)
     (subst (λ d. FailsToOpen told faults hash c.args.disk d Memory) (sym back.0) behind))

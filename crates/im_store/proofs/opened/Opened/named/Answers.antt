@@ -1,5 +1,6 @@
 use Rattle.std.proofs.Common.{◌≡◌, ◌≤◌, ◌<◌, ◌∙◌, List, length, refl, ap, sym, subst, arith}
 use Rattle.im_digest.specs.Digests.{Hash}
+use Rattle.im_journal.specs.declared.ends.Ends.{Ends}
 use Rattle.im_linker.specs.Trees.{IsTreeOf}
 use Rattle.im_seated_book.specs.Seats.{HasTimed, HoldsItems}
 use Rattle.im_seated_index.specs.Seats.{HasTaken}
@@ -78,8 +79,9 @@ new-book-requires-clause-items g c =
     let ends = c.self.inside.journal.ends.values in
     let seen : c.split-keeper.result.view.seen ≡ items = ap (λ (w : View). w.seen) c.split-keeper.ensures.right.1 ∙ ap (λ (w : View). w.seen) c.split-indexer.ensures.left.1 ∙ ap (λ (w : View). w.seen) c.split-writer.ensures.left.1 ∙ ap (λ (w : View). w.seen) p.view in
     let holds = opened_holds g.D.Disk.told g.D.Disk.faults hash rs i.batches c.self.inside.journal i.joined_is i.rests i.all book refs p.transactions_are p.book_is p.refs_are p.records_are in
-    subst (λ (l : List LogItem). HoldsItems g.N.TipName.digest g.N.TipName.found l book refs ends) (sym seen)
-    (subst (λ (l : List LogItem). HoldsItems g.N.TipName.digest l items book refs ends) found (subst (λ (h : Hash). HoldsItems h items items book refs ends) digest holds))
+    subst (λ (e : Ends). HoldsItems g.N.TipName.digest g.N.TipName.found c.split-keeper.result.view.seen book refs e.values) (sym c.ends.ensures)
+    (subst (λ (l : List LogItem). HoldsItems g.N.TipName.digest g.N.TipName.found l book refs ends) (sym seen)
+    (subst (λ (l : List LogItem). HoldsItems g.N.TipName.digest l items book refs ends) found (subst (λ (h : Hash). HoldsItems h items items book refs ends) digest holds)))
 
 pub new-book-requires-clause-over : goal.new-book-requires-clause-over
 new-book-requires-clause-over g c =

@@ -21,33 +21,33 @@ use Rattle.im_store.proofs.store.Store.close.Goals as goal
 
 -- each keeper is of the store's tip
 pub join-requires-clause-table : goal.join-requires-clause-table
-join-requires-clause-table g c = c.into_parts.ensures.pass.0 ∙ sym c.args.self.named
+join-requires-clause-table g c = c.into_parts-placed.ensures.pass.0 ∙ sym c.args.self.named
 
 pub join-requires-clause-other : goal.join-requires-clause-other
-join-requires-clause-other g c = c.into_parts-2.ensures.pass.0 ∙ sym c.args.self.named
+join-requires-clause-other g c = c.into_parts-journal.ensures.pass.0 ∙ sym c.args.self.named
 
-pub join-2-requires-clause-table : goal.join-2-requires-clause-table
-join-2-requires-clause-table g c = c.join.ensures.table ∙ c.into_parts.ensures.pass.0 ∙ sym c.args.self.named
+pub join-requires-2-clause-table : goal.join-requires-2-clause-table
+join-requires-2-clause-table g c = c.join.ensures.table ∙ c.into_parts-placed.ensures.pass.0 ∙ sym c.args.self.named
 
-pub join-2-requires-clause-other : goal.join-2-requires-clause-other
-join-2-requires-clause-other g c = c.into_parts-3.ensures.pass.0 ∙ sym c.args.self.named
+pub join-requires-2-clause-other : goal.join-requires-2-clause-other
+join-requires-2-clause-other g c = c.into_parts-indexed.ensures.pass.0 ∙ sym c.args.self.named
 
-pub join-3-requires-clause-table : goal.join-3-requires-clause-table
-join-3-requires-clause-table g c = c.join-2.ensures.table ∙ c.join.ensures.table ∙ c.into_parts.ensures.pass.0 ∙ sym c.args.self.named
+pub join-requires-3-clause-table : goal.join-requires-3-clause-table
+join-requires-3-clause-table g c = c.join-2.ensures.table ∙ c.join.ensures.table ∙ c.into_parts-placed.ensures.pass.0 ∙ sym c.args.self.named
 
-pub join-3-requires-clause-other : goal.join-3-requires-clause-other
-join-3-requires-clause-other g c = c.into_parts-4.ensures.pass.0 ∙ sym c.args.self.named
+pub join-requires-3-clause-other : goal.join-requires-3-clause-other
+join-requires-3-clause-other g c = c.into_parts-linked.ensures.pass.0 ∙ sym c.args.self.named
 
 -- the four keepers have come together: their holder has all roles
 pub take_in-requires-clause-keeper : goal.take_in-requires-clause-keeper
 take_in-requires-clause-keeper g c =
-    let k = c.into_parts.result.2 in
-    let w = c.into_parts-2.result.1 in
-    let i = c.into_parts-3.result.1 in
-    let t = c.into_parts-4.result.1 in (
-      c.join-3.ensures.table ∙ c.join-2.ensures.table ∙ c.join.ensures.table ∙ c.into_parts.ensures.pass.0 ∙ sym c.args.self.named,
-      gathered_roles k w i t c.join.new.pass c.join-2.new.pass c.join-3.new.pass c.into_parts.ensures.pass.1 c.into_parts-2.ensures.pass.1 c.into_parts-3.ensures.pass.1
-          c.into_parts-4.ensures.pass.1 c.join.ensures.view c.join-2.ensures.view c.join-3.ensures.view,
+    let k = c.into_parts-placed.result.2 in
+    let w = c.into_parts-journal.result.1 in
+    let i = c.into_parts-indexed.result.1 in
+    let t = c.into_parts-linked.result.1 in (
+      c.join-3.ensures.table ∙ c.join-2.ensures.table ∙ c.join.ensures.table ∙ c.into_parts-placed.ensures.pass.0 ∙ sym c.args.self.named,
+      gathered_roles k w i t c.join.new.pass c.join-2.new.pass c.join-3.new.pass c.into_parts-placed.ensures.pass.1 c.into_parts-journal.ensures.pass.1 c.into_parts-indexed.ensures.pass.1
+          c.into_parts-linked.ensures.pass.1 c.join.ensures.view c.join-2.ensures.view c.join-3.ensures.view,
     )
 
 pub take_in-requires-clause-passes : goal.take_in-requires-clause-passes
@@ -64,14 +64,14 @@ pub returns : goal.returns
 returns g c =
     let told = g.D.Disk.told in
     let hash = g.N.TipName.digest in
-    let book = c.into_parts.ensures in
-    let journal = c.into_parts-2.ensures in
-    let index = c.into_parts-3.ensures in
-    let tree = c.into_parts-4.ensures in
-    let k = c.into_parts.result.2 in
-    let w = c.into_parts-2.result.1 in
-    let i = c.into_parts-3.result.1 in
-    let t = c.into_parts-4.result.1 in
+    let book = c.into_parts-placed.ensures in
+    let journal = c.into_parts-journal.ensures in
+    let index = c.into_parts-indexed.ensures in
+    let tree = c.into_parts-linked.ensures in
+    let k = c.into_parts-placed.result.2 in
+    let w = c.into_parts-journal.result.1 in
+    let i = c.into_parts-indexed.result.1 in
+    let t = c.into_parts-linked.result.1 in
     let a = c.join.new.pass in
     let b = c.join-2.new.pass in
     let d = c.join-3.new.pass in
@@ -100,7 +100,7 @@ returns g c =
     let whole : AreAll c.args.passes.items → last.view.weight ≡ 1048576 = λ all. omega (arith, c.take_in.ensures.weight, none, all) in
     let disk : c.into_disk.result ≡ kept.disk = c.into_disk.ensures ∙ ap (λ (j : Kept g.row.D.Denot). j.disk) journal.journal in
     let closes : ClosesStore told g.D.Disk.faults hash g.N.TipName.logs g.N.TipName.found g.N.TipName.synced g.N.TipName.faults g.N.TipName.time g.N.TipName.given c.args.passes.items kept.disk
-    (g.C.Clock.constant c.into_parts.result.1) (g.C.Clock.given c.into_parts.result.1) = record {
+    (g.C.Clock.constant c.into_parts-placed.result.1) (g.C.Clock.given c.into_parts-placed.result.1) = record {
       items = items;
       goes_on = book.found;
       history = book.history;
@@ -130,4 +130,4 @@ returns g c =
       timed = book.timed;
     } in
     subst (λ disk. ClosesStore told g.D.Disk.faults hash g.N.TipName.logs g.N.TipName.found g.N.TipName.synced g.N.TipName.faults g.N.TipName.time g.N.TipName.given c.args.passes.items disk
-    (g.C.Clock.constant c.into_parts.result.1) (g.C.Clock.given c.into_parts.result.1)) (sym disk) closes
+    (g.C.Clock.constant c.into_parts-placed.result.1) (g.C.Clock.given c.into_parts-placed.result.1)) (sym disk) closes
