@@ -1,5 +1,7 @@
-use Rattle.std.proofs.Common.{◌∙◌, refl, ap, arith}
+use Rattle.std.proofs.Common.{rules, ◌≡◌, ◌∙◌, refl, ap, subst, sym, arith}
 use Rattle.im_octet.proofs.Common.{if-err}
+use Rattle.im_index.specs.Indexed.{Indexed}
+use Rattle.im_seated_index.specs.Seats.{HasTaken}
 use Rattle.im_store.specs.Reading.{ExplainsSnapshot}
 use Rattle.im_store.specs.declared.errors.SnapshotError.TheVariants as reads
 use Rattle.im_table.specs.declared.view.AllLooks.{AllLooks}
@@ -57,7 +59,16 @@ returns-then-indexed-n-clause-err g c =
 
 -- it has as many
 pub snapshot-requires : goal.snapshot-requires
-snapshot-requires g c = omega (arith, c.show.ensures.taken.0, c.show.ensures.taken.1, c.show.ensures.later.indexed, ap (λ (v : View). v.least.indexed) c.load_indexed-indexed.ensures.view)
+snapshot-requires g c =
+    let same : c.deref.result.now ≡ c.show.new.self = search rules in
+    omega (
+      arith,
+      c.show.ensures.taken.0,
+      c.show.ensures.taken.1,
+      c.show.ensures.later.indexed,
+      ap (λ (v : View). v.least.indexed) c.load_indexed-indexed.ensures.view,
+      ap (λ (i : Indexed). i.taken) same,
+    )
 
 -- memory ran out
 pub returns-in_err-snapshot-clause-err : goal.returns-in_err-snapshot-clause-err
@@ -109,6 +120,7 @@ returns-clause-ok g c =
     let first = load_durable_follows c.args.pass.now l.new.pass l.result l.ensures.table l.ensures.view l.ensures.finds.least in
     let second = load_indexed_follows l.new.pass i.new.pass i.result i.ensures.table i.ensures.view i.ensures.finds.least in
     let within = taken_within show.new.pass.view.seen show.new.self show.ensures.first in
+    let same : c.deref.result.now ≡ show.new.self = search rules in
     record {
       durable = l.result;
       saw_durable = saw_durable_on c.args.pass.now c.args.pass.now l.new.pass show.new.pass l.result (follows_self c.args.pass.now)
@@ -122,5 +134,5 @@ returns-clause-ok g c =
           (ap (λ (x : AllLooks). x.indexed) show.ensures.looks);
       within_indexed = omega arith;
       seen = omega (arith, within, show.ensures.taken.0, show.ensures.taken.1, show.ensures.later.indexed, ap (λ (v : View). v.least.indexed) i.ensures.view);
-      shows = c.in_ok-snapshot.ensures show.new.pass.view.seen show.ensures.first;
+      shows = c.in_ok-snapshot.ensures show.new.pass.view.seen (subst (λ (i : Indexed). HasTaken show.new.pass.view.seen i) (sym same) show.ensures.first);
     }
