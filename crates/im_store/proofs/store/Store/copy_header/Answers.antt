@@ -1,7 +1,8 @@
-use Rattle.std.proofs.Common.{◌≡◌, ◌≤◌, ◌∙◌, ◌-◌, List, length, get_or, ap, sym, arith}
+use Rattle.std.proofs.Common.{rules, ◌≡◌, ◌≤◌, ◌∙◌, ◌-◌, List, length, get_or, ap, sym, arith}
 use Rattle.std.proofs.lemmas.Result.{IfOk-weaker}
 use Rattle.im_model.specs.History.{header_of}
 use Rattle.im_model.specs.declared.headers.Header.{Header}
+use Rattle.im_proof.specs.Built.{headers_of}
 use Rattle.im_proof.proofs.HeaderLemmas.{headers-length, headers-nth}
 use Rattle.im_table.specs.Histories.{history_of}
 use Rattle.im_table.specs.declared.items.LogItem.{LogItem}
@@ -13,6 +14,8 @@ use Rattle.im_store.proofs.store.Store.copy_header.Goals as goal
 pub bounds-headers-at : goal.bounds-headers-at
 bounds-headers-at g c =
     let show = c.show in
+    let book : c.deref.result.now ≡ show.new.self = search rules in
+    let headers = c.headers-headers.ensures ∙ ap (λ (l : List LogItem). headers_of g.N.TipName.digest (history_of l)) book in
     omega (
       arith,
       c.requires.some,
@@ -20,7 +23,7 @@ bounds-headers-at g c =
       show.ensures.later.durable,
       show.ensures.durable,
       show.ensures.seen.1,
-      ap (λ (l : List Header). length l) c.headers-headers.ensures,
+      ap (λ (l : List Header). length l) headers,
       headers-length g.N.TipName.digest (history_of show.new.self),
       history_length show.new.self,
     )
@@ -45,8 +48,10 @@ returns-clause-header g c =
     let header : Header = c.index-headers-at.result in
     let within : c.args.k ≤ length (history_of items) =
     omega (arith, c.requires.durable, show.ensures.later.durable, show.ensures.durable, show.ensures.seen.1, history_length items) in
+    let book : c.deref.result.now ≡ items = search rules in
+    let headers = c.headers-headers.ensures ∙ ap (λ (l : List LogItem). headers_of hash (history_of l)) book in
     let is : header ≡ header_of hash (history_of items) c.args.k =
-    c.index-headers-at.is ∙ ap (λ (l : List Header). get_or l (c.args.k - 1) header) c.headers-headers.ensures
+    c.index-headers-at.is ∙ ap (λ (l : List Header). get_or l (c.args.k - 1) header) headers
     ∙ headers-nth hash (history_of items) c.args.k header c.requires.some within in
     let seen = ap (λ (l : List LogItem). header_of hash (history_of l) c.args.k) (sym show.ensures.seen.0) in
     IfOk-weaker c.try_clone.result _ _ (λ copy same. same ∙ is ∙ seen) c.try_clone.ensures

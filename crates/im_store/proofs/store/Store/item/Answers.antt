@@ -20,11 +20,11 @@ returns-in_err-check_between-clause-err g c =
     c.from_residual.ensures.1
     (entry_explained c.args.pass.now c.check_between.new.pass c.args.t c.args.i c.args.s c.in_err-check_between.field-0.0 c.in_err-check_between.ensures.err)
 
-pub width_of-requires-clause-some : goal.width_of-requires-clause-some
-width_of-requires-clause-some g c = c.in_ok-check_between.ensures.ok.some
+pub width_of-width-requires-clause-some : goal.width_of-width-requires-clause-some
+width_of-width-requires-clause-some g c = c.in_ok-check_between.ensures.ok.some
 
-pub width_of-requires-clause-durable : goal.width_of-requires-clause-durable
-width_of-requires-clause-durable g c =
+pub width_of-width-requires-clause-durable : goal.width_of-width-requires-clause-durable
+width_of-width-requires-clause-durable g c =
     omega (arith, c.in_ok-check_between.ensures.ok.order, known_durable c.args.pass.now c.check_between.new.pass c.args.t c.args.s c.in_ok-check_between.ensures.ok)
 
 -- it has fewer entries

@@ -24,7 +24,8 @@ returns-clause-loads g c =
 
 pub returns-clause-durable : goal.returns-clause-durable
 returns-clause-durable g c =
-    let le = omega (arith, c.show.ensures.later.durable, c.show-2.ensures.later.durable, c.show-3.ensures.later.durable, c.show-3.ensures.durable, c.show-3.ensures.seen.1) in
+    let le : c.args.pass.now.view.least.durable ≤ length c.show-3.new.self =
+    omega (arith, c.show.ensures.later.durable, c.show-2.ensures.later.durable, c.show-3.ensures.later.durable, c.show-3.ensures.durable, c.show-3.ensures.seen.1) in
     (le, omega (arith, le, ap (λ (l : List LogItem). length l) c.show-3.ensures.seen.0))
 
 -- the tree has the tree of the last transaction, by the first look at the book, and no more leaves than the book, by the second

@@ -48,7 +48,7 @@ entry_and_path-requires g c =
     let tx : Transaction = c.index-transactions-at.result in
     let is = transaction_read c.args.book.now c.transactions-transactions.result.now c.args.t tx c.transactions-transactions.ensures c.requires.some within c.index-transactions-at.is in
     let entries : c.as_slice-entries.result.now ≡ (transaction_of (history_of c.args.book.now) c.args.t).entries =
-    c.as_slice-entries.ensures ∙ ap (λ (t : Transaction). t.entries) is in
+    c.as_slice-entries.ensures ∙ ap (λ (t : Transaction). t.entries) (sym c.index-transactions-at.is ∙ is) in
     subst (λ (l : List Entry). c.args.i < length l) (sym entries) c.requires.index
 
 pub returns-in-Ok : goal.returns-in-Ok
@@ -60,7 +60,7 @@ returns-in-Ok g c =
     let tx : Transaction = c.index-transactions-at.result in
     let is = transaction_read c.args.book.now c.transactions-transactions.result.now c.args.t tx c.transactions-transactions.ensures c.requires.some within c.index-transactions-at.is in
     let entries : c.as_slice-entries.result.now ≡ (transaction_of history c.args.t).entries =
-    c.as_slice-entries.ensures ∙ ap (λ (t : Transaction). t.entries) is in
+    c.as_slice-entries.ensures ∙ ap (λ (t : Transaction). t.entries) (sym c.index-transactions-at.is ∙ is) in
     record {
       dual_is = one_dual _ hash history c.args.t c.args.s c.headers.result.now c.in_ok-dual.dual c.args.self.now.hashed c.requires.over.history c.headers.ensures
           c.in_ok-dual.ensures.value;

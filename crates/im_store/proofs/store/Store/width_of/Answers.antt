@@ -1,4 +1,4 @@
-use Rattle.std.proofs.Common.{◌≡◌, ◌≤◌, ◌∙◌, List, length, ap, arith, sym}
+use Rattle.std.proofs.Common.{rules, ◌≡◌, ◌≤◌, ◌∙◌, List, length, ap, arith, sym}
 use Rattle.im_model.specs.History.{transaction_of}
 use Rattle.im_model.specs.declared.transactions.Transaction.{Transaction}
 use Rattle.im_table.specs.Histories.{history_of}
@@ -12,6 +12,8 @@ use Rattle.im_store.proofs.store.Store.width_of.Goals as goal
 pub bounds-transactions-at : goal.bounds-transactions-at
 bounds-transactions-at g c =
     let show = c.show in
+    let book : c.deref.result.now ≡ show.new.self = search rules in
+    let transactions = c.transactions-transactions.ensures ∙ ap (λ (l : List LogItem). history_of l) book in
     omega (
       arith,
       c.requires.some,
@@ -19,7 +21,7 @@ bounds-transactions-at g c =
       show.ensures.later.durable,
       show.ensures.durable,
       show.ensures.seen.1,
-      ap (λ (l : List Transaction). length l) c.transactions-transactions.ensures,
+      ap (λ (l : List Transaction). length l) transactions,
       history_length show.new.self,
     )
 
@@ -38,8 +40,10 @@ pub entry_count-requires : goal.entry_count-requires
 entry_count-requires g c =
     let show = c.show in
     let within : c.args.t ≤ length show.new.self = omega (arith, c.requires.durable, show.ensures.later.durable, show.ensures.durable, show.ensures.seen.1) in
+    let book : c.deref.result.now ≡ show.new.self = search rules in
+    let transactions = c.transactions-transactions.ensures ∙ ap (λ (l : List LogItem). history_of l) book in
     let tx : Transaction = c.index-transactions-at.result in
-    let is = transaction_read show.new.self c.transactions-transactions.result.now c.args.t tx c.transactions-transactions.ensures c.requires.some within c.index-transactions-at.is in
+    let is = transaction_read show.new.self c.transactions-transactions.result.now c.args.t tx transactions c.requires.some within c.index-transactions-at.is in
     let few = entries_few show.new.self c.args.t show.ensures.history c.requires.some within in
     omega (arith, few, ap (λ (t : Transaction). length t.entries) is)
 
@@ -47,7 +51,9 @@ pub returns-clause-width : goal.returns-clause-width
 returns-clause-width g c =
     let show = c.show in
     let within : c.args.t ≤ length show.new.self = omega (arith, c.requires.durable, show.ensures.later.durable, show.ensures.durable, show.ensures.seen.1) in
+    let book : c.deref.result.now ≡ show.new.self = search rules in
+    let transactions = c.transactions-transactions.ensures ∙ ap (λ (l : List LogItem). history_of l) book in
     let tx : Transaction = c.index-transactions-at.result in
-    let is = transaction_read show.new.self c.transactions-transactions.result.now c.args.t tx c.transactions-transactions.ensures c.requires.some within c.index-transactions-at.is in
+    let is = transaction_read show.new.self c.transactions-transactions.result.now c.args.t tx transactions c.requires.some within c.index-transactions-at.is in
     c.entry_count.ensures ∙ ap (λ (t : Transaction). length t.entries) is
     ∙ sym (ap (λ (l : List LogItem). length (transaction_of (history_of l) c.args.t).entries) show.ensures.seen.0)
