@@ -1,4 +1,4 @@
-use Rattle.std.proofs.Common.{◌≤◌, ◌∙◌, ℕ, length, refl, subst, arith}
+use Rattle.std.proofs.Common.{◌≤◌, ◌∙◌, ℕ, length, refl, ap, subst, arith}
 use Rattle.im_octet.proofs.Common.{if-err}
 use Rattle.im_table.proofs.FrontLemmas.{prefix_length}
 use Rattle.im_store.specs.Gains.{HasStepped}

@@ -1,4 +1,5 @@
 use Rattle.std.proofs.Common.{rules, ◌≡◌, ◌≤◌, ◌+◌, ◌-◌, ◌∙◌, ℕ, List, length, min, take, drop, ap, sym, arith}
+use Rattle.im_levels.specs.Leveled.{Stored}
 use Rattle.im_linker.specs.Trees.{alhs_in}
 use Rattle.im_model.specs.History.{alhs_of}
 use Rattle.im_model.proofs.HistoryLemmas.{length-alhs_of}
@@ -74,6 +75,7 @@ link-linked-requires-clause-next g c =
     let reach : end ≤ durable = omega arith in
     let hash = g.N.TipName.digest in
     let all : List (List ℕ) = alhs_in hash book.new.pass.view.seen in
+    let tree_same : c.deref_mut-3.result.now ≡ tree.new.self = search rules in
     let same : c.deref.result.now ≡ book.new.self = search rules in
     let here : c.alhs.result.now ≡ all = c.alhs.ensures ∙ ap (λ (l : List LogItem). alhs_of hash (history_of l)) (same ∙ sym book.ensures.seen.0) in
     let long : length all ≡ length book.new.self =
@@ -83,6 +85,7 @@ link-linked-requires-clause-next g c =
     let count : length c.as_slice.result.now ≡ end - size = ap (λ (l : List (List ℕ)). length l) copy ∙ part_length all size end order (omega arith) in
     copy ∙ ap (λ (n : ℕ). take n (drop size all)) (sym count)
     ∙ ap (λ (n : ℕ). take (length c.as_slice.result.now) (drop n all)) tree.ensures.size.0
+    ∙ ap (λ (t : Stored). take (length c.as_slice.result.now) (drop t.size all)) (sym tree_same)
 
 pub link-linked-requires-clause-within : goal.link-linked-requires-clause-within
 link-linked-requires-clause-within g c =
@@ -102,6 +105,8 @@ link-linked-requires-clause-within g c =
     let reach : end ≤ durable = omega arith in
     let hash = g.N.TipName.digest in
     let all : List (List ℕ) = alhs_in hash book.new.pass.view.seen in
+    let tree_same : c.deref_mut-3.result.now ≡ tree.new.self = search rules in
+    let there : c.deref_mut-3.result.now.size ≡ tree.new.self.size = ap (λ (t : Stored). t.size) tree_same in
     let same : c.deref.result.now ≡ book.new.self = search rules in
     let here : c.alhs.result.now ≡ all = c.alhs.ensures ∙ ap (λ (l : List LogItem). alhs_of hash (history_of l)) (same ∙ sym book.ensures.seen.0) in
     let long : length all ≡ length book.new.self =
@@ -132,6 +137,9 @@ returns-clause-ok g c =
     let reach : end ≤ durable = omega arith in
     let hash = g.N.TipName.digest in
     let all : List (List ℕ) = alhs_in hash book.new.pass.view.seen in
+    let tree_same : c.deref_mut-3.result.now ≡ tree.new.self = search rules in
+    let before : ℕ = c.deref_mut-3.result.now.size in
+    let there : before ≡ tree.new.self.size = ap (λ (t : Stored). t.size) tree_same in
     let same : c.deref.result.now ≡ book.new.self = search rules in
     let here : c.alhs.result.now ≡ all = c.alhs.ensures ∙ ap (λ (l : List LogItem). alhs_of hash (history_of l)) (same ∙ sym book.ensures.seen.0) in
     let long : length all ≡ length book.new.self =
@@ -152,10 +160,10 @@ returns-clause-ok g c =
     let shown : size ≡ tree.new.self.size = tree.ensures.size.0 in
     let linked : tree.new.pass.view.least.linked ≡ size = tree.ensures.size.1 in
     let rose : c.args.pass.now.view.least.linked ≤ tree.new.pass.view.least.linked = tree.ensures.later.linked in
-    let known : c.args.pass.now.view.least.linked ≤ tree.new.self.size = omega arith in
-    let below : tree.new.self.size ≤ durable = omega arith in
-    let is : length c.as_slice.result.now ≡ min (tree.new.self.size + c.args.most) durable - tree.new.self.size = omega arith in
-    linked_answer c.args.pass.now book.new.pass last.new.pass c.args.most tree.new.self.size durable (length c.as_slice.result.now) last.new.self.size last.result d saw known below is
+    let known : c.args.pass.now.view.least.linked ≤ before = omega arith in
+    let below : before ≤ durable = omega arith in
+    let is : length c.as_slice.result.now ≡ min (before + c.args.most) durable - before = omega arith in
+    linked_answer c.args.pass.now book.new.pass last.new.pass c.args.most before durable (length c.as_slice.result.now) last.new.self.size last.result d saw known below is
     last.ensures.size last.ensures.adds
 
 pub returns-clause-later : goal.returns-clause-later

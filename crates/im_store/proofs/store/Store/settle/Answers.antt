@@ -12,7 +12,7 @@ returns-then-placed-n-clause-gains g c =
 pub returns-then-placed-n-clause-answer : goal.returns-then-placed-n-clause-answer
 returns-then-placed-n-clause-answer g c =
     let show = c.show-placed in
-    beyond_settles _ c.args.pass.now show.new.pass show.result c.args.n show.ensures.looks (omega arith)
+    beyond_settles (Unit {0}) c.args.pass.now show.new.pass show.result c.args.n show.ensures.looks (omega arith)
 
 -- the wait is refused
 pub returns-in_err-settle_to-clause-later : goal.returns-in_err-settle_to-clause-later
@@ -52,5 +52,5 @@ pub returns-clause-answer : goal.returns-clause-answer
 returns-clause-answer g c =
     let show = c.show-placed in
     let wait = c.settle_to in
-    ok_settles c.args.pass.now show.new.pass wait.new.pass show.result c.args.n _ _ show.ensures.looks (omega arith) wait.ensures.follows wait.ensures.placed
+    ok_settles {T = Unit {0}} c.args.pass.now show.new.pass wait.new.pass show.result c.args.n _ tt show.ensures.looks (omega arith) wait.ensures.follows wait.ensures.placed
     c.in_ok-settle_to.ensures.ok

@@ -20,7 +20,7 @@ take-requires-clause-next g c =
     let lt : c.loop-k.k < length (history_of book) = omega (arith, history_length book, c.requires.end.1, c.loop-k-test.true) in
     let tx : Transaction = c.index-transactions-k.result in
     let is : tx ≡ get_or (history_of book) c.loop-k.k tx =
-    c.index-transactions-k.is ∙ ap (λ (l : List Transaction). get_or l c.loop-k.k tx) c.transactions-transactions.ensures in
+    c.index-transactions-k.is ∙ ap (λ (l : List Transaction). get_or l c.loop-k.k tx) c.transactions.ensures in
     let here : slice_get (history_of book) c.loop-k.k ≡ Some tx = get_here (history_of book) c.loop-k.k tx lt ∙ ap (λ (t : Transaction). Some t) (sym is) in
     subst (λ n. slice_get (history_of c.loop-k.pass.view.seen) n ≡ Some tx) (sym i.taken) (next_stands book c.loop-k.pass.view.seen c.loop-k.k tx begins here)
 
