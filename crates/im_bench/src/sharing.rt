@@ -85,12 +85,7 @@ fn run_threads<
 
 // So many threads commit, one of them by a pass that is split off here, and the others at the same time.
 #[cycle(chain)]
-fn share<
-    H: Hash32 + Sync,
-    D: Disk + Send,
-    N: TipName + Send + Sync,
-    R: Threads + Wait + Sync,
->(
+fn share<H: Hash32 + Sync, D: Disk + Send, N: TipName + Send + Sync, R: Threads + Wait + Sync>(
     rt: &R,
     alloc: Global,
     store: &Shared<'_, H, D, N>,

@@ -1,5 +1,5 @@
 -- What lies under the locks as a store is opened.
-use Rattle.std.proofs.Common.{◌≡◌, ◌+◌, ◌++◌, ◌∷◌, [], ◌∙◌, ◌≤◌, ◌<◌, ℕ, zero, suc, ℤ, List, length, map, take, true, Option, Some, refl, ap, sym, subst, arith}
+use Rattle.std.proofs.Common.{◌≡◌, ◌+◌, ◌++◌, ◌∷◌, [], ◌∙◌, ◌≤◌, ℕ, zero, suc, ℤ, List, length, map, take, true, Option, Some, refl, ap, sym, subst, arith}
 use Rattle.std.proofs.Math.Seq.{drop-length, take-length}
 use Rattle.std.proofs.lemmas.List.{append-nil, length-map}
 use Rattle.std.specs.List.{All}

@@ -1,4 +1,4 @@
-use Rattle.std.proofs.Common.{◌≡◌, ◌≤◌, ◌<◌, ◌∙◌, List, length, refl, ap, sym, subst, arith}
+use Rattle.std.proofs.Common.{◌≡◌, ◌≤◌, ◌∙◌, List, length, refl, ap, sym, subst, arith}
 use Rattle.im_digest.specs.Digests.{Hash}
 use Rattle.im_journal.specs.declared.ends.Ends.{Ends}
 use Rattle.im_linker.specs.Trees.{IsTreeOf}

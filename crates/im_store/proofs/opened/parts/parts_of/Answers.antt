@@ -1,4 +1,4 @@
-use Rattle.std.proofs.Common.{◌≡◌, ◌++◌, [], ◌∙◌, ℕ, List, length, take, ap, subst, sym, arith}
+use Rattle.std.proofs.Common.{◌≡◌, [], ◌∙◌, ℕ, List, length, take, ap, subst, sym, arith}
 use Rattle.std.proofs.Math.Seq.{take-length}
 use Rattle.im_digest.specs.Digests.{Hash}
 use Rattle.im_index.specs.Indexed.{IsIndexOf}
