@@ -45,7 +45,7 @@ naming_of digest told faults constant given o = record {
   given = given o.clock;
 }
 
--- A disk, which told this, is opened as a store. Its files stand for the history that is found, and for no other, and each image of
+-- A disk, which told this, is opened as a store. Its files stand for the history that is found, and each image of
 -- each moment behind the opening's first sync does. None of its calls failed. Each item is marked as found.
 pub record OpensAs (told : Option Told) (faults : ℕ) (n : Naming) : Type 0 where
   pub stands : (t : Told) → told ≡ Some t → Stands n.digest (seen t) (history_of n.found)

@@ -23,7 +23,7 @@ pub enum CommitError {
     Memory { placed: Option<u64> },
 }
 
-/// Why transactions up to a number aren't durable.
+/// Why it isn't answered that transactions up to a number are durable.
 #[derive(Clone, Copy, Debug, PartialEq, Eq)]
 pub enum SettleError {
     /// Fewer are placed: so many.

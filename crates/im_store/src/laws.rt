@@ -48,19 +48,18 @@ pub fn a_proof_is_a_prove()
         → IsProveStep hash history t (asks.Advance s t) (tells.Advance (dual_between hash history s t) (anchor_between hash history s t)) }
 {}
 
-/// The reads of a snapshot are the event Snap.
+/// What is told of keys at a number is the event Snap, in each machine that holds so much.
 pub fn a_read_is_a_snap()
     ensures { (hash : Hash) (history : List Transaction) (n : ℕ) (question : KeyQuestion) (versions : List Version) → IsSnapStep hash history n question versions }
 {}
 
-/// From one size to another a tree is raised by the event Link, once for each leaf, and an index by the event Index.
+/// From one size to another a machine's tree is raised by the event Link, once for each leaf, and its index by the event Index.
 pub fn growth_is_one_by_one()
     ensures links { (hash : Hash) (before after : ℕ) → before ≤ after → AreLinkSteps hash before after }
     ensures indexes { (hash : Hash) (before after : ℕ) → before ≤ after → AreIndexSteps hash before after }
 {}
 
-/// What a commit asked for that is admitted below the limit isn't refused: its errors are failures of the disk, which are counted, and
-/// want of memory.
+/// What a commit asked for that is admitted at each number from the pass's list on isn't refused.
 pub fn an_admitted_commit_is_not_refused()
     ensures { (asked : Asked) (old new : KnownPass) (why : PlaceError) (at : ℕ)
         → ((n : ℕ) → length old.view.seen ≤ n → place_refusal (history_of (take n new.view.seen)) asked.pres ≡ None)

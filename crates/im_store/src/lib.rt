@@ -89,22 +89,22 @@
 //! | the tree's | its root for a place; the hashing of leaves that are linked; a proof |
 //!
 //! The book's lock is held for no call of the disk. So while a batch is written others place, and the next batch has all that they
-//! placed, up to what memory allows: whoever gets the journal's lock writes for all. Who waits for that lock looks at the word durable all
-//! the while, and goes on as soon as its transaction is. No condition variable is used.
+//! placed, up to what memory allows: whoever gets the journal's lock writes for all. Who waits for that lock looks at the word durable some
+//! thousand times before it sleeps, and goes on where its transaction is by then. No condition variable is used.
 //!
 //! # What calls cost
 //!
 //! | call | waits for | costs |
 //! |---|---|---|
 //! | `hash`, `pass`, `end`, `tip` | nobody | a few steps on words; no memory |
-//! | `commit` | book and tree; then the journal, unless another thread makes it durable | each value hashed twice, each entry and the header once, a few nodes of the tree; two copies of keys and values; its share of a batch: 2 syncs, 3 writes and one for each value log |
+//! | `commit` | book and tree; then the journal, unless another thread makes it durable | each value hashed twice, the root of its entries once, its header by two hashes, a few nodes of the tree; two copies of keys and values; its share of a batch: 2 syncs, 3 writes and one for each value log |
 //! | `settle` | book; then as `commit` | nothing where it is durable, else its share of a batch |
 //! | `link` | book, tree | a copy of 32 octets, one leaf and about one node hashed for each transaction |
 //! | `index` | index; book, for 64 transactions at a time | what `Index::take` costs: keys and values copied, runs merged |
 //! | `snapshot` | index | the runs are shared, none is copied; its reads wait for nobody |
 //! | `header` | book | a copy of a header |
-//! | `prove`, `advance`, `item` | book, tree | for each path or list four digests for each binary digit of the tree's size; two hashes for each header on the way |
-//! | `resolve` | journal | one read of the disk and one hash |
+//! | `prove`, `advance`, `item` | book, tree | for each path or list four digests for each binary digit of the tree's size; two hashes for each header on the way; `item` also hashes the transaction's entries |
+//! | `resolve` | journal | a length and a read asked of the disk, and one hash |
 //! | `close` | nobody | no memory, and no call of the disk |
 //!
 //! All transactions, their headers, Alh and references stay in memory, and so does an index of their keys and values.
@@ -112,7 +112,8 @@
 //! # Errors
 //!
 //! Each type of error says when it comes. Where a call of the disk has failed the store reads and proves what is durable, and writes
-//! nothing until its disk is opened again: calls that write answer `Stopped`. Where memory runs out a call answers `Memory`, and the store
+//! nothing until its disk is opened again: calls that write answer `Stopped`. That nothing is written is kept by the journal under its lock (im_seated_journal);
+//! the clauses here tell which failures a call loaded. Where memory runs out a call answers `Memory`, and the store
 //! goes on.
 #![tactic(auto)]
 

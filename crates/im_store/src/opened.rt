@@ -98,7 +98,7 @@ impl<'h, H: Hash32, D: Disk, C: Clock, L: Law> Opened<'h, H, D, C, L> {
 /// durable, reads and checks them, closes the gate behind the batches that count where that is needed, fills tree and index with all
 /// that is found, and gives a store that has no name yet: `Opened::named`.
 ///
-/// The disk gets what `im_opening::open` says. Each value, entry and leaf is hashed once, and each header twice; each key and each value is
+/// Which calls the disk gets is told by the contract of `im_opening::open`, and by no clause here. Each value, entry and leaf is hashed once, and each header twice; each key and each value is
 /// copied once more, into the index.
 ///
 /// # Errors

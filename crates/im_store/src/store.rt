@@ -100,7 +100,8 @@ impl<'h, H: Hash32, D: Disk, C: Clock, L: Law, N: TipName> Store<'h, H, D, C, L,
         self.tip.split(pass, no_roles(), 1)
     }
 
-    /// Takes a pass in: the longer list, the greater numbers, what both have placed, and the sum of their weights.
+    /// Takes a pass in: a list that begins with both, numbers no smaller than either's, what both have placed, and the sum of their
+    /// weights.
     pub fn end(&self, pass: &mut Pass, other: Pass)
         requires pass { IsPassOf N.table pass.old }
         requires other { IsPassOf N.table other }

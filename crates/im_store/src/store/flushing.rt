@@ -36,7 +36,7 @@ impl<'h, H: Hash32, D: Disk, C: Clock, L: Law, N: TipName> Store<'h, H, D, C, L,
     ///
     /// # Errors
     ///
-    /// `Beyond` exactly where fewer are placed, and tells how many. Where they weren't durable: `DiskFault` where a call of the disk
+    /// `Beyond` exactly where fewer are placed, and tells how many. `DiskFault` where a call of the disk
     /// failed in this call, `Stopped` where one had failed before, and `Memory`, behind which the next call goes on with what was
     /// done of a batch.
     pub fn settle<R: Wait>(
@@ -59,8 +59,8 @@ impl<'h, H: Hash32, D: Disk, C: Clock, L: Law, N: TipName> Store<'h, H, D, C, L,
         Ok(())
     }
 
-    // Waits until the first `n` transactions of the pass's list are durable. Before it has the journal's lock, and while it waits for
-    // it, it looks at the word durable: so all that were written by one thread go on at once, and are placed for its next batch.
+    // Waits until the first `n` transactions of the pass's list are durable. Before it sleeps at the journal's
+    // lock it looks at the word durable some thousand times: so all that were written by one thread go on at once, and are placed for its next batch.
     pub(super) fn settle_to<R: Wait>(
         &self,
         rt: &R,

@@ -116,8 +116,8 @@ impl<'h, H: Hash32, D: Disk, C: Clock, L: Law, N: TipName> Store<'h, H, D, C, L,
     ///
     /// # Errors
     ///
-    /// `Corrupt` where the octets at the reference's place have another digest, which they haven't for a durable transaction of the
-    /// pass's list. `DiskFault` where the disk failed in this call: the store writes nothing from then on. `Memory`.
+    /// `Corrupt` with the digest of octets that aren't the value's, which never comes for a durable transaction of the pass's list. That they
+    /// are those at the reference's place is the journal's to say: no clause here names the disk. `DiskFault` where the disk failed in this call: the store writes nothing from then on. `Memory`.
     pub fn resolve<R: Wait>(
         &self,
         rt: &R,
