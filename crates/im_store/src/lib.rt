@@ -1,10 +1,10 @@
 //! A store that threads share: one history of transactions, committed by any number of threads, made durable in groups, linked into a
-//! hash tree and indexed from behind, with snapshots and proofs meanwhile.
+//! hash tree and indexed from behind by whoever calls `link` and `index` (it has no thread of its own), with snapshots and proofs meanwhile.
 //!
 //! # A whole program
 //!
 //! It opens a disk, two threads commit what was prepared, then the store shows a key, proves the second transaction from the first,
-//! and is closed:
+//! and is closed. Contracts and some imports are left out here:
 //!
 //! ```text
 //! use im_store::opened::{Opened, open};
