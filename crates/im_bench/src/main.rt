@@ -54,7 +54,7 @@ fn main(rt: HostRuntime) -> ExitCode {
 
 // The two numbers of the command line, where it has just them, and 1 to 1000 threads.
 fn numbers(rt: &HostRuntime) -> Option<(u32, u64)>
-    ensures { IfSome result (λ n. n.0 ≤ 1000) }
+    ensures { IfSome result (λ n. (1 ≤ n.0) × (n.0 ≤ 1000)) }
 {
     let args = env::args(rt).ok()?;
     let words = args.collect::<Vec<String>>(rt.alloc()).ok()?;

@@ -1,4 +1,4 @@
-ghost use Rattle.std.specs.Prelude.{◌≡◌, ◌<◌, ◌≤◌, ◌-◌, None, Some};
+ghost use Rattle.std.specs.Prelude.{◌≡◌, ◌<◌, ◌≤◌, All, IfOk, None, Some};
 ghost use Rattle.im_table.specs.Passes.{IsPassOf};
 
 use im_digest::Hash32;
@@ -18,7 +18,7 @@ use im_tx::prepared::Prepared;
 use std::alloc::{AllocError, Global};
 use std::marker::Brand;
 use std::sync::Wait;
-use std::thread::{Threads, join};
+use std::thread::{Threads, for_each_mut};
 
 type Open<'h, H, D> = Opened<'h, H, D, FixedClock, Free>;
 
@@ -43,7 +43,7 @@ pub fn run<H: Hash32 + Sync, D: Disk + Send, R: Threads + Wait + Sync>(
     threads: u32,
     each: u64,
 ) -> Result<(u64, D), NotRun>
-    requires { threads ≤ 1000 }
+    requires { (1 ≤ threads) × (threads ≤ 1000) }
 {
     let opened = match open(alloc, hash, disk, FixedClock { time: 0 }, 1) {
         Ok(opened) => opened,
@@ -75,79 +75,88 @@ fn run_threads<
     requires hash { H.digest opened.hash ≡ N.digest }
     requires disk { (D.told opened.disk ≡ N.synced) × (D.faults opened.disk ≡ N.faults) }
     requires clock { (Some opened.clock.time ≡ N.time) × (None ≡ N.given) }
-    requires threads { threads ≤ 1000 }
+    requires threads { (1 ≤ threads) × (threads ≤ 1000) }
 {
-    let (store, pass) = opened.named::<N>();
-    let (pass, made) = share(rt, alloc, &store, pass, threads, each);
-    let (disk, _) = store.close(vec![in alloc; pass]?);
+    let (store, mut main) = opened.named::<N>();
+    let begun = store.tip(&mut main);
+    let mut passes = passes_of(alloc, &store, &mut main, threads)?;
+    commit_by_all(rt, alloc, &store, passes.as_mut_slice(), threads, each);
+    let made = store.tip(&mut main).saturating_sub(begun);
+    passes.push(main)?;
+    let (disk, _) = store.close(passes);
     Ok((made, disk))
 }
 
-// So many threads commit, one of them by a pass that is split off here, and the others at the same time.
-#[cycle(chain)]
-fn share<H: Hash32 + Sync, D: Disk + Send, N: TipName + Send + Sync, R: Threads + Wait + Sync>(
-    rt: &R,
+// So many passes, split off a pass of more weight.
+fn passes_of<H: Hash32, D: Disk, N: TipName>(
     alloc: Global,
     store: &Shared<'_, H, D, N>,
-    mut pass: Pass,
-    threads: u32,
-    each: u64,
-) -> (Pass, u64)
-    requires pass { IsPassOf N.table pass }
-    requires weight { threads ≤ pass.view.weight }
-    ensures { IsPassOf N.table result.0 }
+    main: &mut Pass,
+    count: u32,
+) -> Result<Vec<Pass>, AllocError>
+    requires pass { IsPassOf N.table main.old }
+    requires weight { count < main.old.view.weight }
+    ensures pass { IsPassOf N.table main.new }
+    ensures passes { IfOk result (λ passes. All (IsPassOf N.table) passes.items) }
 {
-    if threads < 2 {
-        return commit_all(rt, alloc, store, pass, each);
+    let mut passes = Vec::new(alloc);
+    for number in 0..count {
+        passes.push(store.pass(main))?;
     }
-    let other = store.pass(&mut pass);
-    let others = move || -> (Pass, u64)
-        requires { IsPassOf N.table pass × (1 < threads) × (threads - 1 ≤ pass.view.weight) }
-        ensures { IsPassOf N.table result.0 }
-    { share(rt, alloc, store, pass, threads - 1, each) };
-    let one = move || -> (Pass, u64)
-        requires { IsPassOf N.table other }
-        ensures { IsPassOf N.table result.0 }
-    { commit_all(rt, alloc, store, other, each) };
-    let ((mut pass, a), (other, b)) = join(rt, others, one);
-    store.end(&mut pass, other);
-    (pass, a.saturating_add(b))
+    Ok(passes)
 }
 
-// One thread commits: its pass, and how many of its commits were durable.
+// Each pass commits in a thread of its own.
+fn commit_by_all<
+    H: Hash32 + Sync,
+    D: Disk + Send,
+    N: TipName + Send + Sync,
+    R: Threads + Wait + Sync,
+>(rt: &R, alloc: Global, store: &Shared<'_, H, D, N>, passes: &mut [Pass], threads: u32, each: u64)
+    requires passes { All (IsPassOf N.table) passes.old }
+    requires threads { 1 ≤ threads }
+    ensures { All (IsPassOf N.table) passes.new }
+{
+    for_each_mut(
+        rt,
+        passes,
+        threads as usize,
+        &|_, pass: &mut Pass|
+            requires { IsPassOf N.table pass.old }
+            ensures { IsPassOf N.table pass.new }
+        { commit_all(rt, alloc, store, pass, each) },
+    );
+}
+
+// One thread commits.
 fn commit_all<H: Hash32, D: Disk, N: TipName, R: Wait>(
     rt: &R,
     alloc: Global,
     store: &Shared<'_, H, D, N>,
-    mut pass: Pass,
+    pass: &mut Pass,
     each: u64,
-) -> (Pass, u64)
-    requires { IsPassOf N.table pass }
-    ensures { IsPassOf N.table result.0 }
+)
+    requires { IsPassOf N.table pass.old }
+    ensures { IsPassOf N.table pass.new }
 {
-    let mut made = 0u64;
     for number in 0..each {
-        if is_committed(rt, alloc, store, &mut pass, number) {
-            made = made.saturating_add(1);
-        }
+        commit_one(rt, alloc, store, pass, number);
     }
-    (pass, made)
 }
 
-// Whether the commit that sets the key of a number is durable.
-fn is_committed<H: Hash32, D: Disk, N: TipName, R: Wait>(
+// Commits what sets the key of a number, and waits until it is durable. Where that can't be, it isn't counted as durable.
+fn commit_one<H: Hash32, D: Disk, N: TipName, R: Wait>(
     rt: &R,
     alloc: Global,
     store: &Shared<'_, H, D, N>,
     pass: &mut Pass,
     number: u64,
-) -> bool
+)
     requires { IsPassOf N.table pass.old }
     ensures { IsPassOf N.table pass.new }
 {
-    match setting(alloc, number) {
-        Ok(prepared) => store.commit(rt, alloc, pass, prepared).is_ok(),
-        Err(_) => false,
+    if let Ok(prepared) = setting(alloc, number) {
+        drop(store.commit(rt, alloc, pass, prepared));
     }
 }
 
