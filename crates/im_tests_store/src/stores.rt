@@ -12,6 +12,7 @@ use im_draft::preconditions::{Pre, Pres};
 use im_edge::clock::FixedClock;
 use im_format::references::ValueRef;
 use im_octet::octets::Octets;
+use im_store::answers::Receipt;
 use im_store::errors::{CommitError, ItemError, ProveError, SettleError, SnapshotError};
 use im_store::opened::{Opened, open};
 use im_store::store::Store;
@@ -45,6 +46,32 @@ fn setting(alloc: Global, key: &[u8], value: &[u8], pres: Vec<Pre>) -> Result<Pr
     Ok(prepare(alloc, drafts, Pres::from_vec(pres))?)
 }
 
+// The number of a receipt, or 0.
+fn number_of(committed: Result<Receipt, CommitError>) -> u64 {
+    match committed {
+        Ok(receipt) => {
+            let id = receipt.id;
+            drop(receipt);
+            id
+        }
+        Err(error) => {
+            drop(error);
+            0
+        }
+    }
+}
+
+// What a commit tells that halted: how many calls had failed before, 0 where one failed in it, and the number that was placed.
+fn halt_of(committed: Result<Receipt, CommitError>) -> Option<(u64, Option<u64>)> {
+    let halt = match &committed {
+        Err(CommitError::DiskFault { placed }) => Some((0, *placed)),
+        Err(CommitError::Stopped { faults, placed }) => Some((*faults, *placed)),
+        _ => None,
+    };
+    drop(committed);
+    halt
+}
+
 // An empty disk whose changing calls of these numbers fail, opened.
 fn opened<'h>(alloc: Global, hash: &'h Sum, failing: &[u64]) -> Result<Open<'h>, Fail> {
     let disk = MemDisk::new(alloc, Vec::from_slice(alloc, failing)?)?;
@@ -67,16 +94,12 @@ fn grows<N: TipName, R: Wait>(
     requires { IsPassOf N.table pass.old }
     ensures { IsPassOf N.table pass.new }
 {
-    let early = match store.snapshot(rt, alloc, pass, 1) {
-        Err(SnapshotError::NotYet { indexed }) => indexed == 0,
-        _ => false,
-    };
-    let beyond = match store.snapshot(rt, alloc, pass, 2) {
-        Err(SnapshotError::Beyond { durable }) => durable == 1,
-        _ => false,
-    };
+    let early = store.snapshot(rt, alloc, pass, 1).err()
+        == Some(SnapshotError::NotYet { indexed: 0 });
+    let beyond = store.snapshot(rt, alloc, pass, 2).err()
+        == Some(SnapshotError::Beyond { durable: 1 });
     let indexed = store.index(rt, alloc, pass, 5)? == 1;
-    let shown = store.snapshot(rt, alloc, pass, 1).is_ok();
+    let shown = store.snapshot(rt, alloc, pass, 1).err().is_none();
     let still = store.link(rt, alloc, pass, 0)? == 0;
     let linked = store.link(rt, alloc, pass, 9)? == 1;
     Ok(early && beyond && indexed && shown && still && linked)
@@ -92,21 +115,12 @@ fn proves<N: TipName, R: Wait>(
     requires { IsPassOf N.table pass.old }
     ensures { IsPassOf N.table pass.new }
 {
-    let header = match store.header(rt, alloc, pass, 1) {
-        Ok(header) => header.id == 1 && header.bl_tx_id == 0,
-        Err(_) => false,
-    };
-    let none = match store.header(rt, alloc, pass, 0) {
-        Err(ProveError::Order { s, t }) => s == 0 && t == 0,
-        _ => false,
-    };
-    let dual = store.prove(rt, alloc, pass, 1, 1).is_ok();
-    let advance = store.advance(rt, alloc, pass, 1, 1).is_ok();
-    let item = store.item(rt, alloc, pass, 1, 0, 1).is_ok();
-    let width = match store.item(rt, alloc, pass, 1, 1, 1) {
-        Err(ItemError::NoEntry { width }) => width == 1,
-        _ => false,
-    };
+    let header = store.header(rt, alloc, pass, 1).err().is_none();
+    let none = store.header(rt, alloc, pass, 0).err() == Some(ProveError::Order { s: 0, t: 0 });
+    let dual = store.prove(rt, alloc, pass, 1, 1).err().is_none();
+    let advance = store.advance(rt, alloc, pass, 1, 1).err().is_none();
+    let item = store.item(rt, alloc, pass, 1, 0, 1).err().is_none();
+    let width = store.item(rt, alloc, pass, 1, 1, 1).err() == Some(ItemError::NoEntry { width: 1 });
     header && none && dual && advance && item && width
 }
 
@@ -143,10 +157,7 @@ fn one_thread<N: TipName, R: Wait>(
 {
     let (store, mut pass) = opened.named::<N>();
     let mut other = store.pass(&mut pass);
-    let first = match store.commit(rt, alloc, &mut pass, set) {
-        Ok(receipt) => receipt.id == 1,
-        Err(_) => false,
-    };
+    let first = number_of(store.commit(rt, alloc, &mut pass, set)) == 1;
     let tip = store.tip(&mut other) == 1;
     let settled = store.settle(rt, alloc, &mut other, 1).is_ok();
     let grown = grows(rt, alloc, &store, &mut pass)?;
@@ -185,14 +196,8 @@ fn halts<N: TipName, R: Wait>(
     requires clock { (Some opened.clock.time ≡ N.time) × (None ≡ N.given) }
 {
     let (store, mut pass) = opened.named::<N>();
-    let fault = match store.commit(rt, alloc, &mut pass, one) {
-        Err(CommitError::DiskFault { placed }) => placed == Some(1),
-        _ => false,
-    };
-    let stopped = match store.commit(rt, alloc, &mut pass, two) {
-        Err(CommitError::Stopped { faults, placed }) => faults == 1 && placed == Some(2),
-        _ => false,
-    };
+    let fault = halt_of(store.commit(rt, alloc, &mut pass, one)) == Some((0, Some(1)));
+    let stopped = halt_of(store.commit(rt, alloc, &mut pass, two)) == Some((1, Some(2)));
     let settle = store.settle(rt, alloc, &mut pass, 1) == Err(SettleError::Stopped { faults: 1 });
     let beyond = store.settle(rt, alloc, &mut pass, 3) == Err(SettleError::Beyond { placed: 2 });
     let (disk, _) = store.close(vec![in alloc; pass]?);
@@ -224,10 +229,7 @@ fn commit_one<N: TipName, R: Wait>(
     requires { IsPassOf N.table pass }
     ensures { IsPassOf N.table result.0 }
 {
-    let id = match store.commit(rt, alloc, &mut pass, what) {
-        Ok(receipt) => receipt.id,
-        Err(_) => 0,
-    };
+    let id = number_of(store.commit(rt, alloc, &mut pass, what));
     (pass, id)
 }
 
