@@ -82,7 +82,7 @@ fn run_threads<
     let mut passes = passes_of(alloc, &store, &mut main, threads)?;
     commit_by_all(rt, alloc, &store, passes.as_mut_slice(), threads, each);
     let made = store.tip(&mut main).saturating_sub(begun);
-    passes.push(main)?;
+    drop(main);
     let (disk, _) = store.close(passes);
     Ok((made, disk))
 }
