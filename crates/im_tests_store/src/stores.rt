@@ -1,6 +1,6 @@
 //! A store, by one thread and by two: what its calls answer, and what its disk holds then.
 
-ghost use Rattle.std.specs.Prelude.{◌≡◌, None, Some};
+ghost use Rattle.std.specs.Prelude.{◌≡◌, ◌∷◌, [], IfOk, None, Some};
 ghost use Rattle.im_digest.specs.Digests.{sum_digest};
 ghost use Rattle.im_disk.specs.Recorded.{told_by};
 ghost use Rattle.im_table.specs.Passes.{IsPassOf};
@@ -143,13 +143,35 @@ fn reads<N: TipName, R: Wait>(rt: &R, alloc: Global, store: &Shared<'_, N>, pass
     }
 }
 
+// Closes a store by its one pass: how many changing calls its disk got, and how many failed. Where memory runs out no call is told.
+fn closed<N: TipName>(alloc: Global, store: Shared<'_, N>, pass: Pass) -> (u64, u64)
+    requires { IsPassOf N.table pass }
+{
+    match alone(alloc, pass) {
+        Ok(passes) => {
+            let (disk, _) = store.close(passes);
+            let told = (disk.time(), disk.faults());
+            drop(disk);
+            told
+        }
+        Err(_) => {
+            drop(store);
+            (0, 0)
+        }
+    }
+}
+
+// A list of this pass alone.
+fn alone(alloc: Global, pass: Pass) -> Result<Vec<Pass>, AllocError>
+    ensures { IfOk result (λ passes. passes.items ≡ pass ∷ []) }
+{
+    let mut passes = Vec::new(alloc);
+    passes.push(pass)?;
+    Ok(passes)
+}
+
 // One thread commits, grows, proves and reads; another pass, split off before, sees the commit.
-fn one_thread<N: TipName, R: Wait>(
-    rt: &R,
-    alloc: Global,
-    opened: Open<'_>,
-    set: Prepared,
-) -> Result<bool, Fail>
+fn one_thread<N: TipName, R: Wait>(rt: &R, alloc: Global, opened: Open<'_>, set: Prepared) -> bool
     requires tip { (opened.table ≡ N.table) × (opened.found ≡ N.found) × (opened.logs ≡ N.logs) }
     requires hash { sum_digest ≡ N.digest }
     requires disk { (Some (told_by opened.disk) ≡ N.synced) × (opened.disk.faults ≡ N.faults) }
@@ -160,20 +182,17 @@ fn one_thread<N: TipName, R: Wait>(
     let first = number_of(store.commit(rt, alloc, &mut pass, set)) == 1;
     let tip = store.tip(&mut other) == 1;
     let settled = store.settle(rt, alloc, &mut other, 1).is_ok();
-    let grown = grows(rt, alloc, &store, &mut pass)?;
+    let grown = grows(rt, alloc, &store, &mut pass).unwrap_or(false);
     let proved = proves(rt, alloc, &store, &mut other);
     let read = reads(rt, alloc, &store, &mut pass);
     store.end(&mut pass, other);
-    let (disk, clock) = store.close(vec![in alloc; pass]?);
-    let calls = disk.time() == 9;
-    drop(disk);
-    let _ = clock;
-    Ok(first && tip && settled && grown && proved && read && calls)
+    let (calls, faults) = closed(alloc, store, pass);
+    first && tip && settled && grown && proved && read && calls == 9 && faults == 0
 }
 
 fn run_one<R: Wait>(rt: &R, alloc: Global) -> Result<bool, Fail> {
     let set = setting(alloc, b"k", b"v", Vec::new(alloc))?;
-    one_thread::<Brand, R>(rt, alloc, opened(alloc, &Sum, &[])?, set)
+    Ok(one_thread::<Brand, R>(rt, alloc, opened(alloc, &Sum, &[])?, set))
 }
 
 #[test]
@@ -189,7 +208,7 @@ fn halts<N: TipName, R: Wait>(
     opened: Open<'_>,
     one: Prepared,
     two: Prepared,
-) -> Result<bool, Fail>
+) -> bool
     requires tip { (opened.table ≡ N.table) × (opened.found ≡ N.found) × (opened.logs ≡ N.logs) }
     requires hash { sum_digest ≡ N.digest }
     requires disk { (Some (told_by opened.disk) ≡ N.synced) × (opened.disk.faults ≡ N.faults) }
@@ -200,16 +219,14 @@ fn halts<N: TipName, R: Wait>(
     let stopped = halt_of(store.commit(rt, alloc, &mut pass, two)) == Some((1, Some(2)));
     let settle = store.settle(rt, alloc, &mut pass, 1) == Err(SettleError::Stopped { faults: 1 });
     let beyond = store.settle(rt, alloc, &mut pass, 3) == Err(SettleError::Beyond { placed: 2 });
-    let (disk, _) = store.close(vec![in alloc; pass]?);
-    let failed = disk.faults() == 1;
-    drop(disk);
-    Ok(fault && stopped && settle && beyond && failed)
+    let (_, faults) = closed(alloc, store, pass);
+    fault && stopped && settle && beyond && faults == 1
 }
 
 fn run_halts<R: Wait>(rt: &R, alloc: Global) -> Result<bool, Fail> {
     let one = setting(alloc, b"k", b"v", Vec::new(alloc))?;
     let two = setting(alloc, b"l", b"w", Vec::new(alloc))?;
-    halts::<Brand, R>(rt, alloc, opened(alloc, &Sum, &[8])?, one, two)
+    Ok(halts::<Brand, R>(rt, alloc, opened(alloc, &Sum, &[8])?, one, two))
 }
 
 #[test]
@@ -240,7 +257,7 @@ fn two_threads<N: TipName + Send + Sync, R: Threads + Wait + Sync>(
     opened: Open<'_>,
     one: Prepared,
     two: Prepared,
-) -> Result<bool, Fail>
+) -> bool
     requires tip { (opened.table ≡ N.table) × (opened.found ≡ N.found) × (opened.logs ≡ N.logs) }
     requires hash { sum_digest ≡ N.digest }
     requires disk { (Some (told_by opened.disk) ≡ N.synced) × (opened.disk.faults ≡ N.faults) }
@@ -264,10 +281,9 @@ fn two_threads<N: TipName + Send + Sync, R: Threads + Wait + Sync>(
     let all = store.tip(&mut main) == 1;
     store.end(&mut main, first);
     store.end(&mut main, second);
-    let (disk, _) = store.close(vec![in alloc; main]?);
-    drop(disk);
+    let (_, faults) = closed(alloc, store, main);
     let one_of_two = if a == 0 { b == 1 } else { a == 1 && b == 0 };
-    Ok(all && one_of_two)
+    all && one_of_two && faults == 0
 }
 
 fn run_two<R: Threads + Wait + Sync>(rt: &R, alloc: Global) -> Result<bool, Fail> {
@@ -275,7 +291,7 @@ fn run_two<R: Threads + Wait + Sync>(rt: &R, alloc: Global) -> Result<bool, Fail
     let one = setting(alloc, b"k", b"v", vec![in alloc; Pre::Missing { key }]?)?;
     let key = Octets::from_slice(alloc, b"k")?;
     let two = setting(alloc, b"k", b"w", vec![in alloc; Pre::Missing { key }]?)?;
-    two_threads::<Brand, R>(rt, alloc, opened(alloc, &Sum, &[])?, one, two)
+    Ok(two_threads::<Brand, R>(rt, alloc, opened(alloc, &Sum, &[])?, one, two))
 }
 
 #[test]
