@@ -1,6 +1,6 @@
-//! A store, by one thread and by two: what its calls answer, and what its disk holds then.
+//! A store by one thread: what its calls answer, and what its disk holds then.
 
-ghost use Rattle.std.specs.Prelude.{◌≡◌, ◌∷◌, [], IfOk, None, Some};
+ghost use Rattle.std.specs.Prelude.{◌≡◌, None, Some};
 ghost use Rattle.im_digest.specs.Digests.{sum_digest};
 ghost use Rattle.im_disk.specs.Recorded.{told_by};
 ghost use Rattle.im_table.specs.Passes.{IsPassOf};
@@ -25,7 +25,6 @@ use std::alloc::{AllocError, Global};
 use std::marker::Brand;
 use std::sync::Wait;
 use std::test::Fail;
-use std::thread::{Threads, join};
 
 type Open<'h> = Opened<'h, Sum, MemDisk, FixedClock, Free>;
 
@@ -143,35 +142,13 @@ fn reads<N: TipName, R: Wait>(rt: &R, alloc: Global, store: &Shared<'_, N>, pass
     }
 }
 
-// Closes a store by its one pass: how many changing calls its disk got, and how many failed. Where memory runs out no call is told.
-fn closed<N: TipName>(alloc: Global, store: Shared<'_, N>, pass: Pass) -> (u64, u64)
-    requires { IsPassOf N.table pass }
-{
-    match alone(alloc, pass) {
-        Ok(passes) => {
-            let (disk, _) = store.close(passes);
-            let told = (disk.time(), disk.faults());
-            drop(disk);
-            told
-        }
-        Err(_) => {
-            drop(store);
-            (0, 0)
-        }
-    }
-}
-
-// A list of this pass alone.
-fn alone(alloc: Global, pass: Pass) -> Result<Vec<Pass>, AllocError>
-    ensures { IfOk result (λ passes. passes.items ≡ pass ∷ []) }
-{
-    let mut passes = Vec::new(alloc);
-    passes.push(pass)?;
-    Ok(passes)
-}
-
 // One thread commits, grows, proves and reads; another pass, split off before, sees the commit.
-fn one_thread<N: TipName, R: Wait>(rt: &R, alloc: Global, opened: Open<'_>, set: Prepared) -> bool
+fn one_thread<N: TipName, R: Wait>(
+    rt: &R,
+    alloc: Global,
+    opened: Open<'_>,
+    set: Prepared,
+) -> Result<bool, Fail>
     requires tip { (opened.table ≡ N.table) × (opened.found ≡ N.found) × (opened.logs ≡ N.logs) }
     requires hash { sum_digest ≡ N.digest }
     requires disk { (Some (told_by opened.disk) ≡ N.synced) × (opened.disk.faults ≡ N.faults) }
@@ -182,17 +159,20 @@ fn one_thread<N: TipName, R: Wait>(rt: &R, alloc: Global, opened: Open<'_>, set:
     let first = number_of(store.commit(rt, alloc, &mut pass, set)) == 1;
     let tip = store.tip(&mut other) == 1;
     let settled = store.settle(rt, alloc, &mut other, 1).is_ok();
-    let grown = grows(rt, alloc, &store, &mut pass).unwrap_or(false);
+    let grown = grows(rt, alloc, &store, &mut pass)?;
     let proved = proves(rt, alloc, &store, &mut other);
     let read = reads(rt, alloc, &store, &mut pass);
     store.end(&mut pass, other);
-    let (calls, faults) = closed(alloc, store, pass);
-    first && tip && settled && grown && proved && read && calls == 9 && faults == 0
+    let (disk, clock) = store.close(vec![in alloc; pass]?);
+    let calls = disk.time() == 9;
+    drop(disk);
+    let _ = clock;
+    Ok(first && tip && settled && grown && proved && read && calls)
 }
 
 fn run_one<R: Wait>(rt: &R, alloc: Global) -> Result<bool, Fail> {
     let set = setting(alloc, b"k", b"v", Vec::new(alloc))?;
-    Ok(one_thread::<Brand, R>(rt, alloc, opened(alloc, &Sum, &[])?, set))
+    one_thread::<Brand, R>(rt, alloc, opened(alloc, &Sum, &[])?, set)
 }
 
 #[test]
@@ -208,7 +188,7 @@ fn halts<N: TipName, R: Wait>(
     opened: Open<'_>,
     one: Prepared,
     two: Prepared,
-) -> bool
+) -> Result<bool, Fail>
     requires tip { (opened.table ≡ N.table) × (opened.found ≡ N.found) × (opened.logs ≡ N.logs) }
     requires hash { sum_digest ≡ N.digest }
     requires disk { (Some (told_by opened.disk) ≡ N.synced) × (opened.disk.faults ≡ N.faults) }
@@ -219,83 +199,20 @@ fn halts<N: TipName, R: Wait>(
     let stopped = halt_of(store.commit(rt, alloc, &mut pass, two)) == Some((1, Some(2)));
     let settle = store.settle(rt, alloc, &mut pass, 1) == Err(SettleError::Stopped { faults: 1 });
     let beyond = store.settle(rt, alloc, &mut pass, 3) == Err(SettleError::Beyond { placed: 2 });
-    let (_, faults) = closed(alloc, store, pass);
-    fault && stopped && settle && beyond && faults == 1
+    let (disk, _) = store.close(vec![in alloc; pass]?);
+    let failed = disk.faults() == 1;
+    drop(disk);
+    Ok(fault && stopped && settle && beyond && failed)
 }
 
 fn run_halts<R: Wait>(rt: &R, alloc: Global) -> Result<bool, Fail> {
     let one = setting(alloc, b"k", b"v", Vec::new(alloc))?;
     let two = setting(alloc, b"l", b"w", Vec::new(alloc))?;
-    Ok(halts::<Brand, R>(rt, alloc, opened(alloc, &Sum, &[8])?, one, two))
+    halts::<Brand, R>(rt, alloc, opened(alloc, &Sum, &[8])?, one, two)
 }
 
 #[test]
 fn behind_a_call_of_the_disk_that_failed_nothing_is_written(rt: HostRuntime) -> Result<(), Fail> {
     assert!(rt; run_halts(&rt, rt.alloc())?);
-    Ok(())
-}
-
-// A commit by a thread that owns its pass: the pass, and the number of its receipt, or 0.
-fn commit_one<N: TipName, R: Wait>(
-    rt: &R,
-    alloc: Global,
-    store: &Shared<'_, N>,
-    mut pass: Pass,
-    what: Prepared,
-) -> (Pass, u64)
-    requires { IsPassOf N.table pass }
-    ensures { IsPassOf N.table result.0 }
-{
-    let id = number_of(store.commit(rt, alloc, &mut pass, what));
-    (pass, id)
-}
-
-// Two threads commit the same key, which must be missing: one is placed, and the other is refused behind it.
-fn two_threads<N: TipName + Send + Sync, R: Threads + Wait + Sync>(
-    rt: &R,
-    alloc: Global,
-    opened: Open<'_>,
-    one: Prepared,
-    two: Prepared,
-) -> bool
-    requires tip { (opened.table ≡ N.table) × (opened.found ≡ N.found) × (opened.logs ≡ N.logs) }
-    requires hash { sum_digest ≡ N.digest }
-    requires disk { (Some (told_by opened.disk) ≡ N.synced) × (opened.disk.faults ≡ N.faults) }
-    requires clock { (Some opened.clock.time ≡ N.time) × (None ≡ N.given) }
-{
-    let (store, mut main) = opened.named::<N>();
-    let first = store.pass(&mut main);
-    let second = store.pass(&mut main);
-    let shared = &store;
-    let ((first, a), (second, b)) = join(
-        rt,
-        move || -> (Pass, u64)
-            requires { IsPassOf N.table first }
-            ensures { IsPassOf N.table result.0 }
-        { commit_one(rt, alloc, shared, first, one) },
-        move || -> (Pass, u64)
-            requires { IsPassOf N.table second }
-            ensures { IsPassOf N.table result.0 }
-        { commit_one(rt, alloc, shared, second, two) },
-    );
-    let all = store.tip(&mut main) == 1;
-    store.end(&mut main, first);
-    store.end(&mut main, second);
-    let (_, faults) = closed(alloc, store, main);
-    let one_of_two = if a == 0 { b == 1 } else { a == 1 && b == 0 };
-    all && one_of_two && faults == 0
-}
-
-fn run_two<R: Threads + Wait + Sync>(rt: &R, alloc: Global) -> Result<bool, Fail> {
-    let key = Octets::from_slice(alloc, b"k")?;
-    let one = setting(alloc, b"k", b"v", vec![in alloc; Pre::Missing { key }]?)?;
-    let key = Octets::from_slice(alloc, b"k")?;
-    let two = setting(alloc, b"k", b"w", vec![in alloc; Pre::Missing { key }]?)?;
-    Ok(two_threads::<Brand, R>(rt, alloc, opened(alloc, &Sum, &[])?, one, two))
-}
-
-#[test]
-fn of_two_threads_that_ask_for_a_missing_key_one_has_it(rt: HostRuntime) -> Result<(), Fail> {
-    assert!(rt; run_two(&rt, rt.alloc())?);
     Ok(())
 }
