@@ -4,6 +4,7 @@
 
 pub mod built;
 pub mod checks;
+mod counted;
 pub mod growths;
 pub mod laws;
 pub mod list_trees;

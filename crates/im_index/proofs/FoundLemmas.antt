@@ -15,7 +15,7 @@ use Rattle.im_model.specs.declared.transactions.Transaction.{Transaction}
 use Rattle.im_versions.specs.Versions.{all_versions, is_of, last_version, versions_of}
 use Rattle.im_versions.specs.declared.versions.Version.{Version}
 use Rattle.im_versions.proofs.ListLemmas.{filter-none}
-use Rattle.im_octet.proofs.Common.{last-push, all-left, filter-swap}
+use Rattle.im_octet.proofs.Common.{and-true, last-push, all-left, filter-swap}
 use Rattle.im_versions.proofs.ScanLemmas.{same-key}
 use Rattle.im_versions.proofs.VersionLemmas.{versions-upto}
 use Rattle.im_index.specs.Marks.{found, is_upto, numbered, upto_by}
@@ -23,16 +23,6 @@ use Rattle.im_index.specs.Indexed.{AreRunsOf}
 use Rattle.im_index.specs.Runs.{HasDigits}
 use Rattle.im_index.proofs.HoldLemmas.{held-same, joined, joined-push}
 use Rattle.im_index.proofs.OrderLemmas.{no-lower}
-
-and-true : (b : Bool) → (b && true) ≡ b
-and-true true = refl
-and-true false = refl
-
-and-turned : (a b : Bool) → (a && b) ≡ (b && a)
-and-turned true true = refl
-and-turned true false = refl
-and-turned false true = refl
-and-turned false false = refl
 
 -- two filters are one of both tests
 pub filter-both : {X : Type 0} (p q : X → Bool) (xs : List X) → filter p (filter q xs) ≡ filter (λ x. p x && q x) xs

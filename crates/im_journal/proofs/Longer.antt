@@ -1,5 +1,5 @@
 -- A history that goes on: what a journal holds of it stays.
-use Rattle.std.proofs.Common.{◌≡◌, ◌≤◌, ◌+◌, ◌∙◌, ℕ, List, [], ◌∷◌, ◌++◌, length, take, drop, refl, sym, ap, subst, arith, length-append, length-drop}
+use Rattle.std.proofs.Common.{◌≡◌, ◌≤◌, ◌+◌, ◌∙◌, ℕ, List, [], ◌∷◌, ◌++◌, length, take, drop, refl, sym, ap, subst, arith, append_assoc, length-append, length-drop}
 use Rattle.std.proofs.lemmas.List.{drop-append-le, take_at, take-append-le}
 use Rattle.std.specs.Prelude.{Option}
 use Rattle.im_digest.specs.Digests.{Hash}
@@ -17,6 +17,11 @@ use Rattle.im_journal.specs.Kept.{IsAtRest, IsInBatch, Kept}
 use Rattle.im_journal.specs.declared.ends.Ends.{Ends}
 use Rattle.im_journal.proofs.Limits.{first_number}
 use Rattle.im_journal.proofs.Prefixes.{alh_front}
+
+-- the records of batches, and of batches behind them
+pub joined_both : (a b : List (List Record)) → joined (a ++ b) ≡ joined a ++ joined b
+joined_both [] b = refl
+joined_both (batch ∷ a) b = ap (λ (l : List Record). batch ++ l) (joined_both a b) ∙ sym (append_assoc batch (joined a) (joined b))
 
 -- what follows doesn't change an Alh
 pub alh_longer : (hash : Hash) (history more : List Transaction) (k : ℕ) → 1 ≤ k → k ≤ length history → alh_of hash history k ≡ alh_of hash (history ++ more) k

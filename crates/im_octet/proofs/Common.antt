@@ -89,6 +89,11 @@ filter-swap {A} p q (x ∷ xs) = elim (q x) as (λ (b : Bool). q x ≡ b → fil
   ]
 ] refl
 
+-- both of a test and of what holds is the test
+pub and-true : (b : Bool) → (b && true) ≡ b
+and-true true = refl
+and-true false = refl
+
 -- what is neither less nor greater is equal
 pub tied-by : (o : Ordering) → (not (is_lt (ordering_reverse o)) && not (is_lt o)) ≡ is_eq o
 tied-by Less = refl

@@ -24,17 +24,12 @@ use Rattle.im_table.proofs.HistoryLemmas.{history_front, history_length, map_fro
 use Rattle.im_journal.specs.Holding.{AreFirst}
 use Rattle.im_journal.specs.Kept.{Kept}
 use Rattle.im_journal.proofs.Limits.{first_number}
-use Rattle.im_journal.proofs.Longer.{records_longer}
+use Rattle.im_journal.proofs.Longer.{joined_both, records_longer}
 use Rattle.im_journal.proofs.Prefixes.{records_both}
 use Rattle.im_seated_journal.specs.Calls.{IsFilled, MakesBatches, MakesPart, calls_of_batch, calls_of_batches}
 use Rattle.im_seated_journal.specs.Seats.{HasMade, ServesItems, refs_in}
 use Rattle.im_seated_journal.proofs.BeginLemmas.{fresh_behind, put_behind, records_of_front, refs_joined, take_refs}
 use Rattle.im_seated_journal.proofs.ServeLemmas.{first_of}
-
--- the records of batches, and of batches behind them
-joined_both : (a b : List (List Record)) → joined (a ++ b) ≡ joined a ++ joined b
-joined_both [] b = refl
-joined_both (batch ∷ a) b = ap (λ (l : List Record). batch ++ l) (joined_both a b) ∙ sym (append_assoc batch (joined a) (joined b))
 
 module _ {A : Type 0} where
   -- two lists that are the first elements of one, one behind the other

@@ -22,15 +22,11 @@ use Rattle.im_journal.proofs.Limits.{first_number}
 use Rattle.im_journal.proofs.Mids.{first_at}
 use Rattle.im_journal.proofs.Prefixes.{put_more, refs_more}
 use Rattle.im_journal.proofs.Turns.{stands, stands_batches}
+use Rattle.im_journal.proofs.Longer.{joined_both}
 use Rattle.im_ledger.specs.Commits.{CommitMakes}
 use Rattle.im_ledger.specs.Histories.{HasCommitted, IsKept, KeptHistory}
 use Rattle.im_session.specs.Put.{ArePutBehind, IsKeptPut, StandsPut}
 use Rattle.im_session.proofs.CallLemmas.{calls-grown}
-
--- the records of batches, and of batches behind them
-joined-both : (a b : List (List Record)) → joined (a ++ b) ≡ joined a ++ joined b
-joined-both [] b = refl
-joined-both (batch ∷ a) b = ap (λ (l : List Record). batch ++ l) (joined-both a b) ∙ sym (append_assoc batch (joined a) (joined b))
 
 -- those of batches of one record each
 joined-ones : (rs : List Record) → joined (map (λ r. r ∷ []) rs) ≡ rs
@@ -44,7 +40,7 @@ behind-next w n batches r p last =
     let one : List (List Record) = (r ∷ []) ∷ [] in
     let ones : List (List Record) = map (λ x. x ∷ []) p.rest in
     let together : joined batches ≡ joined p.first ++ p.rest =
-    ap joined p.batches_are ∙ joined-both p.first ones ∙ ap (λ (l : List Record). joined p.first ++ l) (joined-ones p.rest) in
+    ap joined p.batches_are ∙ joined_both p.first ones ∙ ap (λ (l : List Record). joined p.first ++ l) (joined-ones p.rest) in
     let refs : refs_of (joined batches) ≡ refs_of (joined p.first) ++ refs_of p.rest = ap refs_of together ∙ refs_more (joined p.first) p.rest in
     let number : length (joined batches) + 1 ≡ n + 1 + length p.rest = omega (arith, ap length together, length-append (joined p.first) p.rest, p.found_are) in
     let P : ℕ → Type 0 = λ m. AreAppended w m 0 (refs_of (joined p.first) ++ refs_of p.rest) r.refs in

@@ -1,5 +1,6 @@
 -- A pass behind two calls, and one of which nothing is split off.
 use Rattle.std.proofs.Common.{◌≡◌, ◌∙◌, ◌&&◌, ◌-◌, ℕ, Bool, true, false, refl, ap, arith}
+use Rattle.im_octet.proofs.Common.{and-true}
 use Rattle.im_table.specs.Known.{KnownPass}
 use Rattle.im_table.specs.Passes.{Later}
 use Rattle.im_table.specs.Views.{left_of, no_roles, without}
@@ -20,16 +21,12 @@ later_both a b c first next = record {
 }
 
 -- without none of them roles are as they were
-with_all : (b : Bool) → (b && true) ≡ b
-with_all true = refl
-with_all false = refl
-
 without_none : (r : Roles) → without r no_roles ≡ r
 without_none r =
-    ap (λ (b : Bool). record { journal = b; index = r.index && true; book = r.book && true; tree = r.tree && true }) (with_all r.journal)
-    ∙ ap (λ (b : Bool). record { journal = r.journal; index = b; book = r.book && true; tree = r.tree && true }) (with_all r.index)
-    ∙ ap (λ (b : Bool). record { journal = r.journal; index = r.index; book = b; tree = r.tree && true }) (with_all r.book)
-    ∙ ap (λ (b : Bool). record { journal = r.journal; index = r.index; book = r.book; tree = b }) (with_all r.tree)
+    ap (λ (b : Bool). record { journal = b; index = r.index && true; book = r.book && true; tree = r.tree && true }) (and-true r.journal)
+    ∙ ap (λ (b : Bool). record { journal = r.journal; index = b; book = r.book && true; tree = r.tree && true }) (and-true r.index)
+    ∙ ap (λ (b : Bool). record { journal = r.journal; index = r.index; book = b; tree = r.tree && true }) (and-true r.book)
+    ∙ ap (λ (b : Bool). record { journal = r.journal; index = r.index; book = r.book; tree = b }) (and-true r.tree)
 
 -- where nothing is split off a view stays as it was
 pub left_none : (v : View) → left_of no_roles 0 v ≡ v

@@ -22,7 +22,7 @@ pub trait TipName {
     // The hash under which it was opened.
     ghost digest: { Hash };
 
-    // What the disk told behind the first sync of the opening, where it tells.
+    // What the disk told as `open` returned, where it tells.
     ghost synced: { Option Told };
 
     // How often the disk had failed when it was opened.
