@@ -17,6 +17,7 @@ ghost use Rattle.im_journal.specs.declared.batches.Step.TheVariants.{Idle, Stagi
 
 use crate::batches::{Batch, Step, step_behind};
 use crate::errors::JournalError;
+use crate::journal::Journal;
 use crate::pieces::plan_of;
 use crate::steps::{open_gate, put_next, put_pieces, seal_pieces, settle_gate};
 use im_disk::disk::{Disk, DiskError};
