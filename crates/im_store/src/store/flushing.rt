@@ -27,6 +27,9 @@ use std::thread::yield_now;
 // free. A look takes about a microsecond: so a batch on a fast disk is awaited awake, and on a slow one asleep.
 const LOOKS: u32 = 1000;
 
+// How often others are let run before a batch is begun: some microseconds where no other thread waits for a processor.
+const TURNS: u32 = 50;
+
 // How often a batch is halved where memory runs out: the last one is of one transaction, since there are at most 2^20.
 const HALVINGS: u32 = 21;
 
@@ -185,6 +188,7 @@ impl<'h, H: Hash32, D: Disk, C: Clock, L: Law, N: TipName> Store<'h, H, D, C, L,
         ensures durable { pass.new.view.looks.durable ≡ pass.old.view.looks.durable }
         ensures placed { length pass.old.view.seen ≤ pass.new.view.looks.placed.last }
     {
+        let_others_place();
         self.begin(rt, alloc, pass, journal)?;
         self.finish(alloc, pass, journal)
     }
@@ -273,6 +277,14 @@ impl<'h, H: Hash32, D: Disk, C: Clock, L: Law, N: TipName> Store<'h, H, D, C, L,
         journal.stage(alloc, &self.tip, pass)?;
         journal.seal(&self.tip, pass)?;
         journal.settle(&self.tip, pass)
+    }
+}
+
+// Lets other threads run before a batch is begun: those that the batch before has just set free place their next transactions
+// meanwhile, and these go with it.
+fn let_others_place() {
+    for _turn in 0..TURNS {
+        yield_now();
     }
 }
 
