@@ -13,7 +13,7 @@ ghost use Rattle.im_table.specs.References.{IsLawful};
 ghost use Rattle.im_table.specs.Views.{looked_placed};
 ghost use Rattle.im_tx.specs.Asked.{Asked, IsAsked};
 ghost use Rattle.im_book.specs.Booked.{last_bl};
-ghost use Rattle.im_seated_book.specs.Seats.{HasTimed, HoldsItems, IsPlaced, IsPut, MayBePlaced};
+ghost use Rattle.im_seated_book.specs.Seats.{HasTimed, HaveReferences, HoldsItems, IsPlaced, IsPut, MayBePlaced};
 
 use crate::copies::{part, records_of};
 use im_book::book::Book;
@@ -111,6 +111,7 @@ impl<C: Clock, N: TipName> SeatedBook<C, N> {
         ensures seen { result.2.view.seen ≡ self }
         ensures found { GoesOn N.found self }
         ensures history { IsHistory (history_of self) }
+        ensures referred { HaveReferences N.digest 1 self }
     {
         let SeatedBook {
             book,
@@ -166,7 +167,8 @@ impl<C: Clock, N: TipName> SeatedBook<C, N> {
     }
 
     /// Shows the whole list to a pass, and answers how long it is, which is the word placed as loaded here. It is a history
-    /// that begins with what was found, the law holds of it, and its values lie where the rule of the value logs puts them.
+    /// that begins with what was found, the law holds of it, its values lie where the rule of the value logs puts them, and
+    /// its references have their digests and lengths.
     pub fn show<L: Law>(&mut self, tip: &Tip<L>, pass: &mut Pass) -> u64
         requires tip { tip.now.table ≡ N.table }
         requires pass { IsPassOf N.table pass.old }
@@ -180,6 +182,7 @@ impl<C: Clock, N: TipName> SeatedBook<C, N> {
         ensures found { GoesOn N.found self.new }
         ensures history { IsHistory (history_of self.new) }
         ensures meets { IsLawful L.allows tip.now.logs self.new }
+        ensures referred { HaveReferences N.digest 1 self.new }
     {
         tip.fetch(&mut self.pass, pass);
         let placed = tip.load_placed(pass);

@@ -1,6 +1,7 @@
 ghost use Rattle.std.specs.Prelude.{◌≡◌, ◌<◌, ◌≤◌, ◌+◌, List, Some, take, slice_get, IfOk, OnErr, OnOk};
 ghost use Rattle.im_table.specs.Histories.{history_of};
 ghost use Rattle.im_table.specs.Passes.{IsPassOf, IsKeeper, Later, AddsNothing, index_role};
+ghost use Rattle.im_table.specs.Views.{looked_indexed};
 ghost use Rattle.im_table.specs.declared.items.LogItem.{LogItem};
 ghost use Rattle.im_index.specs.Indexed.{IsSnapshotOf};
 ghost use Rattle.im_seated_index.specs.Seats.{HasTaken};
@@ -81,21 +82,23 @@ impl<N: TipName> SeatedIndex<N> {
         &self.index
     }
 
-    /// Shows what was taken to a pass, and answers how many transactions these are: the first ones of the pass's list.
+    /// Shows what was taken to a pass, and answers how many transactions these are, which is the word indexed as loaded
+    /// here: the first ones of the pass's list.
     pub fn show<L: Law>(&mut self, tip: &Tip<L>, pass: &mut Pass) -> u64
         requires tip { tip.now.table ≡ N.table }
         requires pass { IsPassOf N.table pass.old }
         ensures same { self.new ≡ self.old }
         ensures later { Later pass.old pass.new }
         ensures adds { AddsNothing pass.old pass.new }
-        ensures looks { pass.new.view.looks ≡ pass.old.view.looks }
+        ensures looks { pass.new.view.looks ≡ (looked_indexed pass.old.view result).looks }
         ensures taken { (result ≡ self.new.taken) × (pass.new.view.least.indexed ≡ result) }
         ensures durable { result ≤ pass.new.view.least.durable }
         ensures first { HasTaken pass.new.view.seen self.new }
     {
         tip.fetch(&mut self.pass, pass);
+        let taken = tip.load_indexed(pass);
         self.pass = tip.split(pass, index_role(), 0);
-        self.index.taken()
+        taken
     }
 
     /// Takes the next transaction, which is the one of the pass's list behind those that were taken, and one that the

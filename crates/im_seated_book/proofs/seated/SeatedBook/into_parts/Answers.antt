@@ -3,7 +3,7 @@ use Rattle.im_model.specs.History.{IsHistory}
 use Rattle.im_model.specs.declared.transactions.Transaction.{Transaction}
 use Rattle.im_table.specs.Histories.{history_of, GoesOn}
 use Rattle.im_table.specs.declared.items.LogItem.{LogItem}
-use Rattle.im_seated_book.specs.Seats.{HasTimed}
+use Rattle.im_seated_book.specs.Seats.{HasTimed, HaveReferences}
 use Rattle.im_seated_book.proofs.seated.SeatedBook.into_parts.Goals as goal
 
 pub returns-clause-book : goal.returns-clause-book
@@ -20,3 +20,6 @@ pub returns-clause-history : goal.returns-clause-history
 returns-clause-history g c =
     subst (λ (l : List LogItem). IsHistory (history_of l)) c.self.view_is
     (subst (λ (l : List Transaction). IsHistory l) c.self.invariant.1.transactions c.self.invariant.1.is_book.history)
+
+pub returns-clause-referred : goal.returns-clause-referred
+returns-clause-referred g c = subst (λ (l : List LogItem). HaveReferences g.N.TipName.digest 1 l) c.self.view_is c.self.invariant.1.referred

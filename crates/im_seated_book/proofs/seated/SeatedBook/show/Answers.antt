@@ -5,7 +5,7 @@ use Rattle.im_table.specs.Histories.{history_of, GoesOn}
 use Rattle.im_table.specs.References.{IsLawful}
 use Rattle.im_table.specs.declared.items.LogItem.{LogItem}
 use Rattle.im_book.specs.Booked.{last_bl}
-use Rattle.im_seated_book.specs.Seats.{HasTimed, HoldsItems}
+use Rattle.im_seated_book.specs.Seats.{HasTimed, HaveReferences, HoldsItems}
 use Rattle.im_seated_book.proofs.seated.SeatedBook.show.Goals as goal
 
 pub invariant_of-self : goal.invariant_of-self
@@ -32,6 +32,11 @@ returns-clause-history g c =
     let same : c.split.result.view.seen ≡ c.self.inside.pass.view.seen = search rules in
     subst (λ (l : List LogItem). IsHistory (history_of l)) (sym same)
     (subst (λ (l : List Transaction). IsHistory l) c.self.invariant.1.transactions c.self.invariant.1.is_book.history)
+
+pub returns-clause-referred : goal.returns-clause-referred
+returns-clause-referred g c =
+    let same : c.split.result.view.seen ≡ c.self.inside.pass.view.seen = search rules in
+    subst (λ (l : List LogItem). HaveReferences g.N.TipName.digest 1 l) (sym same) c.self.invariant.1.referred
 
 pub returns-clause-meets : goal.returns-clause-meets
 returns-clause-meets g c =
