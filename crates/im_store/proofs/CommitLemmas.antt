@@ -106,7 +106,7 @@ module _ (time : Option ℤ) (asked : Asked) (old : KnownPass) where
       subst (λ (e : CommitError). Explains time asked old new e) (sym is) (of cause why)
     where
       of : (cause : JournalError) → ExplainsHalt old new cause → Explains time asked old new (halted cause (Some n))
-      of halts.DiskFault why = (placed, why)
+      of halts.DiskFault why = (placed, why.0, why.1)
       of (halts.Stopped faults) why = (placed, why)
       of halts.Memory why = placed
 
@@ -120,7 +120,7 @@ module _ (time : Option ℤ) (asked : Asked) (old : KnownPass) where
       none = record { why = why; at = at; judged = judged; fewer = fewer }
 
       of : (cause : JournalError) → ExplainsHalt old new cause → Explains time asked old new (halted cause None)
-      of halts.DiskFault told = (none, told)
+      of halts.DiskFault told = (none, told.0, told.1)
       of (halts.Stopped faults) told = (none, told)
       of halts.Memory told = tt
 
@@ -138,7 +138,7 @@ module _ (time : Option ℤ) (asked : Asked) (old : KnownPass) where
       of (place.Modified key tx) judged = record { judged = judged; durable = durable }
 
 -- what a part of a call tells of failures is told of the call
-pub halt_on : (old mid new : KnownPass) (cause : JournalError) → ((f : ℕ) → SawFailures mid new f → SawFailures old new f) → ExplainsHalt mid new cause → ExplainsHalt old new cause
-halt_on old mid new halts.DiskFault on why = why
-halt_on old mid new (halts.Stopped faults) on why = on faults why
-halt_on old mid new halts.Memory on why = tt
+pub halt_on : (old mid new : KnownPass) (cause : JournalError) → old.view.least.failed ≤ mid.view.least.failed → ((f : ℕ) → SawFailures mid new f → SawFailures old new f) → ExplainsHalt mid new cause → ExplainsHalt old new cause
+halt_on old mid new halts.DiskFault more on why = (why.0, omega (arith, more, why.1))
+halt_on old mid new (halts.Stopped faults) more on why = on faults why
+halt_on old mid new halts.Memory more on why = tt

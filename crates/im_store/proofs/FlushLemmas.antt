@@ -1,5 +1,5 @@
 -- How a wait for durability goes on.
-use Rattle.std.proofs.Common.{◌≡◌, ◌-◌, ◌∙◌, ℕ, refl, ap, sym, subst, arith, Result, Ok, Err}
+use Rattle.std.proofs.Common.{◌≡◌, ◌≤◌, ◌-◌, ◌∙◌, ℕ, refl, ap, sym, subst, arith, Result, Ok, Err}
 use Rattle.std.specs.Prelude.{IfErr, IsErrAnd, IsErrOf, OnErr, OnOk}
 use Rattle.im_journal.specs.Faults.{IsCounted}
 use Rattle.im_journal.specs.declared.errors.JournalError.{JournalError}
@@ -19,25 +19,26 @@ counted_told was now old new (Err (halts.Stopped n)) none counted = omega (arith
 counted_told was now old new (Err halts.Memory) none counted = omega (arith, none, counted.failures (λ e. absurd (cc (e))))
 
 -- a call goes on with another: its answer's failures, its explanation, and its loads are those of the other
-pub explains_on : {T : Type 0} (old mid new : KnownPass) (r : Result T JournalError) → LooksOn old.view.looks mid.view.looks
+pub explains_on : {T : Type 0} (old mid new : KnownPass) (r : Result T JournalError) → old.view.least.failed ≤ mid.view.least.failed → LooksOn old.view.looks mid.view.looks
     → IfErr r (λ cause. ExplainsHalt mid new cause) → IfErr r (λ cause. ExplainsHalt old new cause)
-explains_on old mid new (Ok x) looks why = tt
-explains_on old mid new (Err cause) looks why = halt_on old mid new cause (λ f saw. saw_failures_on old mid new f looks saw) why
+explains_on old mid new (Ok x) more looks why = tt
+explains_on old mid new (Err cause) more looks why = halt_on old mid new cause more (λ f saw. saw_failures_on old mid new f looks saw) why
 
 pub unloaded_on : {T : Type 0} (r : Result T JournalError) (a b c : Looks) → b ≡ a → ((HasHalted r → ⊥) → c ≡ b) → (HasHalted r → ⊥) → c ≡ a
 unloaded_on r a b c first rest going = rest going ∙ first
 
--- a step of the journal that doesn't stop: where it failed the pass knows of it
-pub counted_halt : (T : Type 0) (old new : KnownPass) (was now before after : ℕ) (cause : JournalError) → IsCounted {T = T} was now before after (Err cause)
-    → new.view.least.failed ≡ after → ((n : ℕ) → IsErrOf {T = T} (Err cause) (halts.Stopped n) → ⊥) → ExplainsHalt old new cause
-counted_halt T old new was now before after halts.DiskFault counted known going = omega (arith, known, counted.more refl)
-counted_halt T old new was now before after (halts.Stopped n) counted known going = absurd (going n refl)
-counted_halt T old new was now before after halts.Memory counted known going = tt
+-- a step of the journal that doesn't stop: where it failed the pass knows of it, and knew of none before
+pub counted_halt : (T : Type 0) (old new : KnownPass) (was now before after : ℕ) (cause : JournalError) → old.view.least.failed ≡ 0
+    → IsCounted {T = T} was now before after (Err cause) → new.view.least.failed ≡ after → ((n : ℕ) → IsErrOf {T = T} (Err cause) (halts.Stopped n) → ⊥)
+    → ExplainsHalt old new cause
+counted_halt T old new was now before after halts.DiskFault none counted known going = (omega (arith, known, counted.more refl), none)
+counted_halt T old new was now before after (halts.Stopped n) none counted known going = absurd (going n refl)
+counted_halt T old new was now before after halts.Memory none counted known going = tt
 
-pub counted_explains : {T : Type 0} (old new : KnownPass) (was now before after : ℕ) (r : Result T JournalError) → IsCounted was now before after r
+pub counted_explains : {T : Type 0} (old new : KnownPass) (was now before after : ℕ) (r : Result T JournalError) → old.view.least.failed ≡ 0 → IsCounted was now before after r
     → new.view.least.failed ≡ after → ((n : ℕ) → IsErrOf r (halts.Stopped n) → ⊥) → IfErr r (λ cause. ExplainsHalt old new cause)
-counted_explains old new was now before after (Ok x) counted known going = tt
-counted_explains {T} old new was now before after (Err cause) counted known going = counted_halt T old new was now before after cause counted known going
+counted_explains old new was now before after (Ok x) none counted known going = tt
+counted_explains {T} old new was now before after (Err cause) none counted known going = counted_halt T old new was now before after cause none counted known going
 
 -- what holds whatever the answer is
 pub always_ok : {T E : Type 0} (r : Result T E) (P : Type 0) → P → OnOk r P

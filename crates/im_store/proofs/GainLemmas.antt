@@ -94,6 +94,16 @@ looks_placed old new n e = record {
   failed = (let x : new.failed.count ≡ old.looks.failed.count = ap (λ (l : AllLooks). l.failed.count) e in omega (arith, x));
 }
 
+-- by one load of the word indexed
+pub looks_indexed : (old : View) (new : AllLooks) (n : ℕ) → new ≡ (looked_indexed old n).looks → LooksOn old.looks new
+looks_indexed old new n e = record {
+  placed = (let x : new.placed.count ≡ old.looks.placed.count = ap (λ (l : AllLooks). l.placed.count) e in omega (arith, x));
+  durable = (let x : new.durable.count ≡ old.looks.durable.count = ap (λ (l : AllLooks). l.durable.count) e in omega (arith, x));
+  linked = (let x : new.linked.count ≡ old.looks.linked.count = ap (λ (l : AllLooks). l.linked.count) e in omega (arith, x));
+  indexed = (let x : new.indexed.count ≡ old.looks.indexed.count + 1 = ap (λ (l : AllLooks). l.indexed.count) e in omega (arith, x));
+  failed = (let x : new.failed.count ≡ old.looks.failed.count = ap (λ (l : AllLooks). l.failed.count) e in omega (arith, x));
+}
+
 -- a pass that nothing happened to
 pub later_self : (p : KnownPass) → Later p p
 later_self p = record {
@@ -140,6 +150,24 @@ follows_placed n old new later adds looks = record {
   later = later;
   gains = gains_none old new adds;
   looks = looks_placed old.view new.view.looks n looks;
+}
+
+-- and one that loads the word indexed
+pub follows_indexed : (n : ℕ) (old new : KnownPass) → Later old new → AddsNothing old new → new.view.looks ≡ (looked_indexed old.view n).looks → HasStepped 0 old new
+follows_indexed n old new later adds looks = record {
+  later = later;
+  gains = gains_none old new adds;
+  looks = looks_indexed old.view new.view.looks n looks;
+}
+
+pub shown_indexed : (n : ℕ) (old new : KnownPass) → Later old new → new.view.looks ≡ (looked_indexed old.view n).looks → new.view.least.indexed ≡ n → SawIndexed old new n
+shown_indexed n old new later looks known = record {
+  loaded = record {
+    more = (let x : new.view.looks.indexed.count ≡ old.view.looks.indexed.count + 1 = ap (λ (l : AllLooks). l.indexed.count) looks in omega (arith, x));
+    last = ap (λ (l : AllLooks). l.indexed.last) looks;
+  };
+  least = omega (arith, later.indexed, known);
+  known = omega (arith, known);
 }
 
 -- a step of the journal, which may tell a failure

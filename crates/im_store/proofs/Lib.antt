@@ -1,4 +1,5 @@
 pub mod GainLemmas
+pub mod ListLemmas
 pub mod FrontLemmas
 pub mod CommitLemmas
 pub mod EventLemmas

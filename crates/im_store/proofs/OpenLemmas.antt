@@ -136,8 +136,9 @@ module _ {D : Type 0} (told : D → Option Told) (faults : D → ℕ) (hash : Ha
       let at : gate ≡ gate_of (length batches) = behind (repaired opened.0 gate (after Synced t)) opened.2 batches (subst H (same ∙ opened.2) held) in
       subst (λ (o : Option Told). IsOpenedBy (gate_of (length batches)) t o) (sym same) (subst (λ (g : ℕ). IsOpenedBy g t (told now)) at opened)
 
-  pub found_opens : (n : Naming) → n.found ≡ items_of rs → n.digest ≡ hash → n.synced ≡ told now → n.faults ≡ faults now → OpensAs (told before) (faults before) n
-  found_opens n found digest synced failed =
+  pub found_opens : (n : Naming) → n.found ≡ items_of rs → n.digest ≡ hash → n.synced ≡ told now → n.faults ≡ faults now → IsHistory (txs_of rs) → AreRecords hash (txs_of rs) 1 rs
+      → OpensAs (told before) (faults before) n
+  found_opens n found digest synced failed history records =
       let same : txs_of rs ≡ history_of n.found = sym (ap (λ (l : List LogItem). history_of l) found ∙ found_history rs) in
       record {
         stands = λ t is. subst (λ (h : Hash). Stands h (seen t) (history_of n.found)) (sym digest)
@@ -150,6 +151,9 @@ module _ {D : Type 0} (told : D → Option Told) (faults : D → ℕ) (hash : Ha
         grows = subst (λ (o : Option Told). Grows (told before) o) (sym synced) opens.grows;
         same = failed ∙ opens.same;
         marked = subst (λ (l : List LogItem). All (λ x. x.found ≡ true) l) (sym found) (found_marked rs);
+        history = subst (λ (l : List Transaction). IsHistory l) same history;
+        referred = subst (λ (l : List LogItem). HaveReferences n.digest 1 l) (sym found)
+            (subst (λ (h : Hash). HaveReferences h 1 (items_of rs)) (sym digest) (found_referred hash (txs_of rs) 1 rs records));
       }
 
 -- the words and parts of it

@@ -49,7 +49,7 @@ module _ (time : Option ℤ) (asked : Asked) (old : KnownPass) where
       let here = refused_later time asked old mid new why at judged later in
       ⊎_elim (λ t. refused_told time asked old new why at error t.0 here t.1)
       (λ t. halted_refused time asked old new t.0 error why at t.1 here (saw_fewer_on old mid new at before looks t.3)
-      (halt_on old mid new t.0 (λ f saw. saw_failures_on old mid new f looks saw) t.2))
+      (halt_on old mid new t.0 before.failed (λ f saw. saw_failures_on old mid new f looks saw) t.2))
       told
 
   -- it was judged behind no more than the pass has seen

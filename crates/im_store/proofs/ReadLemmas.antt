@@ -32,15 +32,18 @@ read_fault old mid new was now before after loaded r counted adds looks known vi
     let faults : new.view.faults ≡ mid.view.faults = ap (λ (v : View). v.faults) view in
     let count : new.view.looks.failed.count ≡ mid.view.looks.failed.count + 1 = ap (λ (v : View). v.looks.failed.count) view in
     let same : mid.view.looks.failed.count ≡ old.view.looks.failed.count = ap (λ (l : AllLooks). l.failed.count) looks in
-    elim (cases_lt before (2 ^ 64 - 1)) [
-      | inl below ↦ inl (omega (arith, faults, adds.faults, counted.more fault, below))
-      | inr full ↦ (
-          let whole : loaded ≡ 2 ^ 64 - 1 = omega (arith, counted.more fault, full, least, most) in
-          inr (
-            omega (arith, faults, adds.faults, counted.more fault, full),
-            record { more = omega (arith, count, same); last = ap (λ (v : View). v.looks.failed.last) view ∙ whole },
-          ))
-    ]
+    record {
+      known = (let knows : new.view.least.failed ≡ loaded = ap (λ (v : View). v.least.failed) view in omega (arith, knows, counted.more fault, least));
+      told = elim (cases_lt before (2 ^ 64 - 1)) [
+        | inl below ↦ inl (omega (arith, faults, adds.faults, counted.more fault, below))
+        | inr full ↦ (
+            let whole : loaded ≡ 2 ^ 64 - 1 = omega (arith, counted.more fault, full, least, most) in
+            inr (
+              omega (arith, faults, adds.faults, counted.more fault, full),
+              record { more = omega (arith, count, same); last = ap (λ (v : View). v.looks.failed.last) view ∙ whole },
+            ))
+      ];
+    }
 
 -- any other answer tells none
 pub read_other : {T : Type 0} (old mid new : KnownPass) (was now before after loaded : ℕ) (r : Result T ValueError) → IsReadCounted was now before after r

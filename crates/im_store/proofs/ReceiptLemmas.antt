@@ -1,5 +1,5 @@
 -- What a commit answers, from what it placed and what became of that.
-use Rattle.std.proofs.Common.{◌≡◌, [], ◌∷◌, ℕ, ℤ, List, Option, Some, None, Result, Ok, Err, refl, ap, sym, subst, arith, ◌∙◌}
+use Rattle.std.proofs.Common.{◌≡◌, ◌≤◌, [], ◌∷◌, ℕ, ℤ, List, Option, Some, None, Result, Ok, Err, refl, ap, sym, subst, arith, ◌∙◌}
 use Rattle.std.specs.Prelude.{IfErr, IfOk}
 use Rattle.im_digest.specs.Digests.{Hash}
 use Rattle.im_journal.specs.declared.errors.JournalError.{JournalError}
@@ -109,9 +109,9 @@ receipt_is hash time asked old mid new n (Ok receipt) placed later is = record {
 
 -- and without a receipt it is known why
 pub receipt_why : (time : Option ℤ) (asked : Asked) (old mid new : KnownPass) (n : ℕ) (r : Result Receipt CommitError) → HasPlaced time asked old mid n → Later mid new
-    → LooksOn old.view.looks mid.view.looks → IfErr r (λ error. (cause : JournalError) × (error ≡ halted cause (Some n)) × ExplainsHalt mid new cause)
-    → IfErr r (λ error. Explains time asked old new error)
-receipt_why time asked old mid new n (Ok receipt) placed later looks why = tt
-receipt_why time asked old mid new n (Err error) placed later looks why =
+    → old.view.least.failed ≤ mid.view.least.failed → LooksOn old.view.looks mid.view.looks
+    → IfErr r (λ error. (cause : JournalError) × (error ≡ halted cause (Some n)) × ExplainsHalt mid new cause) → IfErr r (λ error. Explains time asked old new error)
+receipt_why time asked old mid new n (Ok receipt) placed later more looks why = tt
+receipt_why time asked old mid new n (Err error) placed later more looks why =
     halted_placed time asked old new why.0 error n why.1 (placed_later time asked old mid new n placed later)
-    (halt_on old mid new why.0 (λ f saw. saw_failures_on old mid new f looks saw) why.2)
+    (halt_on old mid new why.0 more (λ f saw. saw_failures_on old mid new f looks saw) why.2)

@@ -68,13 +68,13 @@ abbrev pub IsHalted : Option ℤ → Asked → KnownPass → KnownPass → Optio
 IsHalted time asked old new None = IsNotPlaced asked old new
 IsHalted time asked old new (Some n) = HasPlaced time asked old new n
 
--- why there is no receipt; where calls of the disk failed the pass knows of one
+-- why there is no receipt; where a call of the disk failed in the commit the pass knows of one, and knew of none before
 abbrev pub Explains : Option ℤ → Asked → KnownPass → KnownPass → CommitError → Type 0
 Explains time asked old new (Missing key at) = IsRefusedDurably asked old new (place.Missing key) at
 Explains time asked old new (Exists key tx at) = IsRefusedDurably asked old new (place.Exists key tx) at
 Explains time asked old new (Modified key tx at) = IsRefusedDurably asked old new (place.Modified key tx) at
 Explains time asked old new (Full at) = IsRefusedDurably asked old new place.Full at
-Explains time asked old new (DiskFault placed) = IsHalted time asked old new placed × (1 ≤ new.view.least.failed)
+Explains time asked old new (DiskFault placed) = IsHalted time asked old new placed × (1 ≤ new.view.least.failed) × (old.view.least.failed ≡ 0)
 Explains time asked old new (Stopped faults placed) = IsHalted time asked old new placed × SawFailures old new faults
 Explains time asked old new (Memory None) = Unit {0}
 Explains time asked old new (Memory (Some n)) = HasPlaced time asked old new n

@@ -1,7 +1,8 @@
 -- What a call adds to its pass.
-use Rattle.std.specs.Prelude.{◌≡◌, ◌+◌, ◌++◌, ◌∷◌, [], ℕ, List, Option, None, Some}
+use Rattle.std.specs.Prelude.{◌≡◌, ◌+◌, ◌++◌, ◌∷◌, [], ℕ, List, max, Option, None, Some}
 use Rattle.im_table.specs.Known.{KnownPass}
 use Rattle.im_table.specs.Passes.{Later}
+use Rattle.im_table.specs.declared.view.Least.{Least}
 use Rattle.im_store.specs.Loads.{LooksOn}
 
 -- these numbers of transactions that it placed stand behind its own, and it has so many leaves and so many told failures more
@@ -20,3 +21,12 @@ pub record HasStepped (faults : ℕ) (old new : KnownPass) : Type 0 where
   pub later : Later old new
   pub gains : Gains [] 0 faults old new
   pub looks : LooksOn old.view.looks new.view.looks
+
+-- of two passes' known numbers the greater ones
+abbrev pub greater_of : Least → Least → Least
+greater_of a b = record {
+  durable = max a.durable b.durable;
+  linked = max a.linked b.linked;
+  indexed = max a.indexed b.indexed;
+  failed = max a.failed b.failed;
+}

@@ -1,5 +1,6 @@
 pub mod Loads
 pub mod Gains
+pub mod Lists
 pub mod Names
 pub mod Found
 pub mod Errors

@@ -114,6 +114,8 @@ ExplainsSnapshot old new n (reads.Beyond durable) = SawDurable old new durable �
 ExplainsSnapshot old new n (reads.NotYet indexed) = (durable : ℕ) × SawDurable old new durable × (n ≤ durable) × SawIndexed old new indexed × (indexed < n)
 ExplainsSnapshot old new n reads.Memory = Unit {0}
 
--- a read that failed was told as one failure more; where as many were counted as a count holds, as loaded in the call, as none
-abbrev pub IsReadFault : KnownPass → KnownPass → Type 0
-IsReadFault old new = (new.view.faults ≡ old.view.faults + 1) ⊎ ((new.view.faults ≡ old.view.faults) × IsLoaded old.view.looks.failed new.view.looks.failed (2 ^ 64 - 1))
+-- a read failed, and the pass knows of a failure. It was told as one failure more; where as many were counted as a count holds, as loaded in
+-- the call, as none
+pub record IsReadFault (old new : KnownPass) : Type 0 where
+  pub known : 1 ≤ new.view.least.failed
+  pub told : (new.view.faults ≡ old.view.faults + 1) ⊎ ((new.view.faults ≡ old.view.faults) × IsLoaded old.view.looks.failed new.view.looks.failed (2 ^ 64 - 1))

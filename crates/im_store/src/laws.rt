@@ -24,6 +24,7 @@ ghost use Rattle.im_store.specs.Events.{AreIndexSteps, AreLinkSteps, IsAckStep, 
 ghost use Rattle.im_store.specs.Names.{Naming, OpensAs};
 
 use im_disk::disk::Disk;
+use im_table::law::Law;
 
 /// What a commit placed, it placed by the event Place, and what it refused, by the event Place.
 pub fn a_commit_is_a_place()
@@ -68,9 +69,9 @@ pub fn an_admitted_commit_is_not_refused()
 
 /// At each moment from the opening's first sync to the closing each image stood for a front part of the one list, not shorter than what was
 /// found.
-pub fn moments_from_opening_to_closing<D: Disk>()
+pub fn moments_from_opening_to_closing<D: Disk, L: Law>()
     ensures { (n : Naming) (t : Told) (passes : List KnownPass) (disk : D)
-        (constant : Option ℤ) (now : Option (List ℤ)) (closed : ClosesStore D.told D.faults n.digest n.logs n.found n.synced n.faults n.time n.given passes disk constant now)
+        (constant : Option ℤ) (now : Option (List ℤ)) (closed : ClosesStore L.allows D.told D.faults n.digest n.logs n.found n.synced n.faults n.time n.given passes disk constant now)
         → OpensAs (Some t) n.faults n
         → Leaves (StandsFrom n.digest (length n.found) (history_of closed.items)) (Some (after Synced t)) (D.told disk) }
 {}

@@ -1,10 +1,13 @@
-//! A store that threads share: one history of transactions, committed by any number of threads, made durable in groups, linked into a
-//! hash tree and indexed from behind by whoever calls `link` and `index` (it has no thread of its own), with snapshots and proofs meanwhile.
+//! A store that threads share: one history of transactions, committed by any number of threads and made durable in groups, with snapshots
+//! and proofs meanwhile. It has no thread of its own: whoever embeds it calls `link`, which adds what is durable to the hash tree, and
+//! `index`, without which no snapshot shows a key that was placed since.
 //!
-//! # A whole program
+//! # The outline of a program
 //!
-//! It opens a disk, two threads commit what was prepared, then the store shows a key, proves the second transaction from the first,
-//! and is closed. Contracts and some imports are left out here:
+//! It opens a disk, two threads commit what was prepared (`Prepared`, of im_tx: entries and preconditions that were checked), then the
+//! store shows a key, proves the second transaction from the first, and is closed. Left out are most contracts and imports, what is done
+//! about errors of `index`, `link` and `prove`, and the file `Invariants.antt` that names the store (`Opened` says how). Whole programs,
+//! proved and run, are in `im_tests_store`.
 //!
 //! ```text
 //! use im_store::opened::{Opened, open};
@@ -66,8 +69,11 @@
 //! }
 //! ```
 //!
-//! `Brand` names the store in contracts alone (`Opened` says how), and `Free` is the law that allows each history. `im_tests_store`
-//! has such programs, proved and run.
+//! `Brand` names the store in contracts alone, and `Free` is the law that allows each history. Under another law `commit` asks that the
+//! transaction may stand behind any list that begins with the pass's, meets the law, and admits it; and what `commit`, `header`, `prove`,
+//! `advance`, `item` and `close` answer tells that the list they speak of meets the law (`IsListOf`), is a history, and has a
+//! reference for each value. No call hands out a reference, which `resolve` takes: the rule of the value logs says where the values of
+//! what was placed lie.
 //!
 //! # Passes
 //!
@@ -75,7 +81,8 @@
 //! thread has seen, the least numbers that it knows (durable, linked, indexed, failed), the numbers of the transactions that it placed, and
 //! what it linked and told. A pass never forgets, and any two of them have seen front parts of one list. So what each call answers
 //! holds of that list, whatever other threads do meanwhile. A new thread gets a pass by `pass`, and gives it back by `end`. Passes share a
-//! weight of 1,048,576; where passes with all of it are handed to `close`, what they placed is all that was placed.
+//! weight of 1,048,576; where passes with all of it are handed to `close`, what they placed is all that was placed. A pass that is dropped
+//! takes its weight along, and then `close` can't tell that of any.
 //!
 //! # Locks
 //!
@@ -96,7 +103,8 @@
 //!
 //! | call | waits for | costs |
 //! |---|---|---|
-//! | `hash`, `pass`, `end`, `tip` | nobody | a few steps on words; no memory |
+//! | `open` | nobody | what `im_opening::open` costs: all files read and checked, and one sync, or two and a write; and the index of all that was found |
+//! | `named`, `hash`, `pass`, `end`, `tip` | nobody | a few steps on words; no memory |
 //! | `commit` | book and tree; then the journal, unless another thread makes it durable | each value hashed twice, the root of its entries once, its header by two hashes, a few nodes of the tree; two copies of keys and values; its share of a batch: 2 syncs, 3 writes and one for each value log |
 //! | `settle` | book; then as `commit` | nothing where it is durable, else its share of a batch |
 //! | `link` | book, tree | a copy of 32 octets, one leaf and about one node hashed for each transaction |
@@ -112,9 +120,9 @@
 //! # Errors
 //!
 //! Each type of error says when it comes. Where a call of the disk has failed the store reads and proves what is durable, and writes
-//! nothing until its disk is opened again: calls that write answer `Stopped`. That nothing is written is kept by the journal under its lock (im_seated_journal);
-//! the clauses here tell which failures a call loaded. Where memory runs out a call answers `Memory`, and the store
-//! goes on.
+//! nothing until its disk is opened again: calls that write answer `Stopped`. That nothing is written is kept by the journal under its
+//! lock (im_seated_journal); the clauses here tell which failures a call loaded, and that no writing call of a pass that knew of one fails
+//! anew. Where memory runs out a call answers `Memory`, and the store goes on.
 #![tactic(auto)]
 
 pub mod answers;

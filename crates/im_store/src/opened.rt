@@ -98,8 +98,9 @@ impl<'h, H: Hash32, D: Disk, C: Clock, L: Law> Opened<'h, H, D, C, L> {
 /// durable, reads and checks them, closes the gate behind the batches that count where that is needed, fills tree and index with all
 /// that is found, and gives a store that has no name yet: `Opened::named`.
 ///
-/// Which calls the disk gets is told by the contract of `im_opening::open`, and by no clause here. Each value, entry and leaf is hashed once, and each header twice; each key and each value is
-/// copied once more, into the index.
+/// The disk gets that first sync, and the closing of the gate behind the batches that reads give then, where it was missing or cut off: no
+/// other call that changes it. Each value, entry and leaf is hashed once, and each header twice; each key and each value is copied once
+/// more, into the index.
 ///
 /// # Errors
 ///

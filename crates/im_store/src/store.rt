@@ -1,7 +1,8 @@
 ghost use Rattle.std.specs.Prelude.{◌≡◌, ◌<◌, ◌≤◌, ◌+◌, ◌-◌, []};
 ghost use mathlib.Core.List.{IsPrefix};
 ghost use Rattle.im_table.specs.Passes.{IsPassOf, Later};
-ghost use Rattle.im_store.specs.Gains.{Gains};
+ghost use Rattle.im_table.specs.Views.{longer, no_looks};
+ghost use Rattle.im_store.specs.Gains.{greater_of, Gains};
 ghost use Rattle.im_store.specs.Loads.{SawDurable};
 
 mod closing;
@@ -93,6 +94,7 @@ impl<'h, H: Hash32, D: Disk, C: Clock, L: Law, N: TipName> Store<'h, H, D, C, L,
         ensures given { IsPassOf N.table result × (result.view.weight ≡ 1) }
         ensures copy { (result.view.seen ≡ pass.old.view.seen) × (result.view.least ≡ pass.old.view.least) }
         ensures none { (result.view.own ≡ []) × (result.view.leaves ≡ 0) × (result.view.faults ≡ 0) }
+        ensures looks { (result.view.looks ≡ no_looks) × (pass.new.view.looks ≡ pass.old.view.looks) }
         ensures left { IsPassOf N.table pass.new × (pass.new.view.weight ≡ pass.old.view.weight - 1) }
         ensures same { (pass.new.view.seen ≡ pass.old.view.seen) × (pass.new.view.least ≡ pass.old.view.least) }
         ensures gains { Gains [] 0 0 pass.old pass.new }
@@ -100,13 +102,15 @@ impl<'h, H: Hash32, D: Disk, C: Clock, L: Law, N: TipName> Store<'h, H, D, C, L,
         self.tip.split(pass, no_roles(), 1)
     }
 
-    /// Takes a pass in: a list that begins with both, numbers no smaller than either's, what both have placed, and the sum of their
-    /// weights.
+    /// Takes a pass in: the longer of their lists, which begins with the other one, the greater numbers, what both have placed, and the
+    /// sum of their weights.
     pub fn end(&self, pass: &mut Pass, other: Pass)
         requires pass { IsPassOf N.table pass.old }
         requires other { IsPassOf N.table other }
         ensures pass { IsPassOf N.table pass.new × (pass.new.view.weight ≡ pass.old.view.weight + other.view.weight) }
         ensures seen { IsPrefix pass.old.view.seen pass.new.view.seen × IsPrefix other.view.seen pass.new.view.seen }
+        ensures longer { pass.new.view.seen ≡ longer pass.old.view.seen other.view.seen }
+        ensures greater { pass.new.view.least ≡ greater_of pass.old.view.least other.view.least }
         ensures durable { (pass.old.view.least.durable ≤ pass.new.view.least.durable) × (other.view.least.durable ≤ pass.new.view.least.durable) }
         ensures linked { (pass.old.view.least.linked ≤ pass.new.view.least.linked) × (other.view.least.linked ≤ pass.new.view.least.linked) }
         ensures indexed { (pass.old.view.least.indexed ≤ pass.new.view.least.indexed) × (other.view.least.indexed ≤ pass.new.view.least.indexed) }

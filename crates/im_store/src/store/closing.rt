@@ -21,7 +21,7 @@ impl<'h, H: Hash32, D: Disk, C: Clock, L: Law, N: TipName> Store<'h, H, D, C, L,
     /// up) all that was placed is theirs. It waits for nobody, takes no memory, and leaves the disk as it is.
     pub fn close(self, passes: Vec<Pass>) -> (D, C)
         requires passes { All (IsPassOf N.table) passes.items }
-        ensures { ClosesStore D.told D.faults N.digest N.logs N.found N.synced N.faults N.time N.given passes.items result.0 (C.constant result.1) (C.given result.1) }
+        ensures { ClosesStore L.allows D.told D.faults N.digest N.logs N.found N.synced N.faults N.time N.given passes.items result.0 (C.constant result.1) (C.given result.1) }
     {
         let Store {
             hash: _,

@@ -7,6 +7,7 @@ ghost use Rattle.im_table.specs.Views.{looked_placed};
 ghost use Rattle.im_store.specs.Commits.{Explains, HasPlaced, HasStopped, IsCommitted, IsStop, faults_of_error, faults_committing, number_told, number_placed};
 ghost use Rattle.im_store.specs.Errors.{halted, refused};
 ghost use Rattle.im_store.specs.Gains.{HasStepped, Gains};
+ghost use Rattle.im_store.specs.Lists.{IsListOf};
 ghost use Rattle.im_store.specs.Placing.{IsReceipt, IsNotDone, TellsNotPlaced, TellsRefusal, numbers_of, reach_of, unplaced};
 ghost use Rattle.im_store.specs.Settling.{ExplainsHalt};
 
@@ -28,7 +29,7 @@ use std::sync::Wait;
 impl<'h, H: Hash32, D: Disk, C: Clock, L: Law, N: TipName> Store<'h, H, D, C, L, N> {
     /// Commits what was prepared: places it behind all that is placed, over the tree of that moment and at the clock's time, and
     /// answers its number and header once it is durable. Of the store's law it asks that it may stand behind any list that begins
-    /// with the pass's, meets the law, and admits it.
+    /// with the pass's, meets the law, and admits it. The list with a receipt's transaction meets the law again.
     ///
     /// It is the event Place; then, where no other thread makes it durable, Stage, Seal, Gate and Settle, or Fault; then
     /// Ack. It waits for the journal's lock, unless another thread makes it durable before it sleeps, and a batch that it writes has all that
@@ -39,8 +40,8 @@ impl<'h, H: Hash32, D: Disk, C: Clock, L: Law, N: TipName> Store<'h, H, D, C, L,
     ///
     /// `Full` where the limit is reached, and else `Missing`, `Exists` or `Modified` by the first precondition that doesn't hold, in
     /// the order given: once the `at` transactions behind which that was judged are durable. `DiskFault` where a call of the disk failed
-    /// in this call, `Stopped` where one had failed before, and `Memory`: with the number of the transaction where it was placed all the
-    /// same, so that `settle` may be asked for it. Without a number nothing is placed: but for `Memory` it was refused behind
+    /// in this call, and the pass knew of none before; `Stopped` where one had failed before; and `Memory`: with the number of the
+    /// transaction where it was placed all the same, so that `settle` may be asked for it. Without a number nothing is placed: but for `Memory` it was refused behind
     /// transactions of which some weren't durable yet, as loaded in the call.
     pub fn commit<R: Wait>(
         &self,
@@ -55,6 +56,7 @@ impl<'h, H: Hash32, D: Disk, C: Clock, L: Law, N: TipName> Store<'h, H, D, C, L,
         // The pass has just the number that the answer tells, and a failure more exactly where the answer is DiskFault.
         ensures gains { Gains (number_placed result) 0 (faults_committing result) pass.old pass.new }
         ensures ok { IfOk result (λ receipt. IsCommitted N.digest N.time prepared pass.old pass.new receipt) }
+        ensures list { IfOk result (λ _. IsListOf L.allows N.digest N.logs N.found pass.new.view.seen) }
         ensures err { IfErr result (λ error. Explains N.time prepared pass.old pass.new error) }
         // The word failed is loaded only to tell that calls had failed.
         ensures failed { (HasStopped result → ⊥) → pass.new.view.looks.failed ≡ pass.old.view.looks.failed }
@@ -102,6 +104,7 @@ impl<'h, H: Hash32, D: Disk, C: Clock, L: Law, N: TipName> Store<'h, H, D, C, L,
         requires seen { id ≤ length pass.old.view.seen }
         ensures follows { HasStepped (faults_committing result) pass.old pass.new }
         ensures ok { IfOk result (λ receipt. IsReceipt N.digest pass.new id receipt) }
+        ensures list { IfOk result (λ _. IsListOf L.allows N.digest N.logs N.found pass.new.view.seen) }
         ensures err { IfErr result (λ error. (cause : JournalError) × (error ≡ halted cause (Some id)) × ExplainsHalt pass.old pass.new cause) }
         ensures failed { (HasStopped result → ⊥) → pass.new.view.looks.failed ≡ pass.old.view.looks.failed }
     {
@@ -124,6 +127,7 @@ impl<'h, H: Hash32, D: Disk, C: Clock, L: Law, N: TipName> Store<'h, H, D, C, L,
         requires durable { id ≤ pass.old.view.least.durable }
         ensures follows { HasStepped (faults_committing result) pass.old pass.new }
         ensures ok { IfOk result (λ receipt. IsReceipt N.digest pass.new id receipt) }
+        ensures list { IfOk result (λ _. IsListOf L.allows N.digest N.logs N.found pass.new.view.seen) }
         ensures err { IfErr result (λ error. error ≡ CommitError.Memory (Some id)) }
         ensures failed { pass.new.view.looks.failed ≡ pass.old.view.looks.failed }
     {

@@ -5,7 +5,7 @@ ghost use Rattle.im_journal.specs.declared.errors.JournalError.TheVariants as ha
 ghost use Rattle.im_table.specs.Passes.{IsPassOf, Later};
 ghost use Rattle.im_store.specs.Gains.{HasStepped, Gains};
 ghost use Rattle.im_store.specs.Loads.{SawFewer};
-ghost use Rattle.im_store.specs.Settling.{ExplainsHalt, HasHalted, AnswersSettle, faults_settling, faults_told};
+ghost use Rattle.im_store.specs.Settling.{ExplainsHalt, HasHalted, AnswersSettle, HasStoppedSettling, faults_settling, faults_told};
 
 use crate::errors::SettleError;
 use crate::store::Store;
@@ -39,9 +39,9 @@ impl<'h, H: Hash32, D: Disk, C: Clock, L: Law, N: TipName> Store<'h, H, D, C, L,
     ///
     /// # Errors
     ///
-    /// `Beyond` exactly where fewer are placed, and tells how many. `DiskFault` where a call of the disk
-    /// failed in this call, `Stopped` where one had failed before, and `Memory`, behind which the next call goes on with what was
-    /// done of a batch.
+    /// `Beyond` exactly where fewer are placed, and tells how many. Only where fewer were durable, as loaded in the call: `DiskFault` where
+    /// a call of the disk failed in this call, and the pass knew of none before; `Stopped` where one had failed before; and `Memory`, behind
+    /// which the next call goes on with what was done of a batch.
     pub fn settle<R: Wait>(
         &self,
         rt: &R,
@@ -53,6 +53,8 @@ impl<'h, H: Hash32, D: Disk, C: Clock, L: Law, N: TipName> Store<'h, H, D, C, L,
         ensures later { Later pass.old pass.new }
         ensures gains { Gains [] 0 (faults_settling result) pass.old pass.new }
         ensures answer { AnswersSettle pass.old pass.new n result }
+        // The word failed is loaded only to tell that calls had failed.
+        ensures failed { (HasStoppedSettling result → ⊥) → pass.new.view.looks.failed ≡ pass.old.view.looks.failed }
     {
         let placed = self.book.lock(rt).show(&self.tip, pass);
         if placed < n {
@@ -178,6 +180,7 @@ impl<'h, H: Hash32, D: Disk, C: Clock, L: Law, N: TipName> Store<'h, H, D, C, L,
         journal: &mut SeatedJournal<D, N>,
     ) -> Result<(), JournalError>
         requires pass { IsPassOf N.table pass.old }
+        requires none { pass.old.view.least.failed ≡ 0 }
         requires going { journal.old.failures ≡ 0 }
         requires idle { journal.old.batch.step ≡ Idle }
         requires some { journal.old.durable < length pass.old.view.seen }
@@ -267,6 +270,7 @@ impl<'h, H: Hash32, D: Disk, C: Clock, L: Law, N: TipName> Store<'h, H, D, C, L,
         journal: &mut SeatedJournal<D, N>,
     ) -> Result<(), JournalError>
         requires pass { IsPassOf N.table pass.old }
+        requires none { pass.old.view.least.failed ≡ 0 }
         requires going { journal.old.failures ≡ 0 }
         requires begun { journal.old.batch.step ≡ Idle → ⊥ }
         ensures follows { HasStepped (faults_told result) pass.old pass.new }

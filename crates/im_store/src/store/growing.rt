@@ -48,9 +48,9 @@ impl<'h, H: Hash32, D: Disk, C: Clock, L: Law, N: TipName> Store<'h, H, D, C, L,
         linked
     }
 
-    /// Takes so many transactions more into the index, at most those that are durable, and answers how many are indexed then. It is
-    /// the event Index for each of them. What that costs is said at `Index::take`. Its only error is want of memory: those that
-    /// were taken before stay, as the word indexed tells.
+    /// Takes so many transactions more into the index than the word indexed says under the index's lock, at most those that are durable,
+    /// and answers how many are indexed then. It is the event Index for each of them. What that costs is said at `Index::take`. Its only
+    /// error is want of memory: those that were taken before stay, as the word indexed tells.
     pub fn index<R: Wait>(
         &self,
         rt: &R,
@@ -84,7 +84,7 @@ impl<'h, H: Hash32, D: Disk, C: Clock, L: Law, N: TipName> Store<'h, H, D, C, L,
         requires end { end ≤ pass.old.view.least.durable }
         requires taken { (index.old.taken ≤ end) × (index.old.taken ≤ pass.old.view.least.indexed) }
         ensures follows { HasStepped 0 pass.old pass.new }
-        ensures durable { pass.new.view.looks.durable ≡ pass.old.view.looks.durable }
+        ensures loads { (pass.new.view.looks.durable ≡ pass.old.view.looks.durable) × (pass.new.view.looks.indexed ≡ pass.old.view.looks.indexed) }
         ensures taken { OnOk result (end ≤ pass.new.view.least.indexed) }
     {
         for _ in rt.forever() {

@@ -4,6 +4,7 @@ ghost use Rattle.im_model.specs.History.{transaction_of};
 ghost use Rattle.im_table.specs.Histories.{history_of};
 ghost use Rattle.im_table.specs.Passes.{IsPassOf, Later};
 ghost use Rattle.im_store.specs.Gains.{HasStepped, Gains};
+ghost use Rattle.im_store.specs.Lists.{IsListOf};
 ghost use Rattle.im_store.specs.Proving.{ProvesEntry, IsProvedOver};
 ghost use Rattle.im_store.specs.Reading.{AreLoaded, ExplainsEntry, ExplainsProve, AnswersAdvance, AnswersDual, AnswersEntry};
 ghost use Rattle.im_proof.specs.Between.{anchor_between, dual_between};
@@ -47,6 +48,7 @@ impl<'h, H: Hash32, D: Disk, C: Clock, L: Law, N: TipName> Store<'h, H, D, C, L,
         ensures later { Later pass.old pass.new }
         ensures gains { Gains [] 0 0 pass.old pass.new }
         ensures ok { IfOk result (λ dual. AnswersDual N.digest pass.old pass.new s t dual) }
+        ensures list { IfOk result (λ _. IsListOf L.allows N.digest N.logs N.found pass.new.view.seen) }
         ensures err { IfErr result (λ error. ExplainsProve pass.old pass.new s t error) }
     {
         self.check_between(pass, s, t)?;
@@ -71,6 +73,7 @@ impl<'h, H: Hash32, D: Disk, C: Clock, L: Law, N: TipName> Store<'h, H, D, C, L,
         ensures later { Later pass.old pass.new }
         ensures gains { Gains [] 0 0 pass.old pass.new }
         ensures ok { IfOk result (λ advance. AnswersAdvance N.digest pass.old pass.new s t advance) }
+        ensures list { IfOk result (λ _. IsListOf L.allows N.digest N.logs N.found pass.new.view.seen) }
         ensures err { IfErr result (λ error. ExplainsProve pass.old pass.new s t error) }
     {
         self.check_between(pass, s, t)?;
@@ -97,6 +100,7 @@ impl<'h, H: Hash32, D: Disk, C: Clock, L: Law, N: TipName> Store<'h, H, D, C, L,
         ensures later { Later pass.old pass.new }
         ensures gains { Gains [] 0 0 pass.old pass.new }
         ensures ok { IfOk result (λ item. AnswersEntry N.digest pass.old pass.new t i s item) }
+        ensures list { IfOk result (λ _. IsListOf L.allows N.digest N.logs N.found pass.new.view.seen) }
         ensures err { IfErr result (λ error. ExplainsEntry pass.old pass.new t i s error) }
     {
         self.check_between(pass, t, s)?;
@@ -123,6 +127,7 @@ impl<'h, H: Hash32, D: Disk, C: Clock, L: Law, N: TipName> Store<'h, H, D, C, L,
         ensures follows { HasStepped 0 pass.old pass.new }
         ensures loads { pass.new.view.looks.durable ≡ pass.old.view.looks.durable }
         ensures seen { t ≤ length pass.new.view.seen }
+        ensures list { IsListOf L.allows N.digest N.logs N.found pass.new.view.seen }
         ensures dual { IfOk result (λ dual. dual ≡ dual_between N.digest (history_of pass.new.view.seen) s t) }
     {
         let mut book = self.book.lock(rt);
@@ -147,6 +152,7 @@ impl<'h, H: Hash32, D: Disk, C: Clock, L: Law, N: TipName> Store<'h, H, D, C, L,
         ensures follows { HasStepped 0 pass.old pass.new }
         ensures loads { pass.new.view.looks.durable ≡ pass.old.view.looks.durable }
         ensures seen { t ≤ length pass.new.view.seen }
+        ensures list { IsListOf L.allows N.digest N.logs N.found pass.new.view.seen }
         ensures dual { IfOk result (λ advance. advance.dual ≡ dual_between N.digest (history_of pass.new.view.seen) s t) }
         ensures anchor { IfOk result (λ advance. advance.anchor ≡ anchor_between N.digest (history_of pass.new.view.seen) s t) }
     {
@@ -198,6 +204,7 @@ impl<'h, H: Hash32, D: Disk, C: Clock, L: Law, N: TipName> Store<'h, H, D, C, L,
         ensures follows { HasStepped 0 pass.old pass.new }
         ensures loads { pass.new.view.looks.durable ≡ pass.old.view.looks.durable }
         ensures seen { s ≤ length pass.new.view.seen }
+        ensures list { IsListOf L.allows N.digest N.logs N.found pass.new.view.seen }
         ensures index { i < length (transaction_of (history_of pass.new.view.seen) t).entries }
         ensures entry { IfOk result (λ item. ProvesEntry N.digest (history_of pass.new.view.seen) t i s item) }
     {
@@ -266,6 +273,7 @@ impl<'h, H: Hash32, D: Disk, C: Clock, L: Law, N: TipName> Store<'h, H, D, C, L,
         ensures follows { HasStepped 0 pass.old pass.new }
         ensures loads { pass.new.view.looks.durable ≡ pass.old.view.looks.durable }
         ensures seen { pass.new.view.seen ≡ book.new }
+        ensures list { IsListOf L.allows N.digest N.logs N.found pass.new.view.seen }
         ensures durable { (pass.old.view.least.durable ≤ length book.new) × (pass.old.view.least.durable ≤ length pass.new.view.seen) }
         ensures over { (n : ℕ) → 1 ≤ n → n ≤ length book.new → IsProvedOver N.digest book.new tree.new n }
     {

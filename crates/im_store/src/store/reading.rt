@@ -6,6 +6,7 @@ ghost use Rattle.im_table.specs.Histories.{history_of};
 ghost use Rattle.im_table.specs.Passes.{IsPassOf, Later};
 ghost use Rattle.im_vlog.specs.Showing.{IsCorrupt};
 ghost use Rattle.im_store.specs.Gains.{HasStepped, Gains};
+ghost use Rattle.im_store.specs.Lists.{IsListOf};
 ghost use Rattle.im_store.specs.Reading.{ExplainsHeader, ExplainsSnapshot, IsReadFault, AnswersHeader, AnswersKeys};
 
 use crate::errors::{ProveError, SnapshotError};
@@ -75,6 +76,7 @@ impl<'h, H: Hash32, D: Disk, C: Clock, L: Law, N: TipName> Store<'h, H, D, C, L,
         ensures later { Later pass.old pass.new }
         ensures gains { Gains [] 0 0 pass.old pass.new }
         ensures ok { IfOk result (λ header. AnswersHeader N.digest pass.old pass.new k header) }
+        ensures list { IfOk result (λ _. IsListOf L.allows N.digest N.logs N.found pass.new.view.seen) }
         ensures err { IfErr result (λ error. ExplainsHeader pass.old pass.new k error) }
     {
         if k == 0 {
@@ -101,6 +103,7 @@ impl<'h, H: Hash32, D: Disk, C: Clock, L: Law, N: TipName> Store<'h, H, D, C, L,
         ensures follows { HasStepped 0 pass.old pass.new }
         ensures loads { (pass.new.view.looks.durable ≡ pass.old.view.looks.durable) × (pass.new.view.looks.failed ≡ pass.old.view.looks.failed) }
         ensures seen { k ≤ length pass.new.view.seen }
+        ensures list { IsListOf L.allows N.digest N.logs N.found pass.new.view.seen }
         ensures header { IfOk result (λ header. header ≡ header_of N.digest (history_of pass.new.view.seen) k) }
     {
         let mut book = self.book.lock(rt);
@@ -117,7 +120,8 @@ impl<'h, H: Hash32, D: Disk, C: Clock, L: Law, N: TipName> Store<'h, H, D, C, L,
     /// # Errors
     ///
     /// `Corrupt` with the digest of octets that aren't the value's, which never comes for a durable transaction of the pass's list. That they
-    /// are those at the reference's place is the journal's to say: no clause here names the disk. `DiskFault` where the disk failed in this call: the store writes nothing from then on. `Memory`.
+    /// are those at the reference's place is the journal's to say: no clause here names the disk. `DiskFault` where the disk failed in this
+    /// call, of which the pass then knows: the journal writes nothing from then on. `Memory`.
     pub fn resolve<R: Wait>(
         &self,
         rt: &R,

@@ -21,7 +21,7 @@ returns-in-Ok-clause-opens g c =
     IfOk-weaker c.opened_over.result _ _
     (λ opened all. found_opens told faults hash c.args.disk journal.disk journal.ends.commits rs c.in-Ok.ensures.opens
     (gate_behind told hash (txs_of rs) rests.batches journal rests.rests)
-    (naming_of g.H.Hash32.digest told faults g.C.Clock.constant g.C.Clock.given opened) all.0 (ap g.H.Hash32.digest all.1) (ap told all.2) (ap faults all.2))
+    (naming_of g.H.Hash32.digest told faults g.C.Clock.constant g.C.Clock.given opened) all.0 (ap g.H.Hash32.digest all.1) (ap told all.2) (ap faults all.2) c.in-Ok.ensures.found.history c.in-Ok.ensures.found.records)
     c.opened_over.ensures.found
 
 pub returns-in-Ok-clause-failed : goal.returns-in-Ok-clause-failed

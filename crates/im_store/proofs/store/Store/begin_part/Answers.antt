@@ -1,4 +1,4 @@
-use Rattle.std.proofs.Common.{◌≡◌, ◌≤◌, ◌∙◌, ℕ, List, length, refl, ap, arith, subst, sym}
+use Rattle.std.proofs.Common.{◌≡◌, ◌∙◌, ℕ, List, length, refl, ap, arith, subst, sym}
 use Rattle.std.proofs.lemmas.Result.{on_ok_weaker}
 use Rattle.im_journal.specs.declared.errors.JournalError.TheVariants as halts
 use Rattle.im_format.specs.declared.records.Record.{Record}

@@ -7,7 +7,7 @@ use Rattle.im_journal.specs.Kept.{Kept}
 use Rattle.im_table.specs.Histories.{history_of}
 use Rattle.im_table.specs.Known.{KnownPass, TableId}
 use Rattle.im_table.specs.Passes.{IsPassOf}
-use Rattle.im_table.specs.References.{AreLaid}
+use Rattle.im_table.specs.References.{AreLaid, IsLawful}
 use Rattle.im_table.specs.Views.{placed_by, times}
 use Rattle.im_table.specs.declared.items.LogItem.{LogItem}
 use Rattle.im_table.specs.declared.roles.Roles.{Roles}
@@ -99,15 +99,22 @@ returns g c =
     let own = gathered_own k w i t a b d book.pass.1 journal.pass.1 index.pass.1 tree.pass.1 va vb vd book.pass.3 journal.pass.3 index.pass.3 tree.pass.3 in
     let whole : AreAll c.args.passes.items → last.view.weight ≡ 1048576 = λ all. omega (arith, c.take_in.ensures.weight, none, all) in
     let disk : c.into_disk.result ≡ kept.disk = c.into_disk.ensures ∙ ap (λ (j : Kept g.row.D.Denot). j.disk) journal.journal in
-    let laid : AreLaid g.N.TipName.logs 1 [] items = subst (λ (n : ℕ). AreLaid n 1 [] items) c.args.self.logged (subst (λ (l : List LogItem). AreLaid c.args.self.tip.logs 1 [] l) seen c.close.ensures.meets.laid) in
-    let quiet_of : AreAll c.args.passes.items → All (λ p. p.view.faults ≡ 0) c.args.passes.items → kept.failures ≡ 0 = λ all none.
+    let allows = g.L.Law.allows in
+    let meets : IsLawful allows g.N.TipName.logs items = subst (λ (n : ℕ). IsLawful allows n items) c.args.self.logged
+    (subst (λ (l : List LogItem). IsLawful allows c.args.self.tip.logs l) seen c.close.ensures.meets) in
+    let laid : AreLaid g.N.TipName.logs 1 [] items = meets.laid in
+    let counted : AreAll c.args.passes.items → sum_by failures_told c.args.passes.items ≡ kept.failures = λ all.
     (let told : last.view.faults ≡ last.view.least.failed = c.close.ensures.faults (whole all) (ap (λ (r : Roles). r.journal) c.take_in.ensures.keeper.1) in
-    omega (arith, told, failed, c.take_in.ensures.faults, quiet, sum_none failures_told c.args.passes.items none)) in
-    let closes : ClosesStore told g.D.Disk.faults hash g.N.TipName.logs g.N.TipName.found g.N.TipName.synced g.N.TipName.faults g.N.TipName.time g.N.TipName.given c.args.passes.items kept.disk
+    omega (arith, told, failed, c.take_in.ensures.faults, quiet)) in
+    let quiet_of : AreAll c.args.passes.items → All (λ p. p.view.faults ≡ 0) c.args.passes.items → kept.failures ≡ 0 =
+    λ all none. omega (arith, counted all, sum_none failures_told c.args.passes.items none) in
+    let closes : ClosesStore g.L.Law.allows told g.D.Disk.faults hash g.N.TipName.logs g.N.TipName.found g.N.TipName.synced g.N.TipName.faults g.N.TipName.time g.N.TipName.given c.args.passes.items kept.disk
     (g.C.Clock.constant c.into_parts-placed.result.1) (g.C.Clock.given c.into_parts-placed.result.1) = record {
       items = items;
       goes_on = book.found;
       history = book.history;
+      meets = meets;
+      referred = book.referred;
       begins = subst (λ (l : List LogItem). All (λ (p : KnownPass). IsPrefix p.view.seen l) c.args.passes.items) seen c.take_in.ensures.begins;
       durable = kept.durable;
       within = (let le = prefix_length w.view.seen items writer in omega (arith, le, journal.within));
@@ -119,6 +126,7 @@ returns g c =
       rose = journal.rose;
       failed = subst (λ (n : ℕ). All (λ (p : KnownPass). p.view.least.failed ≤ n) c.args.passes.items) failed c.take_in.ensures.failed;
       calls = journal.calls g.N.TipName.logs items writer book.found laid;
+      counted = counted;
       sound = quiet_of;
       calm = λ all none. journal.calm (quiet_of all none);
       whole = λ sound all. (let le = prefix_length w.view.seen items writer in
@@ -133,5 +141,5 @@ returns g c =
       raised = subst (λ (n : ℕ). All (λ (p : KnownPass). p.view.least.linked ≤ n) c.args.passes.items) linked c.take_in.ensures.linked;
       timed = book.timed;
     } in
-    subst (λ disk. ClosesStore told g.D.Disk.faults hash g.N.TipName.logs g.N.TipName.found g.N.TipName.synced g.N.TipName.faults g.N.TipName.time g.N.TipName.given c.args.passes.items disk
+    subst (λ disk. ClosesStore g.L.Law.allows told g.D.Disk.faults hash g.N.TipName.logs g.N.TipName.found g.N.TipName.synced g.N.TipName.faults g.N.TipName.time g.N.TipName.given c.args.passes.items disk
     (g.C.Clock.constant c.into_parts-placed.result.1) (g.C.Clock.given c.into_parts-placed.result.1)) (sym disk) closes

@@ -33,7 +33,7 @@ pub returns-in-Ok-clause-err : goal.returns-in-Ok-clause-err
 returns-in-Ok-clause-err g c =
     let looks = c.place.ensures.looks in
     receipt_why g.N.TipName.time c.args.prepared c.args.pass.now c.place.new.pass c.acknowledge.new.pass c.in-Ok.id c.acknowledge.result
-    c.in-Ok.ensures.placed c.acknowledge.ensures.follows.later (looks_placed c.args.pass.now.view c.place.new.pass.view.looks looks.0 looks.1) c.acknowledge.ensures.err
+    c.in-Ok.ensures.placed c.acknowledge.ensures.follows.later c.place.ensures.later.failed (looks_placed c.args.pass.now.view c.place.new.pass.view.looks looks.0 looks.1) c.acknowledge.ensures.err
 
 pub returns-in-Ok-clause-failed : goal.returns-in-Ok-clause-failed
 returns-in-Ok-clause-failed g c going = c.acknowledge.ensures.failed going ∙ ap (λ (l : AllLooks). l.failed) c.place.ensures.looks.1

@@ -9,6 +9,7 @@ use Rattle.im_table.specs.declared.items.LogItem.{LogItem}
 use Rattle.im_table.specs.declared.view.AllLooks.{AllLooks}
 use Rattle.im_table.proofs.HistoryLemmas.{history_length}
 use Rattle.im_store.proofs.GainLemmas.{follows_placed}
+use Rattle.im_store.proofs.ListLemmas.{list_shown}
 use Rattle.im_store.proofs.store.Store.copy_header.Goals as goal
 
 pub bounds-headers-at : goal.bounds-headers-at
@@ -55,3 +56,10 @@ returns-clause-header g c =
     ∙ headers-nth hash (history_of items) c.args.k header c.requires.some within in
     let seen = ap (λ (l : List LogItem). header_of hash (history_of l) c.args.k) (sym show.ensures.seen.0) in
     IfOk-weaker c.try_clone.result _ _ (λ copy same. same ∙ is ∙ seen) c.try_clone.ensures
+
+-- the book's list is the pass's
+pub returns-clause-list : goal.returns-clause-list
+returns-clause-list g c =
+    let show = c.show in
+    list_shown g.L.Law.allows g.N.TipName.digest g.N.TipName.logs c.args.self.now.tip.logs g.N.TipName.found show.new.self show.new.pass.view.seen show.ensures.seen.0 c.args.self.now.logged
+    show.ensures.found show.ensures.history show.ensures.meets show.ensures.referred

@@ -41,7 +41,7 @@ returns-in_err-stage-clause-err g c =
     let stage = c.stage in
     let cause : JournalError = c.in_err-stage.field-0.0 in
     if-err (λ why. ExplainsHalt c.args.pass.now stage.new.pass why) c.from_residual.result cause c.from_residual.ensures.1
-    (counted_halt _ c.args.pass.now stage.new.pass _ _ _ _ cause c.in_err-stage.ensures.counted stage.ensures.words.1
+    (counted_halt _ c.args.pass.now stage.new.pass _ _ _ _ cause c.requires.none c.in_err-stage.ensures.counted stage.ensures.words.1
     (λ n stop. absurd (omega (arith, c.requires.going, c.in_err-stage.ensures.going n stop))))
 
 -- the second does
@@ -65,7 +65,7 @@ returns-in_err-seal-clause-err g c =
     let cause : JournalError = c.in_err-seal.field-0.0 in
     let none : c.stage.new.self.failures ≡ 0 = c.in_ok-stage.ensures.counted.failures (λ e. absurd (cc (e))) ∙ c.requires.going in
     if-err (λ why. ExplainsHalt c.args.pass.now seal.new.pass why) c.from_residual-in_err-seal.result cause c.from_residual-in_err-seal.ensures.1
-    (counted_halt _ c.args.pass.now seal.new.pass _ _ _ _ cause c.in_err-seal.ensures.counted seal.ensures.words.1
+    (counted_halt _ c.args.pass.now seal.new.pass _ _ _ _ cause c.requires.none c.in_err-seal.ensures.counted seal.ensures.words.1
     (λ n stop. absurd (omega (arith, none, c.in_err-seal.ensures.going n stop))))
 
 pub returns-in_err-seal-clause-looks : goal.returns-in_err-seal-clause-looks
@@ -77,5 +77,5 @@ returns-clause-err g c =
     let settle = c.settle in
     let none : c.stage.new.self.failures ≡ 0 = c.in_ok-stage.ensures.counted.failures (λ e. absurd (cc (e))) ∙ c.requires.going in
     let still : c.seal.new.self.failures ≡ 0 = c.in_ok-seal.ensures.counted.failures (λ e. absurd (cc (e))) ∙ none in
-    counted_explains c.args.pass.now settle.new.pass _ _ _ _ settle.result settle.ensures.counted settle.ensures.words.1
+    counted_explains c.args.pass.now settle.new.pass _ _ _ _ settle.result c.requires.none settle.ensures.counted settle.ensures.words.1
     (λ n stop. absurd (omega (arith, still, settle.ensures.going n stop)))

@@ -45,3 +45,10 @@ returns-clause-failed g c going = ap (λ (l : AllLooks). l.failed) c.finish.ensu
 
 pub returns-clause-placed : goal.returns-clause-placed
 returns-clause-placed g c n seen last = omega (arith, last, ap (λ (l : AllLooks). l.placed.last) c.finish.ensures.looks)
+
+-- the pass knows of no failure then
+pub flush_placed-requires-clause-none : goal.flush_placed-requires-clause-none
+flush_placed-requires-clause-none g c = omega (arith, c.requires.words.1, c.failures.ensures, ap (λ k. k.failures) c.journal.ensures)
+
+pub finish-requires-clause-none : goal.finish-requires-clause-none
+finish-requires-clause-none g c = omega (arith, c.requires.words.1, c.failures.ensures, ap (λ k. k.failures) c.journal.ensures)

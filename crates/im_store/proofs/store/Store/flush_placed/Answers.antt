@@ -21,7 +21,7 @@ returns-clause-durable g c = ap (λ (l : AllLooks). l.durable) c.finish.ensures.
 
 pub returns-clause-err : goal.returns-clause-err
 returns-clause-err g c =
-    explains_on c.args.pass.now c.begin.new.pass c.finish.new.pass c.finish.result c.begin.ensures.follows.looks c.finish.ensures.err
+    explains_on c.args.pass.now c.begin.new.pass c.finish.new.pass c.finish.result c.begin.ensures.follows.later.failed c.begin.ensures.follows.looks c.finish.ensures.err
 
 pub returns-clause-placed : goal.returns-clause-placed
 returns-clause-placed g c = omega (arith, c.begin.ensures.placed, ap (λ (l : AllLooks). l.placed.last) c.finish.ensures.looks)
@@ -42,3 +42,7 @@ returns-in_err-begin-clause-err g c =
     let cause : JournalError = c.in_err-begin.field-0.0 in
     if-err (λ why. ExplainsHalt c.args.pass.now c.begin.new.pass why) c.from_residual.result cause c.from_residual.ensures.1
     (subst (λ (why : JournalError). ExplainsHalt c.args.pass.now c.begin.new.pass why) (sym c.in_err-begin.ensures.memory) tt)
+
+-- a batch that was begun leaves the count of failures as it was
+pub finish-requires-clause-none : goal.finish-requires-clause-none
+finish-requires-clause-none g c = omega (arith, c.in_ok-begin.ensures.words.1, c.begin.ensures.going)

@@ -50,7 +50,7 @@ returns-in_err-flush-clause-follows g c =
 pub returns-in_err-flush-clause-err : goal.returns-in_err-flush-clause-err
 returns-in_err-flush-clause-err g c =
     if-err (λ cause. ExplainsHalt c.args.pass.now c.flush.new.pass cause) c.from_residual.result c.in_err-flush.field-0.0 c.from_residual.ensures.1
-    (halt_on c.args.pass.now c.loop.pass c.flush.new.pass c.in_err-flush.field-0.0
+    (halt_on c.args.pass.now c.loop.pass c.flush.new.pass c.in_err-flush.field-0.0 c.loop.invariant.follows.later.failed
     (λ f saw. saw_failures_on c.args.pass.now c.loop.pass c.flush.new.pass f c.loop.invariant.follows.looks saw) c.in_err-flush.ensures.err)
 
 pub returns-in_err-flush-clause-failed : goal.returns-in_err-flush-clause-failed

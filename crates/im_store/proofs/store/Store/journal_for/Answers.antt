@@ -1,4 +1,4 @@
-use Rattle.std.proofs.Common.{◌<◌, ◌∙◌, ap, refl, arith}
+use Rattle.std.proofs.Common.{◌∙◌, ap, refl, arith}
 use Rattle.im_table.specs.declared.view.View.{View}
 use Rattle.im_store.proofs.GainLemmas.{follows_self, follows_then, later_self, load_durable_follows, load_durable_saw, saw_durable_on}
 use Rattle.im_store.proofs.store.Store.journal_for.Goals as goal

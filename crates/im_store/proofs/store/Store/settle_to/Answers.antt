@@ -20,7 +20,7 @@ returns-clause-err g c =
     let show = c.show in
     let last = c.flush_to in
     let a = follows_then 0 c.args.pass.now wait.new.pass show.new.pass wait.ensures.follows (follows_shown wait.new.pass show.new.pass show.ensures.later show.ensures.adds show.ensures.looks) in
-    explains_on c.args.pass.now show.new.pass last.new.pass last.result a.looks last.ensures.err
+    explains_on c.args.pass.now show.new.pass last.new.pass last.result a.later.failed a.looks last.ensures.err
 
 pub returns-clause-failed : goal.returns-clause-failed
 returns-clause-failed g c going =

@@ -6,6 +6,7 @@ use Rattle.im_table.specs.declared.items.LogItem.{LogItem}
 use Rattle.im_table.specs.declared.view.AllLooks.{AllLooks}
 use Rattle.im_store.proofs.GainLemmas.{follows_placed, follows_shown, follows_then}
 use Rattle.im_store.proofs.ProveLemmas.{proved_over}
+use Rattle.im_store.proofs.ListLemmas.{list_shown}
 use Rattle.im_store.proofs.store.Store.show_both.Goals as goal
 
 pub returns-clause-follows : goal.returns-clause-follows
@@ -39,3 +40,10 @@ returns-clause-over g c n some within =
     subst (λ (l : List LogItem). last_bl (history_of l) ≤ c.show.new.pass.view.least.linked) (sym c.show-3.ensures.same) c.show.ensures.over in
     proved_over hash c.show-2.new.pass.view.seen book tree n c.show-3.ensures.history begins c.show-2.ensures.leaves
     (omega (arith, last, c.show-2.ensures.later.linked, c.show-2.ensures.size.0, c.show-2.ensures.size.1)) some within
+
+-- the book's list is the pass's
+pub returns-clause-list : goal.returns-clause-list
+returns-clause-list g c =
+    let show = c.show-3 in
+    list_shown g.L.Law.allows g.N.TipName.digest g.N.TipName.logs c.args.self.now.tip.logs g.N.TipName.found show.new.self show.new.pass.view.seen show.ensures.seen.0 c.args.self.now.logged
+    show.ensures.found show.ensures.history show.ensures.meets show.ensures.referred

@@ -7,7 +7,7 @@ use Rattle.im_store.specs.declared.errors.SnapshotError.TheVariants as reads
 use Rattle.im_table.specs.declared.view.AllLooks.{AllLooks}
 use Rattle.im_table.specs.declared.view.View.{View}
 use Rattle.im_table.proofs.PassLemmas.{later_both}
-use Rattle.im_store.proofs.GainLemmas.{follows_self, follows_shown, follows_then, later_self, load_durable_follows, load_durable_saw, load_indexed_follows, load_indexed_saw, saw_durable_on, saw_indexed_on}
+use Rattle.im_store.proofs.GainLemmas.{follows_self, follows_indexed, follows_then, later_self, load_durable_follows, load_durable_saw, load_indexed_follows, load_indexed_saw, saw_durable_on, saw_indexed_on, shown_indexed}
 use Rattle.im_store.proofs.store.Store.snapshot.Goals as goal
 use Rattle.im_seated_index.proofs.SeatLemmas.{taken_within}
 
@@ -81,7 +81,7 @@ returns-in_err-snapshot-clause-later g c =
     let i = c.load_indexed-indexed in
     let first = load_durable_follows c.args.pass.now l.new.pass l.result l.ensures.table l.ensures.view l.ensures.finds.least in
     let second = load_indexed_follows l.new.pass i.new.pass i.result i.ensures.table i.ensures.view i.ensures.finds.least in
-    let third = follows_shown i.new.pass c.show.new.pass c.show.ensures.later c.show.ensures.adds c.show.ensures.looks in
+    let third = follows_indexed c.show.result i.new.pass c.show.new.pass c.show.ensures.later c.show.ensures.adds c.show.ensures.looks in
     (follows_then 0 c.args.pass.now i.new.pass c.show.new.pass (follows_then 0 c.args.pass.now l.new.pass i.new.pass first second) third).later
 
 pub returns-in_err-snapshot-clause-gains : goal.returns-in_err-snapshot-clause-gains
@@ -90,7 +90,7 @@ returns-in_err-snapshot-clause-gains g c =
     let i = c.load_indexed-indexed in
     let first = load_durable_follows c.args.pass.now l.new.pass l.result l.ensures.table l.ensures.view l.ensures.finds.least in
     let second = load_indexed_follows l.new.pass i.new.pass i.result i.ensures.table i.ensures.view i.ensures.finds.least in
-    let third = follows_shown i.new.pass c.show.new.pass c.show.ensures.later c.show.ensures.adds c.show.ensures.looks in
+    let third = follows_indexed c.show.result i.new.pass c.show.new.pass c.show.ensures.later c.show.ensures.adds c.show.ensures.looks in
     (follows_then 0 c.args.pass.now i.new.pass c.show.new.pass (follows_then 0 c.args.pass.now l.new.pass i.new.pass first second) third).gains
 
 -- it is shown
@@ -100,7 +100,7 @@ returns-clause-later g c =
     let i = c.load_indexed-indexed in
     let first = load_durable_follows c.args.pass.now l.new.pass l.result l.ensures.table l.ensures.view l.ensures.finds.least in
     let second = load_indexed_follows l.new.pass i.new.pass i.result i.ensures.table i.ensures.view i.ensures.finds.least in
-    let third = follows_shown i.new.pass c.show.new.pass c.show.ensures.later c.show.ensures.adds c.show.ensures.looks in
+    let third = follows_indexed c.show.result i.new.pass c.show.new.pass c.show.ensures.later c.show.ensures.adds c.show.ensures.looks in
     (follows_then 0 c.args.pass.now i.new.pass c.show.new.pass (follows_then 0 c.args.pass.now l.new.pass i.new.pass first second) third).later
 
 pub returns-clause-gains : goal.returns-clause-gains
@@ -109,7 +109,7 @@ returns-clause-gains g c =
     let i = c.load_indexed-indexed in
     let first = load_durable_follows c.args.pass.now l.new.pass l.result l.ensures.table l.ensures.view l.ensures.finds.least in
     let second = load_indexed_follows l.new.pass i.new.pass i.result i.ensures.table i.ensures.view i.ensures.finds.least in
-    let third = follows_shown i.new.pass c.show.new.pass c.show.ensures.later c.show.ensures.adds c.show.ensures.looks in
+    let third = follows_indexed c.show.result i.new.pass c.show.new.pass c.show.ensures.later c.show.ensures.adds c.show.ensures.looks in
     (follows_then 0 c.args.pass.now i.new.pass c.show.new.pass (follows_then 0 c.args.pass.now l.new.pass i.new.pass first second) third).gains
 
 pub returns-clause-ok : goal.returns-clause-ok
@@ -128,11 +128,10 @@ returns-clause-ok g c =
           (later_both l.new.pass i.new.pass show.new.pass second.later show.ensures.later)
           (ap (λ (x : AllLooks). x.durable) show.ensures.looks ∙ ap (λ (v : View). v.looks.durable) i.ensures.view);
       within_durable = omega arith;
-      indexed = i.result;
-      saw_indexed = saw_indexed_on c.args.pass.now l.new.pass i.new.pass show.new.pass i.result first
-          (load_indexed_saw l.new.pass i.new.pass i.result i.ensures.table i.ensures.view i.ensures.finds.least) show.ensures.later
-          (ap (λ (x : AllLooks). x.indexed) show.ensures.looks);
-      within_indexed = omega arith;
+      indexed = show.result;
+      saw_indexed = saw_indexed_on c.args.pass.now i.new.pass show.new.pass show.new.pass show.result (follows_then 0 c.args.pass.now l.new.pass i.new.pass first second)
+          (shown_indexed show.result i.new.pass show.new.pass show.ensures.later show.ensures.looks show.ensures.taken.1) (later_self show.new.pass) refl;
+      within_indexed = omega (arith, show.ensures.taken.1, show.ensures.later.indexed, ap (λ (v : View). v.least.indexed) i.ensures.view);
       seen = omega (arith, within, show.ensures.taken.0, show.ensures.taken.1, show.ensures.later.indexed, ap (λ (v : View). v.least.indexed) i.ensures.view);
       shows = c.in_ok-snapshot.ensures show.new.pass.view.seen (subst (λ (i : Indexed). HasTaken show.new.pass.view.seen i) (sym same) show.ensures.first);
     }

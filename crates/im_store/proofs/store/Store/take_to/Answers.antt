@@ -7,7 +7,7 @@ use Rattle.im_store.proofs.GainLemmas.{follows_placed, follows_self, follows_the
 use Rattle.im_store.proofs.store.Store.take_to.Goals as goal
 
 pub loop-init : goal.loop-init
-loop-init g c = record { can = tt; finite = tt; follows = follows_self c.args.pass.now; durable = refl; taken = c.requires.taken }
+loop-init g c = record { can = tt; finite = tt; follows = follows_self c.args.pass.now; durable = refl; indexed = refl; taken = c.requires.taken }
 
 -- the book is shown, and then its next transactions are taken
 pub take_some-requires-clause-seen : goal.take_some-requires-clause-seen
@@ -49,6 +49,7 @@ loop-preserved g c =
       finite = tt;
       follows = follows_then 0 c.args.pass.now show.new.pass take.new.pass a take.ensures.follows;
       durable = ap (λ (l : AllLooks). l.durable) take.ensures.looks ∙ ap (λ (l : AllLooks). l.durable) show.ensures.looks ∙ i.durable;
+      indexed = ap (λ (l : AllLooks). l.indexed) take.ensures.looks ∙ ap (λ (l : AllLooks). l.indexed) show.ensures.looks ∙ i.indexed;
       taken = (omega (arith, taken.0), omega (arith, taken.0, taken.1));
     }
 
@@ -64,6 +65,8 @@ returns-in_err-take_some-clause-follows g c =
     (follows_placed show.result c.loop.pass show.new.pass show.ensures.later show.ensures.adds show.ensures.looks) in
     follows_then 0 c.args.pass.now show.new.pass c.take_some.new.pass a c.take_some.ensures.follows
 
-pub returns-in_err-take_some-clause-durable : goal.returns-in_err-take_some-clause-durable
-returns-in_err-take_some-clause-durable g c =
-    ap (λ (l : AllLooks). l.durable) c.take_some.ensures.looks ∙ ap (λ (l : AllLooks). l.durable) c.show.ensures.looks ∙ c.loop.invariant.durable
+pub returns-in_err-take_some-clause-loads : goal.returns-in_err-take_some-clause-loads
+returns-in_err-take_some-clause-loads g c = (
+  ap (λ (l : AllLooks). l.durable) c.take_some.ensures.looks ∙ ap (λ (l : AllLooks). l.durable) c.show.ensures.looks ∙ c.loop.invariant.durable,
+  ap (λ (l : AllLooks). l.indexed) c.take_some.ensures.looks ∙ ap (λ (l : AllLooks). l.indexed) c.show.ensures.looks ∙ c.loop.invariant.indexed,
+)

@@ -8,5 +8,6 @@ invariant-loop g l = record {
   finite : (goal.iterator-loop g).is_finite l.iterator';
   follows : HasStepped 0 l.initial.pass l.pass;
   durable : l.pass.view.looks.durable ≡ l.initial.pass.view.looks.durable;
+  indexed : l.pass.view.looks.indexed ≡ l.initial.pass.view.looks.indexed;
   taken : (l.index.taken ≤ l.end) × (l.index.taken ≤ l.pass.view.least.indexed);
 }
