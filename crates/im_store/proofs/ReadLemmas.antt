@@ -1,6 +1,8 @@
 -- What is read of the pass's list.
-use Rattle.std.proofs.Common.{◌≡◌, ◌≤◌, ◌+◌, ◌-◌, ◌^◌, ℕ, ◌∙◌, ap, arith, inl, inr, Result, Ok, Err}
+use Rattle.std.proofs.Common.{◌≡◌, ◌≤◌, ◌+◌, ◌-◌, ◌^◌, ℕ, ◌∙◌, List, ap, sym, subst, arith, inl, inr, Result, Ok, Err}
 use Rattle.std.proofs.lemmas.Bool.{cases_lt}
+use Rattle.std.proofs.lemmas.List.{append-nil}
+use mathlib.Core.List.{IsPrefix}
 use Rattle.std.specs.Prelude.{IfErr, IsErrOf, None, Option}
 use Rattle.im_digest.specs.Digests.{Hash}
 use Rattle.im_disk.specs.Disk.{Told}
@@ -8,13 +10,38 @@ use Rattle.im_format.specs.declared.references.ValueRef.{ValueRef}
 use Rattle.im_journal.specs.Faults.{IsReadCounted}
 use Rattle.im_table.specs.Known.{KnownPass}
 use Rattle.im_table.specs.Passes.{AddsFaults}
-use Rattle.im_table.specs.Views.{looked_failed}
+use Rattle.im_table.specs.Views.{looked_failed, looked_placed}
+use Rattle.im_table.specs.declared.items.LogItem.{LogItem}
 use Rattle.im_table.specs.declared.view.AllLooks.{AllLooks}
 use Rattle.im_table.specs.declared.view.View.{View}
 use Rattle.im_vlog.specs.Showing.{IsCorrupt}
 use Rattle.im_vlog.specs.declared.showing.ValueError.{ValueError}
 use Rattle.im_vlog.specs.declared.showing.ValueError.TheVariants as Read
+use Rattle.im_store.specs.Gains.{HasStepped}
 use Rattle.im_store.specs.Reading.{IsReadFault}
+use Rattle.im_table.proofs.FrontLemmas.{prefix_self}
+use Rattle.im_store.proofs.GainLemmas.{looks_placed}
+
+-- a load of the word placed
+pub load_placed_follows : (old new : KnownPass) (n : ℕ) → new.table ≡ old.table → new.view ≡ looked_placed old.view n → HasStepped 0 old new
+load_placed_follows old new n table view = record {
+  later = record {
+    table = table;
+    roles = ap (λ (v : View). v.roles) view;
+    weight = ap (λ (v : View). v.weight) view;
+    seen = subst (λ (l : List LogItem). IsPrefix old.view.seen l) (sym (ap (λ (v : View). v.seen) view)) (prefix_self old.view.seen);
+    durable = (let x : new.view.least.durable ≡ old.view.least.durable = ap (λ (v : View). v.least.durable) view in omega (arith, x));
+    linked = (let x : new.view.least.linked ≡ old.view.least.linked = ap (λ (v : View). v.least.linked) view in omega (arith, x));
+    indexed = (let x : new.view.least.indexed ≡ old.view.least.indexed = ap (λ (v : View). v.least.indexed) view in omega (arith, x));
+    failed = (let x : new.view.least.failed ≡ old.view.least.failed = ap (λ (v : View). v.least.failed) view in omega (arith, x));
+  };
+  gains = record {
+    own = ap (λ (v : View). v.own) view ∙ sym (append-nil old.view.own);
+    leaves = (let x : new.view.leaves ≡ old.view.leaves = ap (λ (v : View). v.leaves) view in omega (arith, x));
+    faults = (let x : new.view.faults ≡ old.view.faults = ap (λ (v : View). v.faults) view in omega (arith, x));
+  };
+  looks = looks_placed old.view new.view.looks n (ap (λ (v : View). v.looks) view);
+}
 
 -- an octet string of another digest is one, whatever the disk told
 pub corrupt_untold : {T : Type 0} (hash : Hash) (told : Option Told) (value : ValueRef) (r : Result T ValueError)

@@ -72,7 +72,7 @@
 //! `Brand` names the store in contracts alone, and `Free` is the law that allows each history. Under another law `commit` asks that the
 //! transaction may stand behind any list that begins with the pass's, meets the law, and admits it; and what `commit`, `header`, `prove`,
 //! `advance`, `item` and `close` answer tells that the list they speak of meets the law (`IsListOf`), is a history, and has a
-//! reference for each value. No call hands out a reference, which `resolve` takes: the rule of the value logs says where the values of
+//! reference for each value; `snapshot` tells the law. No call hands out a reference, which `resolve` takes: the rule of the value logs says where the values of
 //! what was placed lie.
 //!
 //! # Passes

@@ -4,6 +4,7 @@ ghost use Rattle.im_model.specs.History.{header_of};
 ghost use Rattle.im_seated_journal.specs.Seats.{HasItemValue};
 ghost use Rattle.im_table.specs.Histories.{history_of};
 ghost use Rattle.im_table.specs.Passes.{IsPassOf, Later};
+ghost use Rattle.im_table.specs.References.{IsLawful};
 ghost use Rattle.im_vlog.specs.Showing.{IsCorrupt};
 ghost use Rattle.im_store.specs.Gains.{HasStepped, Gains};
 ghost use Rattle.im_store.specs.Lists.{IsListOf};
@@ -26,8 +27,8 @@ use std::sync::Wait;
 
 impl<'h, H: Hash32, D: Disk, C: Clock, L: Law, N: TipName> Store<'h, H, D, C, L, N> {
     /// What stands of the keys behind the first `n` transactions, as a value of the caller's own, whose reads wait for nobody: they
-    /// are the event Snap. It shares the index's runs, and copies none of their versions. Where the answer is `NotYet`, `index` takes
-    /// more.
+    /// are the event Snap. It shares the index's runs, and copies none of their versions. The pass's list meets the law, as a load of the
+    /// word placed tells. Where the answer is `NotYet`, `index` takes more.
     ///
     /// # Errors
     ///
@@ -44,6 +45,7 @@ impl<'h, H: Hash32, D: Disk, C: Clock, L: Law, N: TipName> Store<'h, H, D, C, L,
         ensures later { Later pass.old pass.new }
         ensures gains { Gains [] 0 0 pass.old pass.new }
         ensures ok { IfOk result (λ snapshot. AnswersKeys pass.old pass.new n snapshot) }
+        ensures meets { IfOk result (λ _. IsLawful L.allows N.logs pass.new.view.seen) }
         ensures err { IfErr result (λ error. ExplainsSnapshot pass.old pass.new n error) }
     {
         let durable = self.tip.load_durable(pass);
@@ -56,6 +58,7 @@ impl<'h, H: Hash32, D: Disk, C: Clock, L: Law, N: TipName> Store<'h, H, D, C, L,
         }
         let mut index = self.index.lock(rt);
         index.show(&self.tip, pass);
+        self.tip.load_placed(pass);
         Ok(index.snapshot(alloc, n)?)
     }
 
