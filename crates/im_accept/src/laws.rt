@@ -5,7 +5,7 @@ ghost use Rattle.im_text.specs.Lines.{AreTexts};
 ghost use Rattle.im_digest.specs.Digests.{Hash};
 ghost use Rattle.im_model.specs.declared.transactions.Transaction.{Transaction};
 ghost use Rattle.im_report.specs.Report.{Report};
-ghost use Rattle.im_script.specs.Script.{IsScript};
+ghost use Rattle.im_script.specs.Script.{IsScript, lines_of};
 ghost use Rattle.im_script.specs.declared.commands.Line.{Line};
 ghost use Rattle.im_wire.specs.Lines.{is_open};
 ghost use Rattle.im_wire.specs.Texts.{text};
@@ -14,7 +14,7 @@ ghost use Rattle.im_accept.specs.Taken.{line_text, AreReadBack, AreAcceptedAnswe
 
 /// The lines of a script have sessions' names.
 pub fn lines_of_a_script_have_sessions()
-    ensures { (octets : List ℕ) (lines : List Line) → IsScript octets lines → HaveSessions lines }
+    ensures { (octets : List ℕ) (script : List (List Line)) → IsScript octets script → HaveSessions (lines_of script) }
 {}
 
 /// The text of each message begins as an object does.

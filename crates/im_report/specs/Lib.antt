@@ -1,3 +1,5 @@
 pub mod Replies
 pub mod Report
 pub mod Reads
+pub mod Outcomes
+pub mod Sessions

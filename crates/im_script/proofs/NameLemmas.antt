@@ -1,0 +1,49 @@
+-- The names of sessions.
+use Rattle.std.proofs.Common.{◌≡◌, ℕ, suc, ◌+◌, ◌<◌, ◌≤◌, ◌||◌, List, [], ◌∷◌, ◌++◌, length, nat_lt, Bool, true, false, inl, inr, refl, subst, sym, ap, ◌∙◌, arith, append-nil, append_assoc, length-append, if◌then◌else◌}
+use Rattle.std.specs.List.{flat_map}
+use Rattle.std.proofs.lemmas.List.{flat_map-append}
+use Rattle.im_script.specs.declared.commands.Line.{Line}
+use Rattle.im_script.specs.Script.{Say, MayFollow, IsScript, has_name, with_name, names_of, lines_of}
+use Rattle.im_script.specs.Arguments.{IsTaken, SoFar, with_line}
+
+pub names-append : (names : List (List ℕ)) (xs ys : List Line) → names_of names (xs ++ ys) ≡ names_of (names_of names xs) ys
+names-append names [] ys = refl
+names-append names (x ∷ xs) ys = names-append (with_name names x.session) xs ys
+
+lines-append : (xs ys : List (List Line)) → lines_of (xs ++ ys) ≡ lines_of xs ++ lines_of ys
+lines-append [] ys = refl
+lines-append (x ∷ xs) ys = ap (λ (l : List Line). x ++ l) (lines-append xs ys) ∙ sym (append_assoc x (lines_of xs) (lines_of ys))
+
+-- the names that were read are those of the lines that were read
+abbrev pub HasNames : SoFar → Type 0
+HasNames s = s.names ≡ names_of [] (lines_of s.phases ++ s.lines)
+
+pub names-next : (before after : SoFar) (text : List ℕ) → IsTaken before text after → HasNames before → HasNames after
+names-next before after text (inl p) h = subst HasNames (sym p.1) h
+names-next before after text (inr (inl p)) h =
+    subst HasNames (sym p.1) (h ∙ ap (names_of []) (sym (append-nil _ ∙ lines-append before.phases (before.lines ∷ []) ∙ ap (λ (l : List Line). lines_of before.phases ++ l) (append-nil before.lines))))
+names-next before after text (inr (inr p)) h =
+    subst HasNames (sym p.1) (ap (λ (n : List (List ℕ)). with_name n p.0.session) h
+    ∙ (sym (names-append [] (lines_of before.phases ++ before.lines) (p.0 ∷ [])) ∙ ap (names_of []) (append_assoc (lines_of before.phases) before.lines (p.0 ∷ []))))
+
+pub names-end : (before : SoFar) → HasNames before → before.names ≡ names_of [] (lines_of (before.phases ++ before.lines ∷ []))
+names-end before h = h ∙ ap (names_of []) (sym (lines-append before.phases (before.lines ∷ []) ∙ ap (λ (l : List Line). lines_of before.phases ++ l) (append-nil before.lines)))
+
+-- at most eight
+few-with : (names : List (List ℕ)) (name : List ℕ) (b : Bool) → has_name names name ≡ b → (b || nat_lt (length names) 8) ≡ true → length names ≤ 8 → length (if b then names else names ++ name ∷ []) ≤ 8
+few-with names name true e may few = few
+few-with names name false e may few = omega (arith, length-append names (name ∷ []))
+
+few-names : (names : List (List ℕ)) (texts : List (List ℕ)) (lines : List Line) (more : List (List Line)) → Say names texts lines more → length names ≤ 8 → length (names_of names (lines ++ lines_of more)) ≤ 8
+few-names names [] lines more h few =
+    subst (λ (l : List Line). length (names_of names (l ++ lines_of more)) ≤ 8) (sym h.0) (subst (λ (m : List (List Line)). length (names_of names (lines_of m)) ≤ 8) (sym h.1) few)
+few-names names (t ∷ ts) lines more (inl h) few = few-names names ts lines more h.1 few
+few-names names (t ∷ ts) lines more (inr (inl h)) few =
+    let rest = few-names names ts h.2.0 h.2.1 h.2.3 few in
+    subst (λ (l : List Line). length (names_of names (l ++ lines_of more)) ≤ 8) (sym h.1) (subst (λ (m : List (List Line)). length (names_of names (lines_of m)) ≤ 8) (sym h.2.2) rest)
+few-names names (t ∷ ts) lines more (inr (inr h)) few =
+    subst (λ (l : List Line). length (names_of names (l ++ lines_of more)) ≤ 8) (sym h.2) (few-names (with_name names h.0.session) ts h.1 more h.5 (few-with names h.0.session (has_name names h.0.session) refl h.4 few))
+
+pub few-sessions : (octets : List ℕ) (script : List (List Line)) → IsScript octets script → length (names_of [] (lines_of script)) ≤ 8
+few-sessions octets script h =
+    let s = h.2 in subst (λ (l : List (List Line)). length (names_of [] (lines_of l)) ≤ 8) (sym s.2) (few-names [] h.0 s.0 s.1 s.3 (omega arith))

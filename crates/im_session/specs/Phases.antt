@@ -1,0 +1,77 @@
+-- What a phase comes to, between two moments of the pass that takes all others in; and what phases come to, one after the other.
+use Rattle.std.specs.Prelude.{◌≡◌, ◌⊎◌, ◌<◌, ◌≤◌, ◌+◌, ◌-◌, ◌++◌, ℕ, List, [], ◌∷◌, length, take, drop, map, max, false, Bool, All, IsTrue, Option, Some, None, IfSome, slice_index_or}
+use Rattle.std.specs.List.{flat_map, sum_by}
+use mathlib.Core.List.{IsPrefix}
+use Rattle.im_digest.specs.Digests.{Hash}
+use Rattle.im_accept.specs.Taken.{AreReadBack}
+use Rattle.im_report.specs.Outcomes.{Outcome, highest, line_in, numbers_in, of_session, reply_in}
+use Rattle.im_report.specs.Report.{Answered}
+use Rattle.im_report.specs.Sessions.{AreAllButLast, AreAnswered, AreOfOne, ArePhases, IsJustOver, IsPhase, first_replies, floor_reached, floors_of, lines_in, next_floor, next_low, phase_text, phases_text, replies_in, times_placed}
+use Rattle.im_script.specs.declared.commands.Line.{Line}
+use Rattle.im_session.specs.Lines.{IsWhy, MayBecome}
+use Rattle.im_session.specs.Runs.{IsAlone, IsDone, Start}
+use Rattle.im_session.specs.declared.errors.LineError.{LineError}
+use Rattle.im_session.specs.declared.sessions.Session.{Session}
+use Rattle.im_table.specs.Histories.{history_of}
+use Rattle.im_table.specs.Known.{KnownPass, TableId}
+use Rattle.im_table.specs.Views.{times}
+use Rattle.im_table.specs.declared.items.LogItem.{LogItem}
+
+-- each session has ended, one by one
+pub record AreDone (hash : Hash) (table : TableId) (before after : List Session) : Type 0 where
+  pub many : length after ≡ length before
+  pub each : (i : ℕ) (d : Session) → i < length before → IsDone hash table (slice_index_or before i d) (slice_index_or after i d)
+
+-- a pass has grown, and no number that it knows has fallen
+pub record HasGrown (old new : KnownPass) : Type 0 where
+  pub seen : IsPrefix old.view.seen new.view.seen
+  pub durable : old.view.least.durable ≤ new.view.least.durable
+  pub linked : old.view.least.linked ≤ new.view.least.linked
+  pub failed : old.view.least.failed ≤ new.view.least.failed
+
+-- the first line without a reply, in the script's order, and why it has none; each has one where there is no why
+pub record StopsAt (outcomes : List Outcome) (why : LineError) : Type 0 where
+  pub line : Line
+  pub next : (rest : List Line) × (drop (length (first_replies outcomes)) (map line_in outcomes) ≡ line ∷ rest)
+  pub because : IsWhy why line.command
+
+abbrev pub EndsPhase : List Outcome → Option LineError → Type 0
+EndsPhase outcomes None = AreAnswered outcomes
+EndsPhase outcomes (Some why) = StopsAt outcomes why
+
+-- how often a number is that of a transaction placed for a line of these
+abbrev pub times_in : ℕ → List Outcome → ℕ
+times_in k outcomes = sum_by (λ o. times k (numbers_in o)) outcomes
+
+-- where a phase begins
+abbrev pub start_at : KnownPass → Start
+start_at p = record { low = p.view.least.durable; floor = p.view.least.linked }
+
+-- One phase, of these lines. What is said of a list is said of each that the one list may have grown to.
+pub record IsPlayed (hash : Hash) (links : Bool) (old new : KnownPass) (lines : List Line) (outcomes : List Outcome) : Type 0 where
+  pub grown : HasGrown old new
+  pub lines_are : map line_in outcomes ≡ lines
+  pub each : (items : List LogItem) → MayBecome new items → IsPhase hash old.view.least.durable old.view.least.linked (history_of items) outcomes
+  pub again : (items : List LogItem) → MayBecome new items → AreReadBack hash (history_of items) (replies_in outcomes)
+  pub most : All (λ a. a.number ≤ new.view.least.durable) (replies_in outcomes)
+  pub reached : All (λ o. floor_reached old.view.least.linked outcomes o ≤ new.view.least.linked) outcomes
+  pub own : (k : ℕ) → times k new.view.own ≡ times k old.view.own + times_in k outcomes
+  pub many : length new.view.own ≡ length old.view.own + sum_by (λ o. length (numbers_in o)) outcomes
+  pub slack : old.view.least.linked + new.view.leaves ≤ new.view.least.linked + old.view.leaves
+  pub just : links ≡ false → AreOfOne (outcomes ∷ []) → new.view.least.linked + old.view.leaves ≡ old.view.least.linked + new.view.leaves
+      → (items : List LogItem) → MayBecome new items → length items ≡ old.view.least.durable + (length new.view.own - length old.view.own)
+      → All (IsJustOver (history_of items)) (floors_of old.view.least.linked outcomes)
+
+-- the phases played so far, from the first moment of the pass that takes all others in
+pub record AreSoFar (hash : Hash) (links : Bool) (first now : KnownPass) (script : List (List Line)) (phases : List (List Outcome)) : Type 0 where
+  pub grown : HasGrown first now
+  pub lines_are : lines_in phases ≡ script
+  pub each : (items : List LogItem) → MayBecome now items → ArePhases hash first.view.least.durable first.view.least.linked (history_of items) phases
+  pub again : (items : List LogItem) → MayBecome now items → All (λ outcomes. AreReadBack hash (history_of items) (replies_in outcomes)) phases
+  pub most : All (λ outcomes. All (λ a. a.number ≤ now.view.least.durable) (replies_in outcomes)) phases
+  pub ran : AreAllButLast phases
+  pub own : (k : ℕ) → times k now.view.own ≡ times k first.view.own + sum_by (times_in k) phases
+  pub slack : first.view.least.linked + now.view.leaves ≤ now.view.least.linked + first.view.leaves
+  pub just : links ≡ false → AreOfOne phases → now.view.least.linked + first.view.leaves ≡ first.view.least.linked + now.view.leaves
+      → (items : List LogItem) → MayBecome now items → length items ≡ first.view.least.durable + (length now.view.own - length first.view.own)
+      → All (IsJustOver (history_of items)) (floors_of first.view.least.linked (flat_map (λ outcomes. outcomes) phases))
