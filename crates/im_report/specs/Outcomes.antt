@@ -99,15 +99,19 @@ IsCutOff history low floor answers rest =
     (rest ≡ []) ⊎ ((line : Line) × (late : Option ℕ) × (others : List Line) × (rest ≡ halted line late ∷ map not_run others)
     × IfSome late (IsLate history (highest low answers) (floor_after floor answers) line.command))
 
--- What one session came to in a phase that it began at these numbers: behind how many transactions, and over a tree of which size at least.
--- Each reply is what its line is answered at its number; no number falls below that or the one before, and that of a `tx` rises; and each `tx` was
--- placed over a tree no smaller than the floor that the session had reached.
+-- The replies of a session that began at these numbers: behind how many transactions, and over a tree of which size at least. Each is what its line is
+-- answered at its number; no number falls below that or the one before, and that of a `tx` rises; and each `tx` was placed over a tree no smaller than
+-- the floor that the session had reached.
+pub record AreAnswers (hash : Hash) (low floor : ℕ) (history : List Transaction) (answers : List Answered) : Type 0 where
+  pub each : All (λ a. IsAnswer hash history a.line.command a.number a.reply) answers
+  pub least : All (Rises low) answers
+  pub rising : AllPairs (λ a b. Rises a.number b) answers
+  pub floors : All (IsOver history) (floors_told floor answers)
+
+-- what one session came to in a phase that it began at these numbers
 pub record IsSession (hash : Hash) (low floor : ℕ) (history : List Transaction) (outcomes : List Outcome) : Type 0 where
   pub answers : List Answered
   pub rest : List Outcome
   pub are : outcomes ≡ map answered answers ++ rest
   pub cut : IsCutOff history low floor answers rest
-  pub each : All (λ a. IsAnswer hash history a.line.command a.number a.reply) answers
-  pub least : All (Rises low) answers
-  pub rising : AllPairs (λ a b. Rises a.number b) answers
-  pub floors : All (IsOver history) (floors_told floor answers)
+  pub told : AreAnswers hash low floor history answers

@@ -35,6 +35,8 @@ pub record IsStep (hash : Hash) (old new : KnownPass) (a : Answered) : Type 0 wh
   pub over : IsTrue (is_placed a) → (items : List LogItem) → MayBecome new items → IsOver (history_of items) (a.number, old.view.least.linked)
   pub under : IsTrue (is_placed a) → (items : List LogItem) → MayBecome new items → (transaction_of (history_of items) a.number).bl ≤ new.view.least.linked
   pub floor : floor_by a.line.command a.number old.view.least.linked ≤ new.view.least.linked
+  pub calm : new.view.faults ≡ old.view.faults
+  pub linked_none : IsTrue (is_placed a) → new.view.leaves ≡ old.view.leaves
   pub slack : old.view.least.linked + new.view.leaves ≤ new.view.least.linked + old.view.leaves
   pub just : new.view.least.linked + old.view.leaves ≡ old.view.least.linked + new.view.leaves
       → new.view.least.durable ≡ old.view.least.durable + length (number_told (Some a))
@@ -53,14 +55,15 @@ abbrev pub IsWhy : LineError → Command → Type 0
 IsWhy DiskFault command = IsCommit command
 IsWhy Memory command = Unit {0}
 
--- how many failures of the disk a line without a reply told at most
-abbrev pub most_faults : LineError → ℕ
-most_faults DiskFault = 1
-most_faults Memory = 0
+-- where the disk failed the pass knows of a failure since the store was opened; where memory ran out it told none
+abbrev pub KnowsFault : LineError → KnownPass → KnownPass → Type 0
+KnowsFault DiskFault old new = 1 ≤ new.view.least.failed
+KnowsFault Memory old new = new.view.faults ≡ old.view.faults
 
 -- A line has no reply. At most one transaction was placed for it all the same.
 pub record IsStuck (old new : KnownPass) (line : Line) (why : LineError) : Type 0 where
   pub because : IsWhy why line.command
+  pub fault : KnowsFault why old new
   pub late : Option ℕ
   pub own : new.view.own ≡ old.view.own ++ number_or_none late
   pub tx : IfSome late (λ n. (items : List LogItem) → MayBecome new items → IsLate (history_of items) old.view.least.durable old.view.least.linked line.command n)

@@ -62,6 +62,15 @@ pub record IsPlayed (hash : Hash) (links : Bool) (old new : KnownPass) (lines : 
       → (items : List LogItem) → MayBecome new items → length items ≡ old.view.least.durable + (length new.view.own - length old.view.own)
       → All (IsJustOver (history_of items)) (floors_of old.view.least.linked outcomes)
 
+-- where phases have come to: behind how many transactions, and over a tree of which size
+abbrev pub low_after : ℕ → List (List Outcome) → ℕ
+low_after low [] = low
+low_after low (outcomes ∷ phases) = low_after (next_low low outcomes) phases
+
+abbrev pub floor_behind : ℕ → List (List Outcome) → ℕ
+floor_behind floor [] = floor
+floor_behind floor (outcomes ∷ phases) = floor_behind (next_floor floor outcomes) phases
+
 -- the phases played so far, from the first moment of the pass that takes all others in
 pub record AreSoFar (hash : Hash) (links : Bool) (first now : KnownPass) (script : List (List Line)) (phases : List (List Outcome)) : Type 0 where
   pub grown : HasGrown first now
@@ -70,6 +79,8 @@ pub record AreSoFar (hash : Hash) (links : Bool) (first now : KnownPass) (script
   pub again : (items : List LogItem) → MayBecome now items → All (λ outcomes. AreReadBack hash (history_of items) (replies_in outcomes)) phases
   pub most : All (λ outcomes. All (λ a. a.number ≤ now.view.least.durable) (replies_in outcomes)) phases
   pub ran : AreAllButLast phases
+  pub low : low_after first.view.least.durable phases ≤ now.view.least.durable
+  pub floor : floor_behind first.view.least.linked phases ≤ now.view.least.linked
   pub own : (k : ℕ) → times k now.view.own ≡ times k first.view.own + sum_by (times_in k) phases
   pub slack : first.view.least.linked + now.view.leaves ≤ now.view.least.linked + first.view.leaves
   pub just : links ≡ false → AreOfOne phases → now.view.least.linked + first.view.leaves ≡ first.view.least.linked + now.view.leaves

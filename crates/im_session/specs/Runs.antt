@@ -1,22 +1,18 @@
 -- What a session knows while it runs, and what sessions, a linker and an indexer come to in a phase.
-use Rattle.std.specs.Prelude.{◌≡◌, ◌⊎◌, ◌≤◌, ◌+◌, ◌++◌, ℕ, List, [], ◌∷◌, length, take, map, filter, false, true, Bool, All, Option, Some, None, IfSome, slice_index_or}
-use Rattle.std.specs.List.{flat_map, sum_by}
-use Rattle.std.specs.Str.{bytes_eq}
+use Rattle.std.specs.Prelude.{◌≡◌, ◌≤◌, ◌+◌, ◌++◌, ℕ, List, [], ◌∷◌, length, map, All, Option, Some, None}
 use mathlib.Core.List.{IsPrefix}
 use Rattle.im_digest.specs.Digests.{Hash}
 use Rattle.im_accept.specs.Taken.{AreReadBack}
-use Rattle.im_model.specs.History.{transaction_of}
-use Rattle.im_report.specs.Outcomes.{Outcome, IsLate, IsSession, answered, floors_told, halted, not_run, numbers_in, highest}
+use Rattle.im_report.specs.Outcomes.{AreAnswers, floors_told, number_told}
 use Rattle.im_report.specs.Report.{Answered, answer_line, floor_after}
 use Rattle.im_report.specs.Sessions.{IsJustOver}
 use Rattle.im_script.specs.declared.commands.Line.{Line}
-use Rattle.im_session.specs.Lines.{IsStuck, IsWhy, MayBecome}
+use Rattle.im_session.specs.Lines.{IsStuck, MayBecome}
 use Rattle.im_session.specs.declared.errors.LineError.{LineError}
 use Rattle.im_session.specs.declared.sessions.Session.{Session}
 use Rattle.im_table.specs.Histories.{history_of}
 use Rattle.im_table.specs.Known.{KnownPass, TableId}
 use Rattle.im_table.specs.Passes.{IsPassOf}
-use Rattle.im_table.specs.Views.{times}
 use Rattle.im_table.specs.declared.items.LogItem.{LogItem}
 
 -- where a session begins: behind how many durable transactions, and over a tree of which size, as far as its pass knows then
@@ -26,7 +22,8 @@ pub record Start : Type 0 where
 
 -- the numbers told by the replies
 abbrev pub numbers_told : List Answered → List ℕ
-numbers_told answers = flat_map numbers_in (map answered answers)
+numbers_told [] = []
+numbers_told (a ∷ answers) = number_told (Some a) ++ numbers_told answers
 
 -- Since it began the pass has seen no leaf linked, and no transaction made durable, that aren't its own.
 pub record IsAlone (start : Start) (p : KnownPass) : Type 0 where
@@ -36,9 +33,10 @@ pub record IsAlone (start : Start) (p : KnownPass) : Type 0 where
 -- Answered so far: of each list that the one list may have grown to, the replies are those of a session. Its own numbers are those that they told. Leaves and
 -- own transactions are among what it knows; and where there are no others the floor is exact.
 pub record IsRun (hash : Hash) (start : Start) (p : KnownPass) (answers : List Answered) : Type 0 where
-  pub session : (items : List LogItem) → MayBecome p items → IsSession hash start.low start.floor (history_of items) (map answered answers)
+  pub session : (items : List LogItem) → MayBecome p items → AreAnswers hash start.low start.floor (history_of items) answers
   pub again : (items : List LogItem) → MayBecome p items → AreReadBack hash (history_of items) answers
   pub own : p.view.own ≡ numbers_told answers
+  pub calm : p.view.faults ≡ 0
   pub known : All (λ a. a.number ≤ p.view.least.durable) answers
   pub from : start.low ≤ p.view.least.durable
   pub reached : floor_after start.floor answers ≤ p.view.least.linked

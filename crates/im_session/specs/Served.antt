@@ -11,7 +11,7 @@ use Rattle.im_edge.specs.Counts.{Rose}
 use Rattle.im_format.specs.Standing.{Stands, StandsFrom}
 use Rattle.im_model.specs.declared.transactions.Transaction.{Transaction}
 use Rattle.im_report.specs.Outcomes.{Outcome}
-use Rattle.im_report.specs.Sessions.{AreAnswered, SessionsReport, lines_in, phase_text, phases_text, replies_in}
+use Rattle.im_report.specs.Sessions.{AreAnswered, AreOfOne, SessionsReport, lines_in, phase_text, phases_text, replies_in}
 use Rattle.im_script.specs.declared.commands.Line.{Line}
 use Rattle.im_seated_journal.specs.Seats.{RoseBy}
 use Rattle.im_session.specs.Calls.{MakesBatches}
@@ -100,4 +100,5 @@ pub record Serves {D : Type 0} (told : D → Option Told) (faults : D → ℕ) (
   pub asked : AskedFor (drop (length n.found) history) n.given given
   pub calls : MakesBatches n.digest n.logs (length n.found) history n.synced (told disk)
   pub fault : end ≡ Err (stops.Line line.DiskFault) → RoseBy n.faults (faults disk) 1
-  pub unharmed : (end ≡ Err (stops.Line line.DiskFault) → ⊥) → faults disk ≡ n.faults
+  pub unharmed : ((why : LineError) → end ≡ Err (stops.Line why) → ⊥) → faults disk ≡ n.faults
+  pub unharmed_alone : AreOfOne phases → (end ≡ Err (stops.Line line.DiskFault) → ⊥) → faults disk ≡ n.faults

@@ -1,0 +1,5 @@
+pub mod GrowLemmas
+pub mod StepLemmas
+pub mod RunLemmas
+pub mod PhaseLemmas
+pub mod TogetherLemmas
