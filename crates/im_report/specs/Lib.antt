@@ -3,3 +3,5 @@ pub mod Report
 pub mod Reads
 pub mod Outcomes
 pub mod Sessions
+pub mod Alone
+pub mod Further

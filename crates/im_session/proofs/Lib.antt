@@ -3,3 +3,5 @@ pub mod StepLemmas
 pub mod RunLemmas
 pub mod PhaseLemmas
 pub mod TogetherLemmas
+pub mod EndLemmas
+pub mod EachLemmas

@@ -44,7 +44,7 @@ answers_less hash l f m g h answers le up s = record {
   floors = floors_less h f g answers up s.floors;
 }
 
-late_less : (h : List Transaction) (l f m g : ℕ) (line : Line) (late : Option ℕ) → l ≤ m → f ≤ g → IfSome late (IsLate h m g line.command) → IfSome late (IsLate h l f line.command)
+pub late_less : (h : List Transaction) (l f m g : ℕ) (line : Line) (late : Option ℕ) → l ≤ m → f ≤ g → IfSome late (IsLate h m g line.command) → IfSome late (IsLate h l f line.command)
 late_less h l f m g line None le up s = s
 late_less h l f m g line (Some n) le up s = record {
   pres = s.pres;

@@ -1,10 +1,22 @@
 -- What became of the lines of each session comes together in the script's order.
-use Rattle.std.proofs.Common.{◌≡◌, ◌≢◌, ℕ, zero, suc, ◌+◌, ◌<◌, ◌≤◌, ◌++◌, List, [], ◌∷◌, length, map, filter, Bool, true, false, if◌then◌else◌, refl, ap, ap₂, sym, ◌∙◌, subst, arith}
+use Rattle.std.proofs.Common.{◌≡◌, ◌≢◌, ◌||◌, true≢false, ℕ, zero, suc, ◌+◌, ◌<◌, ◌≤◌, ◌++◌, List, [], ◌∷◌, length, map, filter, Bool, true, false, if◌then◌else◌, refl, ap, ap₂, sym, ◌∙◌, subst, arith}
+use Rattle.std.specs.Prelude.{All, AllPairs}
+use Rattle.std.specs.List.{sum_by}
+use Rattle.std.proofs.lemmas.List.Sums.{sum_by-cons}
 use Rattle.std.specs.Str.{bytes_eq}
 use Rattle.std.proofs.lemmas.Slice.Eq.{bytes_eq-Decides}
 use Rattle.im_report.specs.Outcomes.{Outcome, not_run, of_session}
 use Rattle.im_script.specs.declared.commands.Line.{Line}
-use Rattle.im_session.specs.Dealing.{lines_with}
+use Rattle.im_script.specs.Script.{has_name}
+use Rattle.im_session.specs.Dealing.{AreNamed, lines_with}
+
+-- two names that differ are told apart
+not-same : (a b : List ℕ) → (a ≡ b → ⊥) → bytes_eq a b ≡ false
+not-same a b differ = go (bytes_eq a b) refl
+  where
+    go : (t : Bool) → bytes_eq a b ≡ t → bytes_eq a b ≡ false
+    go true e = absurd (differ ((bytes_eq-Decides a b).0 e))
+    go false e = e
 
 -- of each session, by its name, what became of its lines
 abbrev pub Each : Type 0
@@ -91,3 +103,66 @@ together_own (line ∷ lines) each h name =
     go false e o is test rest =
         ap (λ (b : Bool). if b then o ∷ of_session name (together lines (without line.session each)) else of_session name (together lines (without line.session each))) (test ∙ e)
         ∙ rest ∙ ap (λ (b : Bool). if b then rest_of (each name) else each name) e
+
+-- added up over the sessions with these names, each once, what is counted of an outcome is what it is in the script's order
+abbrev pub sum_each : (Outcome → ℕ) → List (List ℕ) → Each → ℕ
+sum_each f names each = sum_by (λ name. sum_by f (each name)) names
+
+-- one session's first outcome, and what the sessions have without it
+without_sum : (f : Outcome → ℕ) (o : Outcome) (outcomes : List Outcome) (name : List ℕ) (names : List (List ℕ)) (each : Each) → has_name names name ≡ true → AllPairs (λ a b. a ≢ b) names
+    → each name ≡ o ∷ outcomes → sum_each f names each ≡ f o + sum_each f names (without name each)
+without_sum f o outcomes name [] each has apart e = absurd (true≢false (sym has))
+without_sum f o outcomes name (first ∷ names) each has apart e = go (bytes_eq first name) refl
+  where
+    here : bytes_eq first name ≡ true → sum_by f (each first) ≡ f o + sum_by f (without name each first)
+    here same =
+        let is : first ≡ name = (bytes_eq-Decides first name).0 same in
+        let back : bytes_eq name first ≡ true = (bytes_eq-Decides name first).1 (sym is) in
+        let own : each first ≡ o ∷ outcomes = ap each is ∙ e in
+        let left : without name each first ≡ outcomes = ap (λ (b : Bool). if b then rest_of (each first) else each first) back ∙ ap rest_of own in
+        omega (arith, ap (sum_by f) own, sum_by-cons f o outcomes, ap (sum_by f) left)
+
+    others : (xs : List (List ℕ)) → All (λ x. x ≢ name) xs → sum_each f xs (without name each) ≡ sum_each f xs each
+    others [] all = refl
+    others (x ∷ xs) all =
+        let apart' : bytes_eq name x ≡ false = not-same name x (λ q. all 0 x (omega arith) (sym q)) in
+        let same : without name each x ≡ each x = ap (λ (b : Bool). if b then rest_of (each x) else each x) apart' in
+        let rest = others xs (λ i d lt. all (suc i) d (omega arith)) in
+        omega (arith, rest, ap (sum_by f) same, sum_by-cons (λ n. sum_by f (each n)) x xs, sum_by-cons (λ n. sum_by f (without name each n)) x xs)
+
+    go : (b : Bool) → bytes_eq first name ≡ b → sum_each f (first ∷ names) each ≡ f o + sum_each f (first ∷ names) (without name each)
+    go true same =
+        let is : first ≡ name = (bytes_eq-Decides first name).0 same in
+        let far : All (λ x. x ≢ name) names = λ i d lt q. apart 0 (suc i) d (omega arith) (omega (arith, lt)) (is ∙ sym q) in
+        omega (arith, here same, others names far, sum_by-cons (λ n. sum_by f (each n)) first names, sum_by-cons (λ n. sum_by f (without name each n)) first names)
+    go false other =
+        let back : bytes_eq name first ≡ false = not-same name first (λ q. true≢false (sym ((bytes_eq-Decides first name).1 (sym q)) ∙ other)) in
+        let kept : without name each first ≡ each first = ap (λ (b : Bool). if b then rest_of (each first) else each first) back in
+        let rest = without_sum f o outcomes name names each (ap (λ (b : Bool). b || has_name names name) (sym other) ∙ has) (λ i j d lt less. apart (suc i) (suc j) d (omega (arith, lt)) (omega (arith, less))) e in
+        omega (arith, rest, ap (sum_by f) kept, sum_by-cons (λ n. sum_by f (each n)) first names, sum_by-cons (λ n. sum_by f (without name each n)) first names)
+
+pub together_sum : (f : Outcome → ℕ) (names : List (List ℕ)) (lines : List Line) (each : Each) → Matches lines each → AreNamed names lines → AllPairs (λ a b. a ≢ b) names
+    → ((name : List ℕ) → has_name names name ≡ false → each name ≡ []) → sum_by f (together lines each) ≡ sum_each f names each
+together_sum f names [] each h named apart none = sym (empty names)
+  where
+    nothing : (outcomes : List Outcome) → map (λ (o : Outcome). o.line) outcomes ≡ [] → outcomes ≡ []
+    nothing [] e = refl
+    nothing (o ∷ outcomes) e = cc e
+
+    empty : (xs : List (List ℕ)) → sum_each f xs each ≡ 0
+    empty [] = refl
+    empty (x ∷ xs) = omega (arith, ap (sum_by f) (nothing (each x) (h x)), empty xs, sum_by-cons (λ n. sum_by f (each n)) x xs)
+together_sum f names (line ∷ lines) each h named apart none =
+    let own : map (λ (o : Outcome). o.line) (each line.session) ≡ line ∷ lines_with line.session lines = h line.session ∙ own_first line lines in
+    let fl = first_line line (lines_with line.session lines) (each line.session) own in
+    let o = first_of line (each line.session) in
+    let rest = together_sum f names lines (without line.session each) (matches_rest line lines each h) (λ i d lt. named (suc i) d (omega (arith, lt))) apart (none_behind line each none) in
+    let whole = without_sum f o (rest_of (each line.session)) line.session names each (named 0 line (omega arith)) apart fl.2 in
+    omega (arith, rest, whole, sum_by-cons f o (together lines (without line.session each)))
+  where
+    none_behind : (l : Line) (es : Each) → ((name : List ℕ) → has_name names name ≡ false → es name ≡ []) → (name : List ℕ) → has_name names name ≡ false → without l.session es name ≡ []
+    none_behind l es no name e = go (bytes_eq l.session name) refl
+      where
+        go : (b : Bool) → bytes_eq l.session name ≡ b → without l.session es name ≡ []
+        go true q = ap (λ (b : Bool). if b then rest_of (es name) else es name) q ∙ ap rest_of (no name e)
+        go false q = ap (λ (b : Bool). if b then rest_of (es name) else es name) q ∙ no name e

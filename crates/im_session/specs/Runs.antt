@@ -12,7 +12,7 @@ use Rattle.im_session.specs.declared.errors.LineError.{LineError}
 use Rattle.im_session.specs.declared.sessions.Session.{Session}
 use Rattle.im_table.specs.Histories.{history_of}
 use Rattle.im_table.specs.Known.{KnownPass, TableId}
-use Rattle.im_table.specs.Passes.{IsPassOf}
+use Rattle.im_table.specs.Passes.{IsPassOf, Later}
 use Rattle.im_table.specs.declared.items.LogItem.{LogItem}
 
 -- where a session begins: behind how many durable transactions, and over a tree of which size, as far as its pass knows then
@@ -49,6 +49,7 @@ pub record IsRun (hash : Hash) (start : Start) (p : KnownPass) (answers : List A
 pub record IsCutAt (hash : Hash) (start : Start) (p : KnownPass) (answers : List Answered) (line : Line) (why : LineError) : Type 0 where
   pub before : KnownPass
   pub run : IsRun hash start before answers
+  pub later : Later before p
   pub stuck : IsStuck before p line why
 
 -- The lines were answered, and the texts are those of the replies, in order; or those before one that got no reply, and none behind it was run.

@@ -1,0 +1,79 @@
+-- Rising numbers that are those of a range, each as often, are that range.
+use Rattle.std.proofs.Common.{◌≡◌, ◌≢◌, ◌⊎◌, inl, inr, ℕ, zero, suc, ◌+◌, ◌-◌, ◌<◌, ◌≤◌, ◌==◌, ◌++◌, List, [], ◌∷◌, length, Bool, true, false, cond, refl, ap, ap₂, sym, ◌∙◌, subst, arith}
+use Rattle.std.specs.Prelude.{All, AllPairs}
+use Rattle.std.specs.List.{range_with_len}
+use Rattle.std.proofs.lemmas.Bool.{cases_lt}
+use Rattle.std.proofs.lemmas.Bool.Decides.{eqb_tells}
+use Rattle.im_report.specs.Sessions.{times}
+
+-- a number stands in a list that begins with it
+times_here : (n : ℕ) (xs : List ℕ) → times n (n ∷ xs) ≡ suc (times n xs)
+times_here n xs = go (eqb_tells n n)
+  where
+    go : (((n == n) ≡ true) × (n ≡ n)) ⊎ (((n == n) ≡ false) × (n ≢ n)) → times n (n ∷ xs) ≡ suc (times n xs)
+    go (inl e) = ap (λ (b : Bool). cond b 1 0 + times n xs) e.0
+    go (inr e) = absurd (e.1 refl)
+
+-- and not where all are above it
+pub times_below : (n : ℕ) (xs : List ℕ) → All (λ x. n < x) xs → times n xs ≡ 0
+times_below n [] all = refl
+times_below n (x ∷ xs) all = go (eqb_tells x n)
+  where
+    rest : times n xs ≡ 0
+    rest = times_below n xs (λ i d lt. all (suc i) d (omega arith))
+
+    go : (((x == n) ≡ true) × (x ≡ n)) ⊎ (((x == n) ≡ false) × (x ≢ n)) → times n (x ∷ xs) ≡ 0
+    go (inl e) = absurd (let lt : n < x = all 0 x (omega arith) in omega (arith, lt, e.1))
+    go (inr e) = ap (λ (b : Bool). cond b 1 0 + times n xs) e.0 ∙ rest
+
+range_above : (a k count : ℕ) → k < a → All (λ x. k < x) (range_with_len a count)
+range_above a k zero lt = λ i d less. absurd (omega arith)
+range_above a k (suc count) lt = cons (range_above (a + 1) k count (omega arith))
+  where
+    cons : All (λ x. k < x) (range_with_len (a + 1) count) → All (λ x. k < x) (a ∷ range_with_len (a + 1) count)
+    cons rest zero d less = lt
+    cons rest (suc i) d less = rest i d (omega arith)
+
+-- without the first of both
+times_rest : (x : ℕ) (xs ys : List ℕ) → ((k : ℕ) → times k (x ∷ xs) ≡ times k (x ∷ ys)) → (k : ℕ) → times k xs ≡ times k ys
+times_rest x xs ys same k = omega (arith, same k)
+
+rest_rises : (x : ℕ) (xs : List ℕ) → AllPairs (λ a b. a < b) (x ∷ xs) → AllPairs (λ a b. a < b) xs
+rest_rises x xs rises = λ i j d lt less. rises (suc i) (suc j) d (omega (arith, lt)) (omega (arith, less))
+
+first_below : (x : ℕ) (xs : List ℕ) → AllPairs (λ a b. a < b) (x ∷ xs) → All (λ y. x < y) xs
+first_below x xs rises = λ i d lt. rises 0 (suc i) d (omega arith) (omega (arith, lt))
+
+-- the first is the range's first: were it less, it would stand in the list alone, and were it more, the range's first would
+not_below : (x : ℕ) (xs : List ℕ) (a count : ℕ) → ((k : ℕ) → times k (x ∷ xs) ≡ times k (range_with_len a count)) → x < a → ⊥
+not_below x xs a count same lt =
+    let e : suc (times x xs) ≡ 0 = sym (times_here x xs) ∙ same x ∙ times_below x (range_with_len a count) (range_above a x count lt) in omega (arith, e)
+
+all_above : (a x : ℕ) (xs : List ℕ) → AllPairs (λ y z. y < z) (x ∷ xs) → a < x → All (λ y. a < y) (x ∷ xs)
+all_above a x xs rises lt zero d less = lt
+all_above a x xs rises lt (suc i) d less = let b = first_below x xs rises i d (omega (arith, less)) in omega (arith, lt, b)
+
+not_above : (x : ℕ) (xs : List ℕ) (a count : ℕ) → AllPairs (λ y z. y < z) (x ∷ xs) → ((k : ℕ) → times k (x ∷ xs) ≡ times k (range_with_len a (suc count))) → a < x → ⊥
+not_above x xs a count rises same lt =
+    let none : times a (x ∷ xs) ≡ 0 = times_below a (x ∷ xs) (all_above a x xs rises lt) in
+    let e : 0 ≡ suc (times a (range_with_len (a + 1) count)) = sym none ∙ same a ∙ times_here a (range_with_len (a + 1) count) in omega (arith, e)
+
+first_same : (x : ℕ) (xs : List ℕ) (a count : ℕ) → AllPairs (λ y z. y < z) (x ∷ xs) → ((k : ℕ) → times k (x ∷ xs) ≡ times k (range_with_len a (suc count))) → x ≡ a
+first_same x xs a count rises same = go (cases_lt x a)
+  where
+    up : (a < x) ⊎ (x ≤ a) → a ≤ x → x ≡ a
+    up (inl lt) le = absurd (not_above x xs a count rises same lt)
+    up (inr ge) le = omega (arith, ge, le)
+
+    go : (x < a) ⊎ (a ≤ x) → x ≡ a
+    go (inl lt) = absurd (not_below x xs a (suc count) same lt)
+    go (inr le) = up (cases_lt a x) le
+
+pub rising_range : (xs : List ℕ) (a count : ℕ) → AllPairs (λ x y. x < y) xs → ((k : ℕ) → times k xs ≡ times k (range_with_len a count)) → xs ≡ range_with_len a count
+rising_range [] a zero rises same = refl
+rising_range [] a (suc count) rises same = absurd (let e : 0 ≡ suc (times a (range_with_len (a + 1) count)) = same a ∙ times_here a (range_with_len (a + 1) count) in omega (arith, e))
+rising_range (x ∷ xs) a zero rises same = absurd (let e : suc (times x xs) ≡ 0 = sym (times_here x xs) ∙ same x in omega (arith, e))
+rising_range (x ∷ xs) a (suc count) rises same =
+    let moved : x ≡ a → (k : ℕ) → times k (x ∷ xs) ≡ times k (x ∷ range_with_len (a + 1) count) = λ e k. same k ∙ ap (λ (n : ℕ). times k (n ∷ range_with_len (a + 1) count)) (sym e) in
+    let e : x ≡ a = first_same x xs a count rises same in
+    ap₂ (λ (n : ℕ) (ns : List ℕ). n ∷ ns) e (rising_range xs (a + 1) count (rest_rises x xs rises) (times_rest x xs (range_with_len (a + 1) count) (moved e)))

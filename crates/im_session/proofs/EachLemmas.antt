@@ -1,0 +1,188 @@
+-- What became of the lines of sessions, by their names.
+use Rattle.std.proofs.Common.{◌≡◌, ◌≢◌, ◌⊎◌, inl, inr, ◌||◌, true≢false, ℕ, zero, suc, ◌+◌, ◌-◌, ◌<◌, ◌≤◌, ◌==◌, ◌++◌, List, [], ◌∷◌, length, map, filter, drop, Bool, true, false, cond, if◌then◌else◌, Option, Some, None, slice_get, slice_index_or, refl, ap, ap₂, sym, ◌∙◌, subst, arith}
+use Rattle.std.specs.Prelude.{All, AllPairs}
+use Rattle.std.specs.List.{flat_map}
+use Rattle.std.specs.Str.{bytes_eq}
+use Rattle.std.proofs.lemmas.Slice.Eq.{bytes_eq-Decides}
+use Rattle.std.proofs.lemmas.List.Elements.{All-append}
+use Rattle.im_report.specs.Outcomes.{Outcome, answer_or_none, line_in, of_session, reply_in}
+use Rattle.im_report.specs.Report.{Answered, answer_line}
+use Rattle.im_report.specs.Sessions.{before_others, first_replies, replies_in}
+use Rattle.im_script.specs.Script.{has_name}
+use Rattle.im_script.specs.declared.commands.Line.{Line}
+use Rattle.im_session.proofs.TogetherLemmas.{Each, Matches, first_line, first_of, matches_rest, not-same, own_first, rest_of, together, together_own, without}
+use Rattle.im_session.specs.Dealing.{AreNamed, lines_with}
+use Rattle.im_session.specs.Lines.{IsWhy}
+use Rattle.im_session.specs.Written.{next_text, text_before, texts_in_order, without_first}
+use Rattle.im_session.specs.declared.errors.LineError.{LineError}
+
+-- of these lists that of the session with this name, and none of any other
+abbrev pub each_of : List (List ℕ) → List (List Outcome) → Each
+each_of [] outs name = []
+each_of (first ∷ names) [] name = []
+each_of (first ∷ names) (out ∷ outs) name = if bytes_eq first name then out else each_of names outs name
+
+-- what holds of each list, and of none, holds by each name
+pub each_all : (P : List Outcome → Type 0) (names : List (List ℕ)) (outs : List (List Outcome)) → P [] → All P outs → (name : List ℕ) → P (each_of names outs name)
+each_all P [] outs none all name = none
+each_all P (first ∷ names) [] none all name = none
+each_all P (first ∷ names) (out ∷ outs) none all name = go (bytes_eq first name)
+  where
+    go : (b : Bool) → P (if b then out else each_of names outs name)
+    go true = all 0 out (omega arith)
+    go false = each_all P names outs none (λ i d lt. all (suc i) d (omega (arith, lt))) name
+
+-- a name that stands in the list finds its lines
+each_found : (names : List (List ℕ)) (outs : List (List Outcome)) (lines : List Line) (name : List ℕ) → map (map line_in) outs ≡ map (λ n. lines_with n lines) names → has_name names name ≡ true
+    → map line_in (each_of names outs name) ≡ lines_with name lines
+each_found [] outs lines name e has = absurd (true≢false (sym has))
+each_found (first ∷ names) [] lines name e has = absurd (cc e)
+each_found (first ∷ names) (out ∷ outs) lines name e has = go (bytes_eq first name) refl
+  where
+    go : (b : Bool) → bytes_eq first name ≡ b → map line_in (each_of (first ∷ names) (out ∷ outs) name) ≡ lines_with name lines
+    go true q =
+        let is : first ≡ name = (bytes_eq-Decides first name).0 q in
+        let here : map line_in out ≡ lines_with first lines = cc e in
+        ap (λ (b : Bool). map line_in (if b then out else each_of names outs name)) q ∙ here ∙ ap (λ (n : List ℕ). lines_with n lines) is
+    go false q =
+        let more : map (map line_in) outs ≡ map (λ n. lines_with n lines) names = cc e in
+        ap (λ (b : Bool). map line_in (if b then out else each_of names outs name)) q ∙ each_found names outs lines name more (ap (λ (b : Bool). b || has_name names name) (sym q) ∙ has)
+
+-- a name that doesn't has none
+pub each_none : (names : List (List ℕ)) (outs : List (List Outcome)) (name : List ℕ) → has_name names name ≡ false → each_of names outs name ≡ []
+each_none [] outs name has = refl
+each_none (first ∷ names) [] name has = refl
+each_none (first ∷ names) (out ∷ outs) name has = go (bytes_eq first name) refl
+  where
+    go : (b : Bool) → bytes_eq first name ≡ b → each_of (first ∷ names) (out ∷ outs) name ≡ []
+    go true q = absurd (true≢false (ap (λ (b : Bool). b || has_name names name) (sym q) ∙ has))
+    go false q = ap (λ (b : Bool). if b then out else each_of names outs name) q ∙ each_none names outs name (ap (λ (b : Bool). b || has_name names name) (sym q) ∙ has)
+
+lines_none : (names : List (List ℕ)) (lines : List Line) (name : List ℕ) → AreNamed names lines → has_name names name ≡ false → lines_with name lines ≡ []
+lines_none names [] name named has = refl
+lines_none names (line ∷ lines) name named has =
+    let other : bytes_eq line.session name ≡ false = not-same line.session name (λ q. true≢false (sym (named 0 line (omega arith)) ∙ (ap (has_name names) q ∙ has))) in
+    ap (λ (b : Bool). if b then line ∷ lines_with name lines else lines_with name lines) other ∙ lines_none names lines name (λ i d lt. named (suc i) d (omega (arith, lt))) has
+
+pub each_matches : (names : List (List ℕ)) (outs : List (List Outcome)) (lines : List Line) → AreNamed names lines → map (map line_in) outs ≡ map (λ n. lines_with n lines) names → Matches lines (each_of names outs)
+each_matches names outs lines named e name = go (has_name names name) refl
+  where
+    go : (b : Bool) → has_name names name ≡ b → map line_in (each_of names outs name) ≡ lines_with name lines
+    go true has = each_found names outs lines name e has
+    go false has = ap (map line_in) (each_none names outs name has) ∙ sym (lines_none names lines name named has)
+
+-- what holds of each outcome of each session holds of all of them together
+pub together_all : (P : Outcome → Type 0) (lines : List Line) (each : Each) → Matches lines each → ((name : List ℕ) → All P (each name)) → All P (together lines each)
+together_all P [] each h all = λ i d lt. absurd (omega arith)
+together_all P (line ∷ lines) each h all = cons one rest
+  where
+    own : map line_in (each line.session) ≡ line ∷ lines_with line.session lines
+    own = h line.session ∙ own_first line lines
+
+    split : each line.session ≡ first_of line (each line.session) ∷ rest_of (each line.session)
+    split = (first_line line (lines_with line.session lines) (each line.session) own).2
+
+    one : P (first_of line (each line.session))
+    one = subst (All P) split (all line.session) 0 (first_of line (each line.session)) (omega arith)
+
+    left : (name : List ℕ) → All P (without line.session each name)
+    left name = go (bytes_eq line.session name) refl
+      where
+        go : (b : Bool) → bytes_eq line.session name ≡ b → All P (without line.session each name)
+        go true q = subst (All P) (sym (ap (λ (b : Bool). if b then rest_of (each name) else each name) q)) (tail (each name) (all name))
+        go false q = subst (All P) (sym (ap (λ (b : Bool). if b then rest_of (each name) else each name) q)) (all name)
+
+        tail : (os : List Outcome) → All P os → All P (rest_of os)
+        tail [] a = a
+        tail (o ∷ os) a = λ i d lt. a (suc i) d (omega (arith, lt))
+
+    rest : All P (together lines (without line.session each))
+    rest = together_all P lines (without line.session each) (matches_rest line lines each h) left
+
+    cons : P (first_of line (each line.session)) → All P (together lines (without line.session each)) → All P (first_of line (each line.session) ∷ together lines (without line.session each))
+    cons p ps zero d lt = p
+    cons p ps (suc i) d lt = ps i d (omega (arith, lt))
+
+-- of each reply
+pub replies_all : (P : Answered → Type 0) (outcomes : List Outcome) → All (λ o. All P (reply_in o)) outcomes → All P (replies_in outcomes)
+replies_all P [] all = λ i d lt. absurd (omega arith)
+replies_all P (o ∷ outcomes) all = All-append P (reply_in o) (replies_in outcomes) (all 0 o (omega arith)) (replies_all P outcomes (λ i d lt. all (suc i) d (omega (arith, lt))))
+
+-- the texts that a session has: those of its replies, up to its first line without one
+abbrev pub texts_of : List Outcome → List (List ℕ)
+texts_of outcomes = map answer_line (first_replies outcomes)
+
+-- each line has the number of its session's name
+abbrev pub AreNumbered : List (List ℕ) → List Line → List ℕ → Type 0
+AreNumbered names [] [] = Unit {0}
+AreNumbered names [] (number ∷ order) = ⊥
+AreNumbered names (line ∷ lines) [] = ⊥
+AreNumbered names (line ∷ lines) (number ∷ order) = (slice_get names number ≡ Some line.session) × AreNumbered names lines order
+
+-- the texts of the session with a number are those by its name
+text_at : (g : List ℕ → List (List ℕ)) (names : List (List ℕ)) (number : ℕ) (name : List ℕ) → slice_get names number ≡ Some name → slice_index_or (map g names) number [] ≡ g name
+text_at g [] number name e = cc e
+text_at g (first ∷ names) zero name e = ap g (cc e)
+text_at g (first ∷ names) (suc number) name e = text_at g names number name e
+
+-- without the first text of one session, whose name stands once
+left_at : (each : Each) (names : List (List ℕ)) (number : ℕ) (name : List ℕ) → AllPairs (λ a b. a ≢ b) names → slice_get names number ≡ Some name → drop 1 (texts_of (each name)) ≡ texts_of (rest_of (each name))
+    → without_first number (map (λ n. texts_of (each n)) names) ≡ map (λ n. texts_of (without name each n)) names
+left_at each [] number name apart e one = refl
+left_at each (first ∷ names) zero name apart e one =
+    let is : first ≡ name = cc e in
+    let back : bytes_eq name first ≡ true = (bytes_eq-Decides name first).1 (sym is) in
+    let here : drop 1 (texts_of (each first)) ≡ texts_of (without name each first) =
+        ap (λ (n : List ℕ). drop 1 (texts_of (each n))) is ∙ one ∙ ap (λ (n : List ℕ). texts_of (rest_of (each n))) (sym is) ∙ ap (λ (b : Bool). texts_of (if b then rest_of (each first) else each first)) (sym back) in
+    ap₂ (λ (x : List (List ℕ)) (xs : List (List (List ℕ))). x ∷ xs) here (unmoved names (λ i d lt q. apart 0 (suc i) d (omega arith) (omega (arith, lt)) (is ∙ sym q)))
+  where
+    unmoved : (ns : List (List ℕ)) → All (λ n. n ≢ name) ns → map (λ n. texts_of (each n)) ns ≡ map (λ n. texts_of (without name each n)) ns
+    unmoved [] all = refl
+    unmoved (n ∷ ns) all =
+        let other : bytes_eq name n ≡ false = not-same name n (λ q. all 0 n (omega arith) (sym q)) in
+        ap₂ (λ (x : List (List ℕ)) (xs : List (List (List ℕ))). x ∷ xs) (ap (λ (b : Bool). texts_of (if b then rest_of (each n) else each n)) (sym other)) (unmoved ns (λ i d lt. all (suc i) d (omega (arith, lt))))
+left_at each (first ∷ names) (suc number) name apart e one =
+    let far : first ≢ name = first_far names number e (λ i d lt. apart 0 (suc i) d (omega arith) (omega (arith, lt))) in
+    let other : bytes_eq name first ≡ false = not-same name first (λ q. far (sym q)) in
+    ap₂ (λ (x : List (List ℕ)) (xs : List (List (List ℕ))). x ∷ xs) (ap (λ (b : Bool). texts_of (if b then rest_of (each first) else each first)) (sym other))
+    (left_at each names number name (λ i j d lt less. apart (suc i) (suc j) d (omega (arith, lt)) (omega (arith, less))) e one)
+  where
+    first_far : (ns : List (List ℕ)) (k : ℕ) → slice_get ns k ≡ Some name → All (λ n. first ≢ n) ns → first ≢ name
+    first_far [] k q all = cc q
+    first_far (n ∷ ns) zero q all = λ same. all 0 n (omega arith) (same ∙ sym (cc q))
+    first_far (n ∷ ns) (suc k) q all = first_far ns k q (λ i d lt. all (suc i) d (omega (arith, lt)))
+
+-- In the script's order the texts of the sessions are those of the first replies of all of them together.
+pub order_texts : (names : List (List ℕ)) (lines : List Line) (order : List ℕ) (each : Each) → AllPairs (λ a b. a ≢ b) names → AreNumbered names lines order → Matches lines each
+    → texts_in_order order (map (λ n. texts_of (each n)) names) ≡ map answer_line (first_replies (together lines each))
+order_texts names [] [] each apart numbered h = refl
+order_texts names [] (number ∷ order) each apart numbered h = absurd numbered
+order_texts names (line ∷ lines) [] each apart numbered h = absurd numbered
+order_texts names (line ∷ lines) (number ∷ order) each apart numbered h = go (first_of line (each line.session)).reply refl
+  where
+    own : map line_in (each line.session) ≡ line ∷ lines_with line.session lines
+    own = h line.session ∙ own_first line lines
+
+    split : each line.session ≡ first_of line (each line.session) ∷ rest_of (each line.session)
+    split = (first_line line (lines_with line.session lines) (each line.session) own).2
+
+    texts : texts_of (each line.session) ≡ map answer_line (before_others (first_of line (each line.session)).reply (first_replies (rest_of (each line.session))))
+    texts = ap texts_of split
+
+    next : next_text number (map (λ n. texts_of (each n)) names) ≡ slice_get (texts_of (each line.session)) 0
+    next = ap (λ (l : List (List ℕ)). slice_get l 0) (text_at (λ n. texts_of (each n)) names number line.session numbered.0)
+
+    go : (r : Option Answered) → (first_of line (each line.session)).reply ≡ r
+        → texts_in_order (number ∷ order) (map (λ n. texts_of (each n)) names) ≡ map answer_line (first_replies (together (line ∷ lines) each))
+    go None e =
+        let none : next_text number (map (λ n. texts_of (each n)) names) ≡ None = next ∙ ap (λ (l : List (List ℕ)). slice_get l 0) (texts ∙ ap (λ (r : Option Answered). map answer_line (before_others r (first_replies (rest_of (each line.session))))) e) in
+        ap (λ (t : Option (List ℕ)). text_before t (texts_in_order order (without_first number (map (λ n. texts_of (each n)) names)))) none
+        ∙ sym (ap (λ (r : Option Answered). map answer_line (before_others r (first_replies (together lines (without line.session each))))) e)
+    go (Some a) e =
+        let whole : texts_of (each line.session) ≡ answer_line a ∷ texts_of (rest_of (each line.session)) = texts ∙ ap (λ (r : Option Answered). map answer_line (before_others r (first_replies (rest_of (each line.session))))) e in
+        let some : next_text number (map (λ n. texts_of (each n)) names) ≡ Some (answer_line a) = next ∙ ap (λ (l : List (List ℕ)). slice_get l 0) whole in
+        let left = left_at each names number line.session apart numbered.0 (ap (drop 1) whole) in
+        let rest = order_texts names lines order (without line.session each) apart numbered.1 (matches_rest line lines each h) in
+        ap (λ (t : Option (List ℕ)). text_before t (texts_in_order order (without_first number (map (λ n. texts_of (each n)) names)))) some
+        ∙ ap (λ (xs : List (List ℕ)). answer_line a ∷ xs) (ap (texts_in_order order) left ∙ rest)
+        ∙ sym (ap (λ (r : Option Answered). map answer_line (before_others r (first_replies (together lines (without line.session each))))) e)
