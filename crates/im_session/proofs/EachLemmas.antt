@@ -1,6 +1,6 @@
 -- What became of the lines of sessions, by their names.
 use Rattle.std.proofs.Common.{◌≡◌, ◌≢◌, ◌⊎◌, inl, inr, ◌||◌, true≢false, ℕ, zero, suc, ◌+◌, ◌-◌, ◌<◌, ◌≤◌, ◌==◌, ◌++◌, List, [], ◌∷◌, length, map, filter, drop, Bool, true, false, cond, if◌then◌else◌, Option, Some, None, slice_get, slice_index_or, refl, ap, ap₂, sym, ◌∙◌, subst, arith}
-use Rattle.std.specs.Prelude.{All, AllPairs}
+use Rattle.std.specs.Prelude.{All, AllPairs, IsSome}
 use Rattle.std.specs.List.{flat_map}
 use Rattle.std.specs.Str.{bytes_eq}
 use Rattle.std.proofs.lemmas.Slice.Eq.{bytes_eq-Decides}
@@ -11,9 +11,9 @@ use Rattle.im_report.specs.Sessions.{before_others, first_replies, replies_in}
 use Rattle.im_script.specs.Script.{has_name}
 use Rattle.im_script.specs.declared.commands.Line.{Line}
 use Rattle.im_session.proofs.TogetherLemmas.{Each, Matches, first_line, first_of, matches_rest, not-same, own_first, rest_of, together, together_own, without}
-use Rattle.im_session.specs.Dealing.{AreNamed, lines_with}
+use Rattle.im_session.specs.Dealing.{AreNamed, AreNumbered, lines_with}
 use Rattle.im_session.specs.Lines.{IsWhy}
-use Rattle.im_session.specs.Written.{next_text, text_before, texts_in_order, without_first}
+use Rattle.im_session.specs.Written.{next_text, stop_in_order, stop_or, text_before, texts_in_order, without_first}
 use Rattle.im_session.specs.declared.errors.LineError.{LineError}
 
 -- of these lists that of the session with this name, and none of any other
@@ -112,13 +112,6 @@ replies_all P (o ∷ outcomes) all = All-append P (reply_in o) (replies_in outco
 abbrev pub texts_of : List Outcome → List (List ℕ)
 texts_of outcomes = map answer_line (first_replies outcomes)
 
--- each line has the number of its session's name
-abbrev pub AreNumbered : List (List ℕ) → List Line → List ℕ → Type 0
-AreNumbered names [] [] = Unit {0}
-AreNumbered names [] (number ∷ order) = ⊥
-AreNumbered names (line ∷ lines) [] = ⊥
-AreNumbered names (line ∷ lines) (number ∷ order) = (slice_get names number ≡ Some line.session) × AreNumbered names lines order
-
 -- the texts of the session with a number are those by its name
 text_at : (g : List ℕ → List (List ℕ)) (names : List (List ℕ)) (number : ℕ) (name : List ℕ) → slice_get names number ≡ Some name → slice_index_or (map g names) number [] ≡ g name
 text_at g [] number name e = cc e
@@ -186,3 +179,82 @@ order_texts names (line ∷ lines) (number ∷ order) each apart numbered h = go
         ap (λ (t : Option (List ℕ)). text_before t (texts_in_order order (without_first number (map (λ n. texts_of (each n)) names)))) some
         ∙ ap (λ (xs : List (List ℕ)). answer_line a ∷ xs) (ap (texts_in_order order) left ∙ rest)
         ∙ sym (ap (λ (r : Option Answered). map answer_line (before_others r (first_replies (together lines (without line.session each))))) e)
+
+-- a line without a reply is one for which this is why; of one with a reply, what is said of those behind it
+abbrev pub stop_fits_at : Option Answered → Option LineError → Outcome → Type 0 → Type 0
+stop_fits_at None why o later = (w : LineError) × (why ≡ Some w) × IsWhy w o.line.command
+stop_fits_at (Some a) why o later = later
+
+-- the first line of a session without a reply, where there is one, is one for which this is why
+abbrev pub StopFits : Option LineError → List Outcome → Type 0
+StopFits why [] = Unit {0}
+StopFits why (o ∷ outcomes) = stop_fits_at o.reply why o (StopFits why outcomes)
+
+-- What ends a phase in the script's order: a session, by its number, with the line that has no reply; or nothing, and each line has one.
+abbrev pub EndsAt : List (List ℕ) → (List ℕ → Option LineError) → List Outcome → Option ℕ → Type 0
+EndsAt names whys outcomes None = All (λ o. IsSome o.reply) outcomes
+EndsAt names whys outcomes (Some number) =
+    (name : List ℕ) × (slice_get names number ≡ Some name) × (w : LineError) × (whys name ≡ Some w)
+    × ((line : Line) × (rest : List Line) × (drop (length (first_replies outcomes)) (map line_in outcomes) ≡ line ∷ rest) × IsWhy w line.command)
+
+pub order_stop : (names : List (List ℕ)) (whys : List ℕ → Option LineError) (lines : List Line) (order : List ℕ) (each : Each) → AllPairs (λ a b. a ≢ b) names → AreNumbered names lines order → Matches lines each
+    → ((name : List ℕ) → StopFits (whys name) (each name))
+    → EndsAt names whys (together lines each) (stop_in_order order (map (λ n. texts_of (each n)) names))
+order_stop names whys [] [] each apart numbered h fits = λ i d lt. absurd (omega arith)
+order_stop names whys [] (number ∷ order) each apart numbered h fits = absurd numbered
+order_stop names whys (line ∷ lines) [] each apart numbered h fits = absurd numbered
+order_stop names whys (line ∷ lines) (number ∷ order) each apart numbered h fits = go o.reply refl
+  where
+    o : Outcome
+    o = first_of line (each line.session)
+
+    own : map line_in (each line.session) ≡ line ∷ lines_with line.session lines
+    own = h line.session ∙ own_first line lines
+
+    parts : (o.line ≡ line) × (map line_in (rest_of (each line.session)) ≡ lines_with line.session lines) × (each line.session ≡ o ∷ rest_of (each line.session))
+    parts = first_line line (lines_with line.session lines) (each line.session) own
+
+    texts : texts_of (each line.session) ≡ map answer_line (before_others o.reply (first_replies (rest_of (each line.session))))
+    texts = ap texts_of parts.2
+
+    next : next_text number (map (λ n. texts_of (each n)) names) ≡ slice_get (texts_of (each line.session)) 0
+    next = ap (λ (l : List (List ℕ)). slice_get l 0) (text_at (λ n. texts_of (each n)) names number line.session numbered.0)
+
+    fit : StopFits (whys line.session) (o ∷ rest_of (each line.session))
+    fit = subst (StopFits (whys line.session)) parts.2 (fits line.session)
+
+    behind : (a : Answered) → o.reply ≡ Some a → (name : List ℕ) → StopFits (whys name) (without line.session each name)
+    behind a e name = at (bytes_eq line.session name) refl
+      where
+        at : (b : Bool) → bytes_eq line.session name ≡ b → StopFits (whys name) (without line.session each name)
+        at true q =
+            let is : line.session ≡ name = (bytes_eq-Decides line.session name).0 q in
+            let later : StopFits (whys line.session) (rest_of (each line.session)) = subst (λ (r : Option Answered). stop_fits_at r (whys line.session) o (StopFits (whys line.session) (rest_of (each line.session)))) e fit in
+            subst (StopFits (whys name)) (sym (ap (λ (b : Bool). if b then rest_of (each name) else each name) q)) (subst (λ (n : List ℕ). StopFits (whys n) (rest_of (each n))) is later)
+        at false q = subst (StopFits (whys name)) (sym (ap (λ (b : Bool). if b then rest_of (each name) else each name) q)) (fits name)
+
+    on : (a : Answered) → o.reply ≡ Some a → (s : Option ℕ) → EndsAt names whys (together lines (without line.session each)) s → EndsAt names whys (together (line ∷ lines) each) s
+    on a e None all = λ i d lt. first i d lt
+      where
+        first : All (λ p. IsSome p.reply) (together (line ∷ lines) each)
+        first zero d lt = subst IsSome (sym e) tt
+        first (suc i) d lt = all i d (omega (arith, lt))
+    on a e (Some k) (name, at, w, is, l, rest, next', because) =
+        (name, at, w, is, l, rest, ap (λ (r : Option Answered). drop (length (before_others r (first_replies (together lines (without line.session each))))) (o.line ∷ map line_in (together lines (without line.session each)))) e ∙ next', because)
+
+    go : (r : Option Answered) → o.reply ≡ r → EndsAt names whys (together (line ∷ lines) each) (stop_in_order (number ∷ order) (map (λ n. texts_of (each n)) names))
+    go None e =
+        let none : next_text number (map (λ n. texts_of (each n)) names) ≡ None = next ∙ ap (λ (l : List (List ℕ)). slice_get l 0) (texts ∙ ap (λ (r : Option Answered). map answer_line (before_others r (first_replies (rest_of (each line.session))))) e) in
+        let f = subst (λ (r : Option Answered). stop_fits_at r (whys line.session) o (StopFits (whys line.session) (rest_of (each line.session)))) e fit in
+        let here : EndsAt names whys (together (line ∷ lines) each) (Some number) =
+            (line.session, numbered.0, f.0, f.1, o.line, map line_in (together lines (without line.session each)),
+            ap (λ (r : Option Answered). drop (length (before_others r (first_replies (together lines (without line.session each))))) (o.line ∷ map line_in (together lines (without line.session each)))) e, f.2) in
+        subst (EndsAt names whys (together (line ∷ lines) each)) (sym (ap (λ (t : Option (List ℕ)). stop_or t number (stop_in_order order (without_first number (map (λ n. texts_of (each n)) names)))) none)) here
+    go (Some a) e =
+        let whole : texts_of (each line.session) ≡ answer_line a ∷ texts_of (rest_of (each line.session)) = texts ∙ ap (λ (r : Option Answered). map answer_line (before_others r (first_replies (rest_of (each line.session))))) e in
+        let some : next_text number (map (λ n. texts_of (each n)) names) ≡ Some (answer_line a) = next ∙ ap (λ (l : List (List ℕ)). slice_get l 0) whole in
+        let left = left_at each names number line.session apart numbered.0 (ap (drop 1) whole) in
+        let rest = order_stop names whys lines order (without line.session each) apart numbered.1 (matches_rest line lines each h) (behind a e) in
+        let same : stop_in_order (number ∷ order) (map (λ n. texts_of (each n)) names) ≡ stop_in_order order (map (λ n. texts_of (without line.session each n)) names) =
+            ap (λ (t : Option (List ℕ)). stop_or t number (stop_in_order order (without_first number (map (λ n. texts_of (each n)) names)))) some ∙ ap (stop_in_order order) left in
+        subst (EndsAt names whys (together (line ∷ lines) each)) (sym same) (on a e (stop_in_order order (map (λ n. texts_of (without line.session each n)) names)) rest)
