@@ -1,7 +1,11 @@
 -- The names of sessions.
-use Rattle.std.proofs.Common.{◌≡◌, ℕ, suc, ◌+◌, ◌<◌, ◌≤◌, ◌||◌, List, [], ◌∷◌, ◌++◌, length, nat_lt, Bool, true, false, inl, inr, refl, subst, sym, ap, ◌∙◌, arith, append-nil, append_assoc, length-append, if◌then◌else◌}
+use Rattle.std.proofs.Common.{◌≡◌, ◌≢◌, ℕ, zero, suc, ◌+◌, ◌<◌, ◌≤◌, ◌||◌, List, [], ◌∷◌, ◌++◌, length, nat_lt, Bool, true, false, inl, inr, refl, subst, sym, ap, ◌∙◌, arith, append-nil, append_assoc, length-append, if◌then◌else◌}
 use Rattle.std.specs.List.{flat_map}
-use Rattle.std.proofs.lemmas.List.{flat_map-append}
+use Rattle.std.specs.Prelude.{All, AllPairs}
+use Rattle.std.specs.Str.{bytes_eq}
+use Rattle.std.proofs.lemmas.Bool.{both_ways, or_parts, true≢false}
+use Rattle.std.proofs.lemmas.List.Quantifiers.{all_pairs_push}
+use Rattle.std.proofs.lemmas.Slice.Eq.{bytes_eq-Decides}
 use Rattle.im_script.specs.declared.commands.Line.{Line}
 use Rattle.im_script.specs.Script.{Say, MayFollow, IsScript, has_name, with_name, names_of, lines_of}
 use Rattle.im_script.specs.Arguments.{IsTaken, SoFar, with_line}
@@ -47,3 +51,64 @@ few-names names (t ∷ ts) lines more (inr (inr h)) few =
 pub few-sessions : (octets : List ℕ) (script : List (List Line)) → IsScript octets script → length (names_of [] (lines_of script)) ≤ 8
 few-sessions octets script h =
     let s = h.2 in subst (λ (l : List (List Line)). length (names_of [] (lines_of l)) ≤ 8) (sym s.2) (few-names [] h.0 s.0 s.1 s.3 (omega arith))
+
+-- a name that isn't among them differs from each
+far-name : (names : List (List ℕ)) (name : List ℕ) → has_name names name ≡ false → All (λ n. n ≢ name) names
+far-name [] name e = λ i d lt. absurd (omega arith)
+far-name (first ∷ names) name e = cons (far-name names name (or_parts (bytes_eq first name) (has_name names name) e).1)
+  where
+    cons : All (λ n. n ≢ name) names → All (λ n. n ≢ name) (first ∷ names)
+    cons rest zero d lt = λ q. both_ways (bytes_eq first name) (or_parts (bytes_eq first name) (has_name names name) e).0 ((bytes_eq-Decides first name).1 q)
+    cons rest (suc i) d lt = rest i d (omega (arith, lt))
+
+-- no name stands twice
+apart-with : (names : List (List ℕ)) (name : List ℕ) (b : Bool) → has_name names name ≡ b → AllPairs (λ m n. m ≢ n) names → AllPairs (λ m n. m ≢ n) (if b then names else names ++ name ∷ [])
+apart-with names name true e apart = apart
+apart-with names name false e apart = all_pairs_push (λ m n. m ≢ n) names name apart (far-name names name e)
+
+pub names-apart : (names : List (List ℕ)) (lines : List Line) → AllPairs (λ m n. m ≢ n) names → AllPairs (λ m n. m ≢ n) (names_of names lines)
+names-apart names [] apart = apart
+names-apart names (line ∷ lines) apart = names-apart (with_name names line.session) lines (apart-with names line.session (has_name names line.session) refl apart)
+
+has-front : (xs ys : List (List ℕ)) (other : List ℕ) → has_name xs other ≡ true → has_name (xs ++ ys) other ≡ true
+has-front [] ys other has = absurd (true≢false (sym has))
+has-front (x ∷ xs) ys other has = go (bytes_eq x other) refl
+  where
+    go : (b : Bool) → bytes_eq x other ≡ b → (bytes_eq x other || has_name (xs ++ ys) other) ≡ true
+    go true e = ap (λ (t : Bool). t || has_name (xs ++ ys) other) e
+    go false e = ap (λ (t : Bool). t || has_name (xs ++ ys) other) e ∙ has-front xs ys other (ap (λ (t : Bool). t || has_name xs other) (sym e) ∙ has)
+
+-- each line has one of the names
+has-with : (names : List (List ℕ)) (name other : List ℕ) → has_name names other ≡ true → has_name (with_name names name) other ≡ true
+has-with names name other has = go (has_name names name)
+  where
+    go : (b : Bool) → has_name (if b then names else names ++ name ∷ []) other ≡ true
+    go true = has
+    go false = has-front names (name ∷ []) other has
+
+has-last : (xs : List (List ℕ)) (name : List ℕ) → has_name (xs ++ name ∷ []) name ≡ true
+has-last [] name = ap (λ (t : Bool). t || false) ((bytes_eq-Decides name name).1 refl)
+has-last (x ∷ xs) name = go (bytes_eq x name)
+  where
+    go : (b : Bool) → (b || has_name (xs ++ name ∷ []) name) ≡ true
+    go true = refl
+    go false = has-last xs name
+
+own-with : (names : List (List ℕ)) (name : List ℕ) → has_name (with_name names name) name ≡ true
+own-with names name = go (has_name names name) refl
+  where
+    go : (b : Bool) → has_name names name ≡ b → has_name (if b then names else names ++ name ∷ []) name ≡ true
+    go true e = e
+    go false e = has-last names name
+
+names-keep : (names : List (List ℕ)) (lines : List Line) (other : List ℕ) → has_name names other ≡ true → has_name (names_of names lines) other ≡ true
+names-keep names [] other has = has
+names-keep names (line ∷ lines) other has = names-keep (with_name names line.session) lines other (has-with names line.session other has)
+
+pub names-all : (names : List (List ℕ)) (lines : List Line) → All (λ line. has_name (names_of names lines) line.session ≡ true) lines
+names-all names [] = λ i d lt. absurd (omega arith)
+names-all names (line ∷ lines) = cons (names-all (with_name names line.session) lines)
+  where
+    cons : All (λ l. has_name (names_of names (line ∷ lines)) l.session ≡ true) lines → All (λ l. has_name (names_of names (line ∷ lines)) l.session ≡ true) (line ∷ lines)
+    cons rest zero d lt = names-keep (with_name names line.session) lines line.session (own-with names line.session)
+    cons rest (suc i) d lt = rest i d (omega (arith, lt))

@@ -5,3 +5,4 @@ pub mod PhaseLemmas
 pub mod TogetherLemmas
 pub mod EndLemmas
 pub mod EachLemmas
+pub mod OutLemmas

@@ -1,5 +1,5 @@
 // One phase: the lines are dealt, the sessions run, and their passes are taken in again.
-ghost use Rattle.std.specs.Prelude.{◌≡◌, ◌≤◌, ◌<◌, ◌+◌, List, [], length, map, IfOk, OnErr};
+ghost use Rattle.std.specs.Prelude.{◌≡◌, ◌≢◌, ◌≤◌, ◌<◌, ◌+◌, AllPairs, List, [], length, map, IfOk, OnErr};
 ghost use Rattle.std.specs.List.{All, flat_map};
 ghost use Rattle.im_report.specs.Outcomes.{Outcome};
 ghost use Rattle.im_report.specs.Sessions.{phase_text};
@@ -142,6 +142,7 @@ pub(crate) fn play<H: Hash32 + Sync, D: Disk + Send, C: Clock + Send, G: Gate + 
 ) -> Result<Played, AllocError>
     requires pass { IsWholePass N.table main.old }
     requires named { AreNamed names.now phase }
+    requires apart { AllPairs (λ a b. a ≢ b) names.now }
     requires few { length names.now ≤ 8 }
     ensures pass { IsWholePass N.table main.new }
     ensures played { IfOk result (λ played. (outcomes : List Outcome) × IsPlayed N.digest links main.old main.new phase outcomes

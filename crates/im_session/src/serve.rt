@@ -1,4 +1,4 @@
-ghost use Rattle.std.specs.Prelude.{◌≡◌, ◌<◌, ◌≤◌, List, [], length, true};
+ghost use Rattle.std.specs.Prelude.{◌≡◌, ◌≢◌, ◌<◌, ◌≤◌, AllPairs, List, [], length, true};
 ghost use Rattle.std.specs.List.{All, flat_map};
 ghost use Rattle.im_edge.specs.Counts.{Rose};
 ghost use Rattle.im_report.specs.Outcomes.{Outcome};
@@ -84,6 +84,7 @@ fn run_one<H: Hash32 + Sync, K: Sink, D: Disk + Send, C: Clock + Send, G: Gate +
 ) -> Result<(), Stopped>
     requires pass { IsWholePass N.table main.old }
     requires named { AreNamed names.now phase }
+    requires apart { AllPairs (λ a b. a ≢ b) names.now }
     requires few { length names.now ≤ 8 }
     ensures pass { IsWholePass N.table main.new }
     ensures ran { RunsPhase N.digest links main.old main.new phase (K.written sink.old) (K.written sink.new) (K.faults sink.old) (K.faults sink.new) result }
