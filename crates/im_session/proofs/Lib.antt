@@ -6,3 +6,5 @@ pub mod TogetherLemmas
 pub mod EndLemmas
 pub mod EachLemmas
 pub mod OutLemmas
+pub mod PlayLemmas
+pub mod SoFarLemmas

@@ -56,8 +56,7 @@ pub record IsPlayed (hash : Hash) (links : Bool) (old new : KnownPass) (lines : 
   pub most : All (λ a. a.number ≤ new.view.least.durable) (replies_in outcomes)
   pub reached : All (λ o. floor_reached old.view.least.linked outcomes o ≤ new.view.least.linked) outcomes
   pub own : (k : ℕ) → times k new.view.own ≡ times k old.view.own + times_in k outcomes
-  pub many : length new.view.own ≡ length old.view.own + sum_by (λ o. length (numbers_in o)) outcomes
-  pub slack : old.view.least.linked + new.view.leaves ≤ new.view.least.linked + old.view.leaves
+  pub slack : links ≡ false → AreOfOne (outcomes ∷ []) → old.view.least.linked + new.view.leaves ≤ new.view.least.linked + old.view.leaves
   pub just : links ≡ false → AreOfOne (outcomes ∷ []) → new.view.least.linked + old.view.leaves ≡ old.view.least.linked + new.view.leaves
       → (items : List LogItem) → MayBecome new items → length items ≡ old.view.least.durable + (length new.view.own - length old.view.own)
       → All (IsJustOver (history_of items)) (floors_of old.view.least.linked outcomes)
@@ -82,7 +81,7 @@ pub record AreSoFar (hash : Hash) (links : Bool) (first now : KnownPass) (script
   pub low : low_after first.view.least.durable phases ≤ now.view.least.durable
   pub floor : floor_behind first.view.least.linked phases ≤ now.view.least.linked
   pub own : (k : ℕ) → times k now.view.own ≡ times k first.view.own + sum_by (times_in k) phases
-  pub slack : first.view.least.linked + now.view.leaves ≤ now.view.least.linked + first.view.leaves
+  pub slack : links ≡ false → AreOfOne phases → first.view.least.linked + now.view.leaves ≤ now.view.least.linked + first.view.leaves
   pub just : links ≡ false → AreOfOne phases → now.view.least.linked + first.view.leaves ≡ first.view.least.linked + now.view.leaves
       → (items : List LogItem) → MayBecome now items → length items ≡ first.view.least.durable + (length now.view.own - length first.view.own)
       → All (IsJustOver (history_of items)) (floors_of first.view.least.linked (flat_map (λ outcomes. outcomes) phases))
