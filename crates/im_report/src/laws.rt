@@ -6,7 +6,7 @@ ghost use Rattle.im_model.specs.declared.transactions.Transaction.{Transaction};
 ghost use Rattle.im_report.specs.Alone.{ReportsAlone};
 ghost use Rattle.im_report.specs.Further.{AreFurther};
 ghost use Rattle.im_report.specs.Outcomes.{Outcome};
-ghost use Rattle.im_report.specs.Report.{Answered, Report};
+ghost use Rattle.im_report.specs.Report.{Report};
 ghost use Rattle.im_report.specs.Sessions.{AreAnswered, AreOfOne, SessionsReport, lines_in, phases_text};
 ghost use Rattle.im_script.specs.Script.{lines_of};
 

@@ -7,8 +7,8 @@ use Rattle.std.proofs.lemmas.Bool.{both_ways, or_parts, true≢false}
 use Rattle.std.proofs.lemmas.List.Quantifiers.{all_pairs_push}
 use Rattle.std.proofs.lemmas.Slice.Eq.{bytes_eq-Decides}
 use Rattle.im_script.specs.declared.commands.Line.{Line}
-use Rattle.im_script.specs.Script.{Say, MayFollow, IsScript, has_name, with_name, names_of, lines_of}
-use Rattle.im_script.specs.Arguments.{IsTaken, SoFar, with_line}
+use Rattle.im_script.specs.Script.{Say, IsScript, has_name, with_name, names_of, lines_of}
+use Rattle.im_script.specs.Arguments.{IsTaken, SoFar}
 
 pub names-append : (names : List (List ℕ)) (xs ys : List Line) → names_of names (xs ++ ys) ≡ names_of (names_of names xs) ys
 names-append names [] ys = refl

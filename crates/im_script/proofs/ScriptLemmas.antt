@@ -4,7 +4,7 @@ use Rattle.std.proofs.lemmas.Bool.{eqb-true}
 use Rattle.im_script.specs.declared.commands.Line.{Line}
 use Rattle.im_text.specs.Lines.{AreTexts, IsFirstText}
 use Rattle.im_text.proofs.LineLemmas.{texts-exist, texts-more}
-use Rattle.im_script.specs.Script.{Say, Stop, IsScript, StopsAfter, with_name}
+use Rattle.im_script.specs.Script.{Say, Stop, IsScript, StopsAfter}
 use Rattle.im_script.specs.Arguments.{IsTaken, IsTextRefused, SoFar, with_end, with_line}
 
 -- behind lines of sessions with these names, the octets say what is left of a phase, and the phases behind it

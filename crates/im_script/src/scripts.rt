@@ -1,6 +1,6 @@
 ghost use Rattle.std.specs.Prelude.{◌≡◌, ◌+◌, ◌≤◌, ◌↔◌, ℕ, length, IfOk, IsTrue, OnErr, OnOk, [], false};
 ghost use Rattle.im_text.specs.Finds.{Finds};
-ghost use Rattle.im_script.specs.Script.{IsScriptLine, IsPassedOver, MayFollow, IsScript, StopsAfter, end_of_phase, has_name, lines_of, names_of, with_name};
+ghost use Rattle.im_script.specs.Script.{IsScriptLine, IsPassedOver, MayFollow, IsScript, StopsAfter, end_of_phase, has_name, lines_of, names_of};
 ghost use Rattle.im_script.specs.Arguments.{IsTaken, IsTextRefused, with_end, with_line};
 
 use crate::commands::Line;

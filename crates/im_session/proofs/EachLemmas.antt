@@ -5,12 +5,12 @@ use Rattle.std.specs.List.{flat_map}
 use Rattle.std.specs.Str.{bytes_eq}
 use Rattle.std.proofs.lemmas.Slice.Eq.{bytes_eq-Decides}
 use Rattle.std.proofs.lemmas.List.Elements.{All-append}
-use Rattle.im_report.specs.Outcomes.{Outcome, answer_or_none, line_in, of_session, reply_in}
+use Rattle.im_report.specs.Outcomes.{Outcome, line_in, reply_in}
 use Rattle.im_report.specs.Report.{Answered, answer_line}
 use Rattle.im_report.specs.Sessions.{before_others, first_replies, replies_in}
 use Rattle.im_script.specs.Script.{has_name}
 use Rattle.im_script.specs.declared.commands.Line.{Line}
-use Rattle.im_session.proofs.TogetherLemmas.{Each, Matches, first_line, first_of, matches_rest, not-same, own_first, rest_of, together, together_own, without}
+use Rattle.im_session.proofs.TogetherLemmas.{Each, Matches, first_line, first_of, matches_rest, not-same, own_first, rest_of, together, without}
 use Rattle.im_session.specs.Dealing.{AreNamed, AreNumbered, lines_with}
 use Rattle.im_session.specs.Lines.{IsWhy}
 use Rattle.im_session.specs.Written.{next_text, stop_in_order, stop_or, text_before, texts_in_order, without_first}

@@ -13,7 +13,7 @@ use Rattle.im_session.proofs.GrowLemmas.{may_before}
 use Rattle.im_session.proofs.PhaseLemmas.{highest_most, late_less}
 use Rattle.im_session.specs.Lines.{IsStuck, MayBecome}
 use Rattle.im_session.specs.Phases.{times_in}
-use Rattle.im_session.specs.Runs.{HasRun, IsCutAt, IsRun, Start, numbers_told}
+use Rattle.im_session.specs.Runs.{HasRun, IsRun, Start, numbers_told}
 use Rattle.im_session.specs.declared.errors.LineError.{LineError}
 use Rattle.im_table.specs.Histories.{history_of}
 use Rattle.im_table.specs.Known.{KnownPass}

@@ -14,7 +14,7 @@ use Rattle.im_session.proofs.EachLemmas.{StopFits, texts_of}
 use Rattle.im_session.proofs.EndLemmas.{ended_known, ended_lines, ended_own, ended_reached, ended_session, outcomes_of, stop_in}
 use Rattle.im_session.proofs.GrowLemmas.{may_before}
 use Rattle.im_session.specs.Gathered.{own_of}
-use Rattle.im_session.specs.Lines.{IsWhy, MayBecome}
+use Rattle.im_session.specs.Lines.{MayBecome}
 use Rattle.im_session.specs.Phases.{AreDone, times_in}
 use Rattle.im_session.specs.Runs.{HasRun, IsDone, Start, start_of}
 use Rattle.im_session.specs.declared.errors.LineError.{LineError}

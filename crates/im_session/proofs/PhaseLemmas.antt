@@ -3,9 +3,9 @@ use Rattle.std.proofs.Common.{◌≡◌, ◌⊎◌, inl, inr, ℕ, zero, suc, �
 use Rattle.std.specs.Prelude.{All, IfSome}
 use Rattle.im_digest.specs.Digests.{Hash}
 use Rattle.im_model.specs.declared.transactions.Transaction.{Transaction}
-use Rattle.im_report.specs.Outcomes.{AreAnswers, IsCutOff, IsLate, IsOver, IsSession, Outcome, Rises, floors_told, halted, highest, not_run, of_session}
+use Rattle.im_report.specs.Outcomes.{AreAnswers, IsCutOff, IsLate, IsOver, IsSession, Outcome, floors_told, highest, of_session}
 use Rattle.im_report.specs.Report.{Answered, floor_after, floor_by, is_placed}
-use Rattle.im_report.specs.Sessions.{ArePhases, IsPhase, floor_reached, greatest, next_floor, next_low, replies_in}
+use Rattle.im_report.specs.Sessions.{ArePhases, IsPhase, greatest, next_floor, next_low}
 use Rattle.im_script.specs.declared.commands.Line.{Line}
 use Rattle.im_session.proofs.RunLemmas.{floor_more}
 use Rattle.im_session.specs.Phases.{floor_behind, low_after}

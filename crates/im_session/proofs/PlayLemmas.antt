@@ -18,7 +18,7 @@ use Rattle.im_session.proofs.EachLemmas.{each_all, each_matches, each_none, each
 use Rattle.im_session.proofs.OutLemmas.{HaveOuts, IsOut, outs_all, outs_own}
 use Rattle.im_session.proofs.TogetherLemmas.{Each, Matches, not-same, sum_each, together, together_lines, together_own, together_sum}
 use Rattle.im_session.specs.Dealing.{AreDealt, AreNamed, lines_with}
-use Rattle.im_session.specs.Gathered.{AreGathered, own_of}
+use Rattle.im_session.specs.Gathered.{AreGathered}
 use Rattle.im_session.specs.Lines.{MayBecome}
 use Rattle.im_session.specs.Phases.{HasGrown, IsPlayed, times_in}
 use Rattle.im_session.specs.declared.sessions.Ended.{Ended}

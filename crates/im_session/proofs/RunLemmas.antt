@@ -5,7 +5,6 @@ use Rattle.std.proofs.lemmas.List.{map-append}
 use Rattle.std.proofs.lemmas.List.Elements.{All-push}
 use Rattle.std.proofs.lemmas.List.Quantifiers.{all_pairs_push}
 use Rattle.im_accept.specs.Messages.{IsReadBack}
-use Rattle.im_accept.specs.Taken.{AreReadBack}
 use Rattle.im_digest.specs.Digests.{Hash}
 use Rattle.im_model.specs.declared.transactions.Transaction.{Transaction}
 use Rattle.im_report.specs.Outcomes.{AreAnswers, IsOver, Rises, floors_told, number_told}
@@ -14,7 +13,7 @@ use Rattle.im_report.specs.Sessions.{IsJustOver}
 use Rattle.im_script.specs.declared.commands.Command.{Command}
 use Rattle.im_script.specs.declared.commands.Command.TheVariants.{Set, Get, Scan, History, Header, State, Prove, Advance, Item, Link}
 use Rattle.im_session.proofs.GrowLemmas.{may_before}
-use Rattle.im_session.specs.Lines.{IsStep, MayBecome}
+use Rattle.im_session.specs.Lines.{IsStep}
 use Rattle.im_session.specs.Runs.{IsAlone, IsRun, Start, numbers_told}
 use Rattle.im_table.specs.Histories.{history_of}
 use Rattle.im_table.specs.Known.{KnownPass}

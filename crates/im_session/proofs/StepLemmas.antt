@@ -7,13 +7,13 @@ use Rattle.im_draft.specs.declared.preconditions.Pre.{Pre}
 use Rattle.im_model.specs.History.{transaction_of}
 use Rattle.im_model.specs.declared.transactions.Transaction.{Transaction}
 use Rattle.im_accept.specs.Messages.{IsReadBack}
-use Rattle.im_report.specs.Outcomes.{IsLate, IsOver, Rises, number_or_none, number_told}
+use Rattle.im_report.specs.Outcomes.{IsLate, number_told}
 use Rattle.im_report.specs.Report.{Answered, IsAnswer, floor_by, is_placed}
 use Rattle.im_script.specs.declared.commands.Command.{Command}
 use Rattle.im_script.specs.declared.commands.Command.TheVariants.{Set, Link}
 use Rattle.im_script.specs.declared.commands.Line.{Line}
 use Rattle.im_session.proofs.GrowLemmas.{front_length, history_taken, later_on, map_take, transaction_at}
-use Rattle.im_session.specs.Lines.{IsCommit, IsStep, IsStuck, IsWhy, KnowsFault, MayBecome}
+use Rattle.im_session.specs.Lines.{IsStep, IsStuck, IsWhy, KnowsFault, MayBecome}
 use Rattle.im_session.specs.declared.errors.LineError.{LineError}
 use Rattle.im_session.specs.declared.errors.LineError.TheVariants.{DiskFault, Memory}
 use Rattle.std.specs.Str.{bytes_eq}

@@ -11,7 +11,7 @@ use Rattle.im_script.specs.Script.{has_name}
 use Rattle.im_session.specs.Dealing.{AreNamed, lines_with}
 
 -- two names that differ are told apart
-not-same : (a b : List ℕ) → (a ≡ b → ⊥) → bytes_eq a b ≡ false
+pub not-same : (a b : List ℕ) → (a ≡ b → ⊥) → bytes_eq a b ≡ false
 not-same a b differ = go (bytes_eq a b) refl
   where
     go : (t : Bool) → bytes_eq a b ≡ t → bytes_eq a b ≡ false
@@ -45,7 +45,7 @@ abbrev pub Matches : List Line → Each → Type 0
 Matches lines each = (name : List ℕ) → map (λ (o : Outcome). o.line) (each name) ≡ lines_with name lines
 
 -- an outcome is first, and its line is the first of its session's lines
-first_line : (line : Line) (lines : List Line) (outcomes : List Outcome) → map (λ (o : Outcome). o.line) outcomes ≡ line ∷ lines
+pub first_line : (line : Line) (lines : List Line) (outcomes : List Outcome) → map (λ (o : Outcome). o.line) outcomes ≡ line ∷ lines
     → ((first_of line outcomes).line ≡ line) × (map (λ (o : Outcome). o.line) (rest_of outcomes) ≡ lines) × (outcomes ≡ first_of line outcomes ∷ rest_of outcomes)
 first_line line lines [] e = cc e
 first_line line lines (o ∷ outcomes) e = (cc e, cc e, refl)
@@ -54,7 +54,7 @@ bytes_eq-refl : (octets : List ℕ) → bytes_eq octets octets ≡ true
 bytes_eq-refl octets = (bytes_eq-Decides octets octets).1 refl
 
 -- the lines of the session of the first line begin with it
-own_first : (line : Line) (lines : List Line) → lines_with line.session (line ∷ lines) ≡ line ∷ lines_with line.session lines
+pub own_first : (line : Line) (lines : List Line) → lines_with line.session (line ∷ lines) ≡ line ∷ lines_with line.session lines
 own_first line lines = ap (λ (b : Bool). if b then line ∷ lines_with line.session lines else lines_with line.session lines) (bytes_eq-refl line.session)
 
 -- behind the first line each session has outcomes for just its lines still

@@ -4,12 +4,11 @@ use Rattle.std.specs.List.{flat_map, sum_by}
 use mathlib.Core.List.{IsPrefix}
 use Rattle.im_digest.specs.Digests.{Hash}
 use Rattle.im_accept.specs.Taken.{AreReadBack}
-use Rattle.im_report.specs.Outcomes.{Outcome, highest, line_in, numbers_in, of_session, reply_in}
-use Rattle.im_report.specs.Report.{Answered}
-use Rattle.im_report.specs.Sessions.{AreAllButLast, AreAnswered, AreOfOne, ArePhases, IsJustOver, IsPhase, first_replies, floor_reached, floors_of, lines_in, next_floor, next_low, phase_text, phases_text, replies_in, times_placed}
+use Rattle.im_report.specs.Outcomes.{Outcome, line_in, numbers_in}
+use Rattle.im_report.specs.Sessions.{AreAllButLast, AreAnswered, AreOfOne, ArePhases, IsJustOver, IsPhase, first_replies, floor_reached, floors_of, lines_in, next_floor, next_low, replies_in}
 use Rattle.im_script.specs.declared.commands.Line.{Line}
 use Rattle.im_session.specs.Lines.{IsWhy, MayBecome}
-use Rattle.im_session.specs.Runs.{IsAlone, IsDone, Start}
+use Rattle.im_session.specs.Runs.{IsDone, Start}
 use Rattle.im_session.specs.declared.errors.LineError.{LineError}
 use Rattle.im_session.specs.declared.sessions.Session.{Session}
 use Rattle.im_table.specs.Histories.{history_of}

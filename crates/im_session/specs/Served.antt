@@ -8,7 +8,7 @@ use Rattle.im_disk.specs.Disk.{Told}
 use Rattle.im_disk.specs.Moments.{Leaves, LeavesNow}
 use Rattle.im_edge.specs.Clocks.{AddsTimes}
 use Rattle.im_edge.specs.Counts.{Rose}
-use Rattle.im_format.specs.Standing.{Stands, StandsFrom}
+use Rattle.im_format.specs.Standing.{StandsFrom}
 use Rattle.im_model.specs.declared.transactions.Transaction.{Transaction}
 use Rattle.im_report.specs.Outcomes.{Outcome}
 use Rattle.im_report.specs.Sessions.{AreAnswered, AreOfOne, SessionsReport, lines_in, phase_text, phases_text, replies_in}

@@ -2,7 +2,7 @@
 ghost use Rattle.std.specs.Prelude.{◌≡◌, ◌≤◌, ◌<◌, ℕ, List, length, map, IfOk, IfSome, IsNone, Some, true};
 ghost use Rattle.std.specs.List.{All};
 ghost use Rattle.im_script.specs.Script.{has_name};
-ghost use Rattle.im_session.specs.Dealing.{AreDealt, AreNamed, IsAt, lines_with};
+ghost use Rattle.im_session.specs.Dealing.{AreDealt, AreNamed, IsAt};
 
 use crate::sessions::Lines;
 use im_octet::octets::Octets;

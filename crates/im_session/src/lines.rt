@@ -4,7 +4,7 @@ ghost use mathlib.Core.List.{IsPrefix};
 ghost use Rattle.im_report.specs.Report.{answer_line, Answered as TheAnswered};
 ghost use Rattle.im_session.specs.Answered.{IsAnswered, IsUnanswered};
 ghost use Rattle.im_session.specs.Lines.{IsShowing, IsStep, IsStuck};
-ghost use Rattle.im_session.specs.Runs.{HasRun, IsDone, IsReady, IsRun, Start, start_of};
+ghost use Rattle.im_session.specs.Runs.{HasRun, IsDone, IsReady, start_of};
 ghost use Rattle.im_table.specs.Passes.{IsPassOf, Later};
 
 use crate::answers::Answer;

@@ -1,6 +1,5 @@
 ghost use Rattle.std.specs.Prelude.{◌≡◌, ◌≢◌, ◌<◌, ◌≤◌, AllPairs, List, [], length, true};
 ghost use Rattle.std.specs.List.{All, flat_map};
-ghost use Rattle.im_edge.specs.Counts.{Rose};
 ghost use Rattle.im_report.specs.Outcomes.{Outcome};
 ghost use Rattle.im_script.specs.Script.{lines_of, names_of};
 ghost use Rattle.im_session.specs.Dealing.{AreNamed};
@@ -9,7 +8,6 @@ ghost use Rattle.im_report.specs.Sessions.{phase_text};
 ghost use Rattle.im_session.specs.Phases.{EndsPhase};
 ghost use Rattle.im_session.specs.Served.{RunsPhase, RunsPhases, Serves, WritesPhase};
 ghost use Rattle.im_session.specs.Written.{first_texts, stop_of};
-ghost use Rattle.im_store.specs.Names.{Naming};
 
 use crate::errors::LineError;
 use crate::play::{Played, play};
