@@ -8,3 +8,4 @@ pub mod EachLemmas
 pub mod OutLemmas
 pub mod PlayLemmas
 pub mod SoFarLemmas
+pub mod ReportLemmas

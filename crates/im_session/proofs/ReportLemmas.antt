@@ -1,0 +1,80 @@
+-- What was played, as the report of sessions over the one list that is left.
+use Rattle.std.proofs.Common.{◌≡◌, ℕ, zero, suc, ◌+◌, ◌-◌, ◌==◌, ◌≤◌, ◌++◌, List, [], ◌∷◌, length, map, Bool, true, false, cond, refl, ap, ap₂, sym, ◌∙◌, subst, arith, length-append}
+use Rattle.std.specs.Prelude.{All, take}
+use Rattle.std.specs.List.{flat_map, range_with_len, sum_by}
+use Rattle.std.proofs.lemmas.List.Sums.{sum_by-cons}
+use Rattle.im_digest.specs.Digests.{Hash}
+use Rattle.im_model.specs.declared.transactions.Transaction.{Transaction}
+use Rattle.im_report.specs.Outcomes.{Outcome, numbers_in}
+use Rattle.im_report.specs.Sessions.{AreOfOne, ArePhases, IsJustOver, SessionsReport, floors_of, replies_in, times_placed}
+use Rattle.im_report.specs.Sessions as told
+use Rattle.im_script.specs.declared.commands.Line.{Line}
+use Rattle.im_session.specs.Lines.{MayBecome}
+use Rattle.im_session.specs.Phases.{AreSoFar, times_in}
+use Rattle.im_table.proofs.HistoryLemmas.{history_length}
+use Rattle.im_table.specs.Histories.{GoesOn, history_of}
+use Rattle.im_table.specs.Known.{KnownPass}
+use Rattle.im_table.specs.Views.{numbers, placed_by, times}
+use Rattle.im_table.specs.declared.items.LogItem.{LogItem}
+
+-- the numbers of items that weren't found are a range
+new_numbers : (k : ℕ) (rest : List LogItem) → All (λ x. x.found ≡ false) rest → numbers k rest ≡ range_with_len k (length rest)
+new_numbers k [] fresh = refl
+new_numbers k (x ∷ rest) fresh =
+    let more : numbers (suc k) rest ≡ range_with_len (k + 1) (length rest) = new_numbers (suc k) rest (λ i d lt. fresh (suc i) d (omega (arith, lt))) ∙ ap (λ (m : ℕ). range_with_len m (length rest)) (omega arith) in
+    subst (λ (b : Bool). cond b (numbers (suc k) rest) (k ∷ numbers (suc k) rest) ≡ k ∷ range_with_len (k + 1) (length rest)) (sym (fresh 0 x (omega arith))) (ap (λ (l : List ℕ). k ∷ l) more)
+
+numbers_behind : (k : ℕ) (xs rest : List LogItem) → All (λ x. x.found ≡ true) xs → All (λ x. x.found ≡ false) rest → numbers k (xs ++ rest) ≡ range_with_len (k + length xs) (length rest)
+numbers_behind k [] rest old fresh = new_numbers k rest fresh ∙ ap (λ (m : ℕ). range_with_len m (length rest)) (omega arith)
+numbers_behind k (x ∷ xs) rest old fresh =
+    let more : numbers (suc k) (xs ++ rest) ≡ range_with_len (k + suc (length xs)) (length rest) = numbers_behind (suc k) xs rest (λ i d lt. old (suc i) d (omega (arith, lt))) fresh ∙ ap (λ (m : ℕ). range_with_len m (length rest)) (omega arith) in
+    subst (λ (b : Bool). cond b (numbers (suc k) (xs ++ rest)) (k ∷ numbers (suc k) (xs ++ rest)) ≡ range_with_len (k + suc (length xs)) (length rest)) (sym (old 0 x (omega arith))) more
+
+pub placed_behind : (found items : List LogItem) → GoesOn found items → All (λ x. x.found ≡ true) found → placed_by items ≡ range_with_len (length (history_of found) + 1) (length (history_of items) - length (history_of found))
+placed_behind found items g old =
+    let many : length items ≡ length found + length g.rest = ap length g.begins ∙ length-append found g.rest in
+    ap placed_by g.begins ∙ numbers_behind 1 found g.rest old g.fresh
+    ∙ (ap (λ (m : ℕ). range_with_len m (length g.rest)) (omega (arith, history_length found)) ∙ ap (λ (m : ℕ). range_with_len (length (history_of found) + 1) m) (omega (arith, many, history_length found, history_length items)))
+
+-- a number stands as often in the report's words as in the table's
+same_times : (k : ℕ) (xs : List ℕ) → times k xs ≡ told.times k xs
+same_times k [] = refl
+same_times k (x ∷ xs) = ap (λ (n : ℕ). cond (x == k) 1 0 + n) (same_times k xs)
+
+same_in : (k : ℕ) (outcomes : List Outcome) → times_in k outcomes ≡ sum_by (λ (o : Outcome). told.times k (numbers_in o)) outcomes
+same_in k [] = refl
+same_in k (o ∷ outcomes) =
+    omega (arith, same_in k outcomes, same_times k (numbers_in o), sum_by-cons (λ (p : Outcome). times k (numbers_in p)) o outcomes, sum_by-cons (λ (p : Outcome). told.times k (numbers_in p)) o outcomes)
+
+same_placed : (k : ℕ) (phases : List (List Outcome)) → sum_by (times_in k) phases ≡ times_placed k phases
+same_placed k [] = refl
+same_placed k (p ∷ phases) =
+    omega (arith, same_placed k phases, same_in k p, sum_by-cons (times_in k) p phases, sum_by-cons (λ (q : List Outcome). sum_by (λ (o : Outcome). told.times k (numbers_in o)) q) p phases)
+
+-- the history begins with what was found
+begins_found : (found items : List LogItem) → GoesOn found items → take (length (history_of found)) (history_of items) ≡ history_of found
+begins_found found items g = ap (λ (l : List LogItem). take (length (history_of found)) (history_of l)) g.begins ∙ front found g.rest
+  where
+    front : (xs ys : List LogItem) → take (length (history_of xs)) (history_of (xs ++ ys)) ≡ history_of xs
+    front [] ys = refl
+    front (x ∷ xs) ys = ap (λ (l : List Transaction). x.tx ∷ l) (front xs ys)
+
+-- Behind the close the one list is known: what was played is its report. What is said of a single session is given.
+pub report_of : (hash : Hash) (links : Bool) (first now : KnownPass) (script : List (List Line)) (phases : List (List Outcome)) (found items : List LogItem)
+    → AreSoFar hash links first now script phases → first.view.least.durable ≡ length found → first.view.least.linked ≡ length found → first.view.own ≡ []
+    → All (λ x. x.found ≡ true) found → GoesOn found items → MayBecome now items → ((k : ℕ) → times k now.view.own ≡ times k (placed_by items))
+    → (links ≡ false → AreOfOne phases → All (IsJustOver (history_of items)) (floors_of (length (history_of found)) (flat_map (λ outcomes. outcomes) phases)))
+    → SessionsReport hash links (history_of found) (history_of items) phases
+report_of hash links first now script phases found items a durable linked none marked goes m owned just =
+    let h = history_of items in
+    let start : first.view.least.durable ≡ length (history_of found) = durable ∙ sym (history_length found) in
+    let floor : first.view.least.linked ≡ length (history_of found) = linked ∙ sym (history_length found) in
+    record {
+      history = m.history;
+      begins = begins_found found items goes;
+      each = subst (λ (n : ℕ). ArePhases hash n (length (history_of found)) h phases) start (subst (λ (n : ℕ). ArePhases hash first.view.least.durable n h phases) floor (a.each items m));
+      within = λ i d lt j e less. omega (arith, a.most i d lt j e less, m.enough, history_length items);
+      placed = λ k. omega (arith, a.own k, ap (times k) none, owned k, same_placed k phases) ∙ ap (times k) (placed_behind found items goes marked) ∙ same_times k (range_with_len (length (history_of found) + 1) (length h - length (history_of found)));
+      ran = a.ran;
+      exact = just;
+    }
