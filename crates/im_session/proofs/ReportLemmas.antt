@@ -6,7 +6,7 @@ use Rattle.std.proofs.lemmas.List.Sums.{sum_by-cons}
 use Rattle.im_digest.specs.Digests.{Hash}
 use Rattle.im_model.specs.declared.transactions.Transaction.{Transaction}
 use Rattle.im_report.specs.Outcomes.{Outcome, numbers_in}
-use Rattle.im_report.specs.Sessions.{AreOfOne, ArePhases, IsJustOver, SessionsReport, floors_of, replies_in, times_placed}
+use Rattle.im_report.specs.Sessions.{AreOfOne, ArePhases, IsJustOver, SessionsReport, floors_of, times_placed}
 use Rattle.im_report.specs.Sessions as told
 use Rattle.im_script.specs.declared.commands.Line.{Line}
 use Rattle.im_session.specs.Lines.{MayBecome}

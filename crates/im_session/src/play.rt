@@ -81,7 +81,8 @@ fn hand_out<H: Hash32, D: Disk, C: Clock, N: TipName>(
     ensures begins { All (λ s. (s.pass.view.seen ≡ main.old.view.seen) × (s.pass.view.least ≡ main.old.view.least)) result.items }
     ensures lines { map (λ s. s.lines.items) result.items ≡ lines.items }
 {
-    for (number, mine) in lines.into_iter().enumerate() {
+    let mut number = 0usize;
+    for mine in lines {
         sessions.push_reserved(Session {
             number: number as u8,
             run: run[number],
@@ -90,6 +91,7 @@ fn hand_out<H: Hash32, D: Disk, C: Clock, N: TipName>(
             texts: Vec::new(alloc),
             why: None,
         });
+        number += 1;
     }
     sessions
 }
@@ -107,7 +109,8 @@ fn gather<H: Hash32, D: Disk, C: Clock, N: TipName>(
     requires room { (length sessions.items ≤ 8) × (ended.items ≡ []) × (length sessions.items ≤ ended.capacity) }
     ensures { AreGathered N.table main.old main.new sessions.items result.items }
 {
-    for (number, session) in sessions.into_iter().enumerate() {
+    let mut number = 0usize;
+    for session in sessions {
         let Session {
             number: _,
             run: behind,
@@ -119,6 +122,7 @@ fn gather<H: Hash32, D: Disk, C: Clock, N: TipName>(
         drop(lines);
         store.end(main, pass);
         run[number] = behind;
+        number += 1;
         ended.push_reserved(Ended {
             texts: Texts::from_vec(texts),
             why,
