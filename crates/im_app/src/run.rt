@@ -102,7 +102,14 @@ fn status_after(end: Result<(), Stopped>) -> Status
 }
 
 // Serves a script over an opened store, and tells how that ended.
-fn serve_script<H: Hash32 + Sync, K: Sink, D: Disk + Send, C: Clock + Send, G: Gate + Sync, R: Threads + Wait + Sync>(
+fn serve_script<
+    H: Hash32 + Sync,
+    K: Sink,
+    D: Disk + Send,
+    C: Clock + Send,
+    G: Gate + Sync,
+    R: Threads + Wait + Sync,
+>(
     rt: &R,
     alloc: Global,
     gate: &G,
@@ -119,8 +126,9 @@ fn serve_script<H: Hash32 + Sync, K: Sink, D: Disk + Send, C: Clock + Send, G: G
     ensures served { (end : Result Unit TheStopped) × (result.status ≡ status_behind end)
         × Serves D.told D.faults links opened script.phases.items (K.written sink.old) (K.written sink.new) (K.faults sink.old) (K.faults sink.new) result.disk (C.constant result.clock) (C.given result.clock) end }
 {
-    let Served { disk, clock, end } =
-        serve::<H, K, D, C, G, Brand, R>(rt, alloc, gate, sink, opened, passes, script, links);
+    let Served { disk, clock, end } = serve::<H, K, D, C, G, Brand, R>(
+        rt, alloc, gate, sink, opened, passes, script, links,
+    );
     Ran {
         status: status_after(end),
         disk,
@@ -129,7 +137,14 @@ fn serve_script<H: Hash32 + Sync, K: Sink, D: Disk + Send, C: Clock + Send, G: G
 }
 
 // Opens a disk as a store, runs a script over it, and closes it. Where it isn't opened nothing is run.
-fn run_script<H: Hash32 + Sync, K: Sink, D: Disk + Send, C: Clock + Send, G: Gate + Sync, R: Threads + Wait + Sync>(
+fn run_script<
+    H: Hash32 + Sync,
+    K: Sink,
+    D: Disk + Send,
+    C: Clock + Send,
+    G: Gate + Sync,
+    R: Threads + Wait + Sync,
+>(
     rt: &R,
     alloc: Global,
     hash: &H,
@@ -203,7 +218,15 @@ fn is_auto(link: Link) -> bool
 /// Reads a script to its end, and answers its lines over what the disk holds, with so many value logs: phase by phase, in each of them every session
 /// on a thread of its own, beside a linker where `link` says so, and an indexer. The replies of a phase are written as soon as it is joined. Where a line gets no
 /// reply, those before it are told, and no further phase is run.
-pub(crate) fn run<H: Hash32 + Sync, S: Source, K: Sink, D: Disk + Send, C: Clock + Send, G: Gate + Sync, R: Threads + Wait + Sync>(
+pub(crate) fn run<
+    H: Hash32 + Sync,
+    S: Source,
+    K: Sink,
+    D: Disk + Send,
+    C: Clock + Send,
+    G: Gate + Sync,
+    R: Threads + Wait + Sync,
+>(
     rt: &R,
     alloc: Global,
     hash: &H,

@@ -265,9 +265,7 @@ pub fn top<
                 status,
                 disk,
                 clock,
-            } = run(
-                rt, alloc, hash, gate, source, sink, disk, clock, logs, link,
-            );
+            } = run(rt, alloc, hash, gate, source, sink, disk, clock, logs, link);
             Done {
                 status,
                 disk,

@@ -164,7 +164,11 @@ pub fn read_script(alloc: Global, octets: &[u8]) -> Result<Script, ScriptError>
         rest = behind;
     }
     so_far.end_phase(alloc)?;
-    let SoFar { names, phases, lines } = so_far;
+    let SoFar {
+        names,
+        phases,
+        lines,
+    } = so_far;
     drop(lines);
     Ok(Script { names, phases })
 }

@@ -126,7 +126,7 @@ left_at each (first ∷ names) zero name apart e one =
     let is : first ≡ name = cc e in
     let back : bytes_eq name first ≡ true = (bytes_eq-Decides name first).1 (sym is) in
     let here : drop 1 (texts_of (each first)) ≡ texts_of (without name each first) =
-        ap (λ (n : List ℕ). drop 1 (texts_of (each n))) is ∙ one ∙ ap (λ (n : List ℕ). texts_of (rest_of (each n))) (sym is) ∙ ap (λ (b : Bool). texts_of (if b then rest_of (each first) else each first)) (sym back) in
+    ap (λ (n : List ℕ). drop 1 (texts_of (each n))) is ∙ one ∙ ap (λ (n : List ℕ). texts_of (rest_of (each n))) (sym is) ∙ ap (λ (b : Bool). texts_of (if b then rest_of (each first) else each first)) (sym back) in
     ap₂ (λ (x : List (List ℕ)) (xs : List (List (List ℕ))). x ∷ xs) here (unmoved names (λ i d lt q. apart 0 (suc i) d (omega arith) (omega (arith, lt)) (is ∙ sym q)))
   where
     unmoved : (ns : List (List ℕ)) → All (λ n. n ≢ name) ns → map (λ n. texts_of (each n)) ns ≡ map (λ n. texts_of (without name each n)) ns
@@ -246,9 +246,16 @@ order_stop names whys (line ∷ lines) (number ∷ order) each apart numbered h 
     go None e =
         let none : next_text number (map (λ n. texts_of (each n)) names) ≡ None = next ∙ ap (λ (l : List (List ℕ)). slice_get l 0) (texts ∙ ap (λ (r : Option Answered). map answer_line (before_others r (first_replies (rest_of (each line.session))))) e) in
         let f = subst (λ (r : Option Answered). stop_fits_at r (whys line.session) o (StopFits (whys line.session) (rest_of (each line.session)))) e fit in
-        let here : EndsAt names whys (together (line ∷ lines) each) (Some number) =
-            (line.session, numbered.0, f.0, f.1, o.line, map line_in (together lines (without line.session each)),
-            ap (λ (r : Option Answered). drop (length (before_others r (first_replies (together lines (without line.session each))))) (o.line ∷ map line_in (together lines (without line.session each)))) e, f.2) in
+        let here : EndsAt names whys (together (line ∷ lines) each) (Some number) = (
+          line.session,
+          numbered.0,
+          f.0,
+          f.1,
+          o.line,
+          map line_in (together lines (without line.session each)),
+          ap (λ (r : Option Answered). drop (length (before_others r (first_replies (together lines (without line.session each))))) (o.line ∷ map line_in (together lines (without line.session each)))) e,
+          f.2,
+        ) in
         subst (EndsAt names whys (together (line ∷ lines) each)) (sym (ap (λ (t : Option (List ℕ)). stop_or t number (stop_in_order order (without_first number (map (λ n. texts_of (each n)) names)))) none)) here
     go (Some a) e =
         let whole : texts_of (each line.session) ≡ answer_line a ∷ texts_of (rest_of (each line.session)) = texts ∙ ap (λ (r : Option Answered). map answer_line (before_others r (first_replies (rest_of (each line.session))))) e in
@@ -256,5 +263,5 @@ order_stop names whys (line ∷ lines) (number ∷ order) each apart numbered h 
         let left = left_at each names number line.session apart numbered.0 (ap (drop 1) whole) in
         let rest = order_stop names whys lines order (without line.session each) apart numbered.1 (matches_rest line lines each h) (behind a e) in
         let same : stop_in_order (number ∷ order) (map (λ n. texts_of (each n)) names) ≡ stop_in_order order (map (λ n. texts_of (without line.session each n)) names) =
-            ap (λ (t : Option (List ℕ)). stop_or t number (stop_in_order order (without_first number (map (λ n. texts_of (each n)) names)))) some ∙ ap (stop_in_order order) left in
+        ap (λ (t : Option (List ℕ)). stop_or t number (stop_in_order order (without_first number (map (λ n. texts_of (each n)) names)))) some ∙ ap (stop_in_order order) left in
         subst (EndsAt names whys (together (line ∷ lines) each)) (sym same) (on a e (stop_in_order order (map (λ n. texts_of (without line.session each n)) names)) rest)

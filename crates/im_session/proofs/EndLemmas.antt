@@ -96,7 +96,7 @@ pub ended_own : (hash : Hash) (start : Start) (p : KnownPass) (lines : List Line
 ended_own hash start p lines answers None ran k = ap (times k) ran.1.own ∙ sym (times_answered k answers)
 ended_own hash start p lines answers (Some why) (line, others, e, cut) k =
     let own : times k p.view.own ≡ times k (numbers_told answers) + times k (number_or_none cut.stuck.late) =
-        ap (times k) (cut.stuck.own ∙ ap (λ (l : List ℕ). l ++ number_or_none cut.stuck.late) cut.run.own) ∙ times_append k (numbers_told answers) (number_or_none cut.stuck.late) in
+    ap (times k) (cut.stuck.own ∙ ap (λ (l : List ℕ). l ++ number_or_none cut.stuck.late) cut.run.own) ∙ times_append k (numbers_told answers) (number_or_none cut.stuck.late) in
     let tail = sum_by-cons (λ (o : Outcome). times k (numbers_in o)) (halted line cut.stuck.late) (map not_run others) in
     omega (arith, own, times_in_append k (map answered answers) (halted line cut.stuck.late ∷ map not_run others), times_answered k answers, tail, times_unrun k others)
 

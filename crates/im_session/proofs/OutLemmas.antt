@@ -157,8 +157,8 @@ have_outs hash table low floor (b ∷ before) [] done starts = absurd (let e : 0
 have_outs hash table low floor (b ∷ before) (a ∷ after) done starts =
     let one : IsDone hash table b a = done.each 0 b (omega arith) in
     let more = have_outs hash table low floor before after
-        (record { many = omega (arith, done.many); each = λ i d lt. done.each (suc i) d (omega (arith, lt)) })
-        (λ i d lt. starts (suc i) d (omega (arith, lt))) in
+    (record { many = omega (arith, done.many); each = λ i d lt. done.each (suc i) d (omega (arith, lt)) })
+    (λ i d lt. starts (suc i) d (omega (arith, lt))) in
     record {
       outs = out_of hash table b a one ∷ more.outs;
       are = (out_is hash table low floor b a one (starts 0 b (omega arith)), more.are);

@@ -126,7 +126,14 @@ fn run_lines<H: Hash32, D: Disk, C: Clock, G: Gate, N: TipName, R: Wait>(
             session: session.number,
             line: session.run,
         });
-        let ran = run_line(rt, alloc, store, &mut session.pass, &mut session.texts, line);
+        let ran = run_line(
+            rt,
+            alloc,
+            store,
+            &mut session.pass,
+            &mut session.texts,
+            line,
+        );
         gate.pause(Point::After {
             session: session.number,
             line: session.run,

@@ -107,13 +107,14 @@ fn link_where<H: Hash32, D: Disk, C: Clock, N: TipName, R: Wait>(
 }
 
 // Each session runs its lines on a thread of its own; where a thread can't be started, the caller runs them.
-fn run_sessions<H: Hash32 + Sync, D: Disk + Send, C: Clock + Send, G: Gate + Sync, N: TipName + Send + Sync, R: Threads + Wait + Sync>(
-    rt: &R,
-    alloc: Global,
-    gate: &G,
-    store: &Store<'_, H, D, C, Free, N>,
-    sessions: &mut [Session],
-)
+fn run_sessions<
+    H: Hash32 + Sync,
+    D: Disk + Send,
+    C: Clock + Send,
+    G: Gate + Sync,
+    N: TipName + Send + Sync,
+    R: Threads + Wait + Sync,
+>(rt: &R, alloc: Global, gate: &G, store: &Store<'_, H, D, C, Free, N>, sessions: &mut [Session])
     requires { All (IsReady N.table) sessions.old }
     ensures len { length sessions.new ≡ length sessions.old }
     ensures done { (i : ℕ) (d : _) → i < length sessions.old → IsDone N.digest N.table (slice_index_or sessions.old i d) (slice_index_or sessions.new i d) }
@@ -130,7 +131,14 @@ fn run_sessions<H: Hash32 + Sync, D: Disk + Send, C: Clock + Send, G: Gate + Syn
 }
 
 // Runs the sessions, and tells the helpers once all have ended.
-fn run_all<H: Hash32 + Sync, D: Disk + Send, C: Clock + Send, G: Gate + Sync, N: TipName + Send + Sync, R: Threads + Wait + Sync>(
+fn run_all<
+    H: Hash32 + Sync,
+    D: Disk + Send,
+    C: Clock + Send,
+    G: Gate + Sync,
+    N: TipName + Send + Sync,
+    R: Threads + Wait + Sync,
+>(
     rt: &R,
     alloc: Global,
     gate: &G,
@@ -147,7 +155,13 @@ fn run_all<H: Hash32 + Sync, D: Disk + Send, C: Clock + Send, G: Gate + Sync, N:
 }
 
 // The linker and the indexer, side by side.
-fn help<H: Hash32 + Sync, D: Disk + Send, C: Clock + Send, N: TipName + Send + Sync, R: Threads + Wait + Sync>(
+fn help<
+    H: Hash32 + Sync,
+    D: Disk + Send,
+    C: Clock + Send,
+    N: TipName + Send + Sync,
+    R: Threads + Wait + Sync,
+>(
     rt: &R,
     alloc: Global,
     store: &Store<'_, H, D, C, Free, N>,
@@ -179,7 +193,14 @@ fn help<H: Hash32 + Sync, D: Disk + Send, C: Clock + Send, N: TipName + Send + S
 
 /// Runs the sessions of a phase, each on a thread of its own, and beside them the linker and the indexer until all sessions have ended. No
 /// thread is needed: `join` can't be refused, and where one can't be started its work is done by the caller, the sessions' first.
-pub(crate) fn run_phase<H: Hash32 + Sync, D: Disk + Send, C: Clock + Send, G: Gate + Sync, N: TipName + Send + Sync, R: Threads + Wait + Sync>(
+pub(crate) fn run_phase<
+    H: Hash32 + Sync,
+    D: Disk + Send,
+    C: Clock + Send,
+    G: Gate + Sync,
+    N: TipName + Send + Sync,
+    R: Threads + Wait + Sync,
+>(
     rt: &R,
     alloc: Global,
     gate: &G,

@@ -133,7 +133,14 @@ fn gather<H: Hash32, D: Disk, C: Clock, N: TipName>(
 
 /// Runs a phase whose lines have these names: each session on a thread of its own, from where the main pass has come to, a linker beside them where
 /// one links, and an indexer. All its own memory is taken before the sessions begin: where it is refused, no line was run.
-pub(crate) fn play<H: Hash32 + Sync, D: Disk + Send, C: Clock + Send, G: Gate + Sync, N: TipName + Send + Sync, R: Threads + Wait + Sync>(
+pub(crate) fn play<
+    H: Hash32 + Sync,
+    D: Disk + Send,
+    C: Clock + Send,
+    G: Gate + Sync,
+    N: TipName + Send + Sync,
+    R: Threads + Wait + Sync,
+>(
     rt: &R,
     alloc: Global,
     gate: &G,

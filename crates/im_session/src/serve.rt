@@ -68,7 +68,15 @@ fn tell<K: Sink>(sink: &mut K, played: Played) -> Result<(), Stopped>
 }
 
 // Runs one phase, and writes its replies. A phase without lines takes nothing.
-fn run_one<H: Hash32 + Sync, K: Sink, D: Disk + Send, C: Clock + Send, G: Gate + Sync, N: TipName + Send + Sync, R: Threads + Wait + Sync>(
+fn run_one<
+    H: Hash32 + Sync,
+    K: Sink,
+    D: Disk + Send,
+    C: Clock + Send,
+    G: Gate + Sync,
+    N: TipName + Send + Sync,
+    R: Threads + Wait + Sync,
+>(
     rt: &R,
     alloc: Global,
     gate: &G,
@@ -97,7 +105,15 @@ fn run_one<H: Hash32 + Sync, K: Sink, D: Disk + Send, C: Clock + Send, G: Gate +
 }
 
 // Runs the phases in order, up to one that isn't told to its end.
-fn run_phases<H: Hash32 + Sync, K: Sink, D: Disk + Send, C: Clock + Send, G: Gate + Sync, N: TipName + Send + Sync, R: Threads + Wait + Sync>(
+fn run_phases<
+    H: Hash32 + Sync,
+    K: Sink,
+    D: Disk + Send,
+    C: Clock + Send,
+    G: Gate + Sync,
+    N: TipName + Send + Sync,
+    R: Threads + Wait + Sync,
+>(
     rt: &R,
     alloc: Global,
     gate: &G,
@@ -116,7 +132,9 @@ fn run_phases<H: Hash32 + Sync, K: Sink, D: Disk + Send, C: Clock + Send, G: Gat
     let Script { names, phases } = script;
     let mut run = [0u64; 8];
     for phase in phases {
-        run_one(rt, alloc, gate, sink, store, main, &names, &mut run, phase, links)?;
+        run_one(
+            rt, alloc, gate, sink, store, main, &names, &mut run, phase, links,
+        )?;
     }
     Ok(())
 }
@@ -128,7 +146,15 @@ fn run_phases<H: Hash32 + Sync, K: Sink, D: Disk + Send, C: Clock + Send, G: Gat
 ///
 /// `passes` is empty, and has room for one. Of its own the call takes, for each phase, a list of its lines by session and a number for each line, before
 /// any of them is run; the lines' texts are taken by their sessions.
-pub fn serve<H: Hash32 + Sync, K: Sink, D: Disk + Send, C: Clock + Send, G: Gate + Sync, N: TipName + Send + Sync, R: Threads + Wait + Sync>(
+pub fn serve<
+    H: Hash32 + Sync,
+    K: Sink,
+    D: Disk + Send,
+    C: Clock + Send,
+    G: Gate + Sync,
+    N: TipName + Send + Sync,
+    R: Threads + Wait + Sync,
+>(
     rt: &R,
     alloc: Global,
     gate: &G,
