@@ -8,7 +8,7 @@ use Rattle.std.proofs.lemmas.List.Quantifiers.{all_pairs_push}
 use Rattle.std.proofs.lemmas.Slice.Eq.{bytes_eq-Decides}
 use Rattle.im_script.specs.declared.commands.Line.{Line}
 use Rattle.im_script.specs.Script.{Say, IsScript, has_name, with_name, names_of, lines_of}
-use Rattle.im_script.specs.Arguments.{IsTaken, SoFar}
+use Rattle.im_script.specs.Arguments.{IsTaken, ReadSoFar}
 
 pub names-append : (names : List (List ℕ)) (xs ys : List Line) → names_of names (xs ++ ys) ≡ names_of (names_of names xs) ys
 names-append names [] ys = refl
@@ -19,10 +19,10 @@ lines-append [] ys = refl
 lines-append (x ∷ xs) ys = ap (λ (l : List Line). x ++ l) (lines-append xs ys) ∙ sym (append_assoc x (lines_of xs) (lines_of ys))
 
 -- the names that were read are those of the lines that were read
-abbrev pub HasNames : SoFar → Type 0
+abbrev pub HasNames : ReadSoFar → Type 0
 HasNames s = s.names ≡ names_of [] (lines_of s.phases ++ s.lines)
 
-pub names-next : (before after : SoFar) (text : List ℕ) → IsTaken before text after → HasNames before → HasNames after
+pub names-next : (before after : ReadSoFar) (text : List ℕ) → IsTaken before text after → HasNames before → HasNames after
 names-next before after text (inl p) h = subst HasNames (sym p.1) h
 names-next before after text (inr (inl p)) h =
     subst HasNames (sym p.1) (h ∙ ap (names_of []) (sym (append-nil _ ∙ lines-append before.phases (before.lines ∷ []) ∙ ap (λ (l : List Line). lines_of before.phases ++ l) (append-nil before.lines))))
@@ -30,7 +30,7 @@ names-next before after text (inr (inr p)) h =
     subst HasNames (sym p.1) (ap (λ (n : List (List ℕ)). with_name n p.0.session) h
     ∙ (sym (names-append [] (lines_of before.phases ++ before.lines) (p.0 ∷ [])) ∙ ap (names_of []) (append_assoc (lines_of before.phases) before.lines (p.0 ∷ []))))
 
-pub names-end : (before : SoFar) → HasNames before → before.names ≡ names_of [] (lines_of (before.phases ++ before.lines ∷ []))
+pub names-end : (before : ReadSoFar) → HasNames before → before.names ≡ names_of [] (lines_of (before.phases ++ before.lines ∷ []))
 names-end before h = h ∙ ap (names_of []) (sym (lines-append before.phases (before.lines ∷ []) ∙ ap (λ (l : List Line). lines_of before.phases ++ l) (append-nil before.lines)))
 
 -- at most eight

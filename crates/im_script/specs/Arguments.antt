@@ -68,21 +68,21 @@ abbrev pub IsLink : List ℕ → Command → Type 0
 IsLink text command = (count : ℕ) × (command ≡ Link count) × IsNumber text count
 
 -- What was read of a script: the names of its sessions, the phases that were ended, and the lines behind these.
-pub record SoFar : Type 0 where
+pub record ReadSoFar : Type 0 where
   pub names : List (List ℕ)
   pub phases : List (List Line)
   pub lines : List Line
 
 -- behind a line of a session
-abbrev pub with_line : SoFar → Line → SoFar
+abbrev pub with_line : ReadSoFar → Line → ReadSoFar
 with_line before line = record { names = with_name before.names line.session; phases = before.phases; lines = before.lines ++ line ∷ [] }
 
 -- behind the end of a phase
-abbrev pub with_end : SoFar → SoFar
+abbrev pub with_end : ReadSoFar → ReadSoFar
 with_end before = record { names = before.names; phases = before.phases ++ before.lines ∷ []; lines = [] }
 
 -- the text leaves what was read as it was, since it is passed over, or it ends a phase, or it says a line more
-abbrev pub IsTaken : SoFar → List ℕ → SoFar → Type 0
+abbrev pub IsTaken : ReadSoFar → List ℕ → ReadSoFar → Type 0
 IsTaken before text after =
     (IsPassedOver text × (after ≡ before))
     ⊎ (((text ≡ end_of_phase) × (after ≡ with_end before))

@@ -1,6 +1,6 @@
 -- What a script says, by what its text is.
 use Rattle.std.specs.Prelude.{◌≡◌, ◌⊎◌, ◌<◌, ◌^◌, ◌||◌, ℕ, zero, suc, List, [], ◌∷◌, ◌++◌, length, nat_lt, Bool, IsTrue, Option, Some, None, if◌then◌else◌, codes, true, false}
-use Rattle.std.specs.List.{flat_map}
+use Rattle.std.specs.List.{flat_map, list_any}
 use Rattle.std.specs.Str.{bytes_eq}
 use Rattle.im_text.specs.Lines.{AreTexts}
 use Rattle.im_text.specs.Words.{IsNumber}
@@ -104,8 +104,7 @@ end_of_phase = codes "---"
 
 -- one of these names is this one
 abbrev pub has_name : List (List ℕ) → List ℕ → Bool
-has_name [] name = false
-has_name (first ∷ more) name = bytes_eq first name || has_name more name
+has_name names name = list_any (λ first. bytes_eq first name) names
 
 -- the names of sessions, each once, with this one, in the order of their first lines
 abbrev pub with_name : List (List ℕ) → List ℕ → List (List ℕ)

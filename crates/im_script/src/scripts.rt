@@ -43,9 +43,9 @@ struct SoFar {
 }
 
 impl Model for SoFar {
-    ghost use Rattle.im_script.specs.Arguments.{SoFar as Value};
+    ghost use Rattle.im_script.specs.Arguments.{ReadSoFar};
 
-    ghost Value = { Value };
+    ghost Value = { ReadSoFar };
 
     ghost view = { λ s. record { names = s.names.items; phases = s.phases.items; lines = s.lines.items } };
 }
