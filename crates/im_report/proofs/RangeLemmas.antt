@@ -11,20 +11,21 @@ times_here : (n : ℕ) (xs : List ℕ) → times n (n ∷ xs) ≡ suc (times n x
 times_here n xs = go (eqb_tells n n)
   where
     go : (((n == n) ≡ true) × (n ≡ n)) ⊎ (((n == n) ≡ false) × (n ≢ n)) → times n (n ∷ xs) ≡ suc (times n xs)
-    go (inl e) = ap (λ (b : Bool). cond b 1 0 + times n xs) e.0
+    go (inl e) =
+        let here : times n (n ∷ xs) ≡ 1 + times n xs = ap (λ (b : Bool). cond b 1 0 + times n xs) e.0 in
+        omega (arith, here)
     go (inr e) = absurd (e.1 refl)
 
 -- and not where all are above it
 pub times_below : (n : ℕ) (xs : List ℕ) → All (λ x. n < x) xs → times n xs ≡ 0
 times_below n [] all = refl
-times_below n (x ∷ xs) all = go (eqb_tells x n)
+times_below n (x ∷ xs) all = go (eqb_tells x n) (times_below n xs (λ i d lt. all (suc i) d (omega (arith, lt))))
   where
-    rest : times n xs ≡ 0
-    rest = times_below n xs (λ i d lt. all (suc i) d (omega arith))
-
-    go : (((x == n) ≡ true) × (x ≡ n)) ⊎ (((x == n) ≡ false) × (x ≢ n)) → times n (x ∷ xs) ≡ 0
-    go (inl e) = absurd (let lt : n < x = all 0 x (omega arith) in omega (arith, lt, e.1))
-    go (inr e) = ap (λ (b : Bool). cond b 1 0 + times n xs) e.0 ∙ rest
+    go : (((x == n) ≡ true) × (x ≡ n)) ⊎ (((x == n) ≡ false) × (x ≢ n)) → times n xs ≡ 0 → times n (x ∷ xs) ≡ 0
+    go (inl e) rest = absurd (let lt : n < x = all 0 x (omega arith) in omega (arith, lt, e.1))
+    go (inr e) rest =
+        let here : times n (x ∷ xs) ≡ 0 + times n xs = ap (λ (b : Bool). cond b 1 0 + times n xs) e.0 in
+        omega (arith, here, rest)
 
 range_above : (a k count : ℕ) → k < a → All (λ x. k < x) (range_with_len a count)
 range_above a k zero lt = λ i d less. absurd (omega arith)

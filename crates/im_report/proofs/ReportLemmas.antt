@@ -65,7 +65,7 @@ octets-next octets answers a e =
     ∙ sym (flat_map-append answer_line answers (a ∷ []))
 
 -- one number more
-range-next : (a n : ℕ) → range_with_len a (suc n) ≡ range_with_len a n ++ (a + n) ∷ []
+pub range-next : (a n : ℕ) → range_with_len a (suc n) ≡ range_with_len a n ++ (a + n) ∷ []
 range-next a zero = let same : a ≡ a + 0 = omega arith in ap (λ k. k ∷ []) same
 range-next a (suc n) =
     let same : a + 1 + n ≡ a + suc n = omega arith in

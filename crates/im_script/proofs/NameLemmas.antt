@@ -3,7 +3,7 @@ use Rattle.std.proofs.Common.{◌≡◌, ◌≢◌, ℕ, zero, suc, ◌+◌, ◌
 use Rattle.std.specs.List.{flat_map}
 use Rattle.std.specs.Prelude.{All, AllPairs}
 use Rattle.std.specs.Str.{bytes_eq}
-use Rattle.std.proofs.lemmas.Bool.{both_ways, or_parts, true≢false}
+use Rattle.std.proofs.lemmas.Bool.{both_ways, ltb-true, or_parts, true≢false}
 use Rattle.std.proofs.lemmas.List.Quantifiers.{all_pairs_push}
 use Rattle.std.proofs.lemmas.Slice.Eq.{bytes_eq-Decides}
 use Rattle.im_script.specs.declared.commands.Line.{Line}
@@ -36,7 +36,10 @@ names-end before h = h ∙ ap (names_of []) (sym (lines-append before.phases (be
 -- at most eight
 few-with : (names : List (List ℕ)) (name : List ℕ) (b : Bool) → has_name names name ≡ b → (b || nat_lt (length names) 8) ≡ true → length names ≤ 8 → length (if b then names else names ++ name ∷ []) ≤ 8
 few-with names name true e may few = few
-few-with names name false e may few = omega (arith, length-append names (name ∷ []))
+few-with names name false e may few =
+    let room : length names < 8 = ltb-true (length names) 8 may in
+    let one : length (names ++ name ∷ []) ≤ 8 = omega (arith, length-append names (name ∷ []), room) in
+    one
 
 few-names : (names : List (List ℕ)) (texts : List (List ℕ)) (lines : List Line) (more : List (List Line)) → Say names texts lines more → length names ≤ 8 → length (names_of names (lines ++ lines_of more)) ≤ 8
 few-names names [] lines more h few =
@@ -72,11 +75,11 @@ names-apart names (line ∷ lines) apart = names-apart (with_name names line.ses
 
 has-front : (xs ys : List (List ℕ)) (other : List ℕ) → has_name xs other ≡ true → has_name (xs ++ ys) other ≡ true
 has-front [] ys other has = absurd (true≢false (sym has))
-has-front (x ∷ xs) ys other has = go (bytes_eq x other) refl
+has-front (x ∷ xs) ys other has = go (bytes_eq x other) refl (λ h. has-front xs ys other h)
   where
-    go : (b : Bool) → bytes_eq x other ≡ b → (bytes_eq x other || has_name (xs ++ ys) other) ≡ true
-    go true e = ap (λ (t : Bool). t || has_name (xs ++ ys) other) e
-    go false e = ap (λ (t : Bool). t || has_name (xs ++ ys) other) e ∙ has-front xs ys other (ap (λ (t : Bool). t || has_name xs other) (sym e) ∙ has)
+    go : (b : Bool) → bytes_eq x other ≡ b → (has_name xs other ≡ true → has_name (xs ++ ys) other ≡ true) → (bytes_eq x other || has_name (xs ++ ys) other) ≡ true
+    go true e more = ap (λ (t : Bool). t || has_name (xs ++ ys) other) e
+    go false e more = ap (λ (t : Bool). t || has_name (xs ++ ys) other) e ∙ more (ap (λ (t : Bool). t || has_name xs other) (sym e) ∙ has)
 
 -- each line has one of the names
 has-with : (names : List (List ℕ)) (name other : List ℕ) → has_name names other ≡ true → has_name (with_name names name) other ≡ true
@@ -88,11 +91,11 @@ has-with names name other has = go (has_name names name)
 
 has-last : (xs : List (List ℕ)) (name : List ℕ) → has_name (xs ++ name ∷ []) name ≡ true
 has-last [] name = ap (λ (t : Bool). t || false) ((bytes_eq-Decides name name).1 refl)
-has-last (x ∷ xs) name = go (bytes_eq x name)
+has-last (x ∷ xs) name = go (bytes_eq x name) (has-last xs name)
   where
-    go : (b : Bool) → (b || has_name (xs ++ name ∷ []) name) ≡ true
-    go true = refl
-    go false = has-last xs name
+    go : (b : Bool) → has_name (xs ++ name ∷ []) name ≡ true → (b || has_name (xs ++ name ∷ []) name) ≡ true
+    go true more = refl
+    go false more = more
 
 own-with : (names : List (List ℕ)) (name : List ℕ) → has_name (with_name names name) name ≡ true
 own-with names name = go (has_name names name) refl

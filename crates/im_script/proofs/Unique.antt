@@ -2,7 +2,7 @@
 use Rattle.std.proofs.Common.{◌≡◌, ℕ, zero, suc, List, [], ◌∷◌, ◌++◌, Option, true, false, inl, inr, refl, subst, sym, ap, ap₂, ◌∙◌}
 use Rattle.std.proofs.lemmas.Bool.{and_parts, both_ways}
 use Rattle.im_text.specs.Words.{is_word}
-use Rattle.im_text.proofs.CutLemmas.{cut-unique, head-is}
+use Rattle.im_text.proofs.CutLemmas.{cut-unique, head-is, heads-differ}
 use Rattle.im_text.proofs.WordLemmas.{number-unique}
 use Rattle.im_draft.specs.declared.drafts.Draft.{Draft}
 use Rattle.im_draft.specs.declared.preconditions.Pre.{Pre}
@@ -88,10 +88,13 @@ pub passed-no-line : (text : List ℕ) (line : Line) → IsPassedOver text → I
 passed-no-line text line (inl e) h = some-text line.session (32 ∷ h.0) (sym e ∙ h.1)
 passed-no-line text line (inr x) h = begins-no-session line.session (32 ∷ h.0) x.0 35 refl h.2 (sym x.1 ∙ h.1)
 
+some-octets : (o : ℕ) (rest : List ℕ) → o ∷ rest ≡ [] → ⊥
+some-octets o rest e = cc
+
 -- the text that ends a phase isn't passed over
 pub end-not-passed : (text : List ℕ) → text ≡ end_of_phase → IsPassedOver text → ⊥
-end-not-passed text e (inl p) = cc (sym e ∙ p)
-end-not-passed text e (inr p) = cc (sym e ∙ p.1)
+end-not-passed text e (inl p) = some-octets 45 (45 ∷ 45 ∷ []) (sym e ∙ p)
+end-not-passed text e (inr p) = heads-differ 45 35 (45 ∷ 45 ∷ []) p.0 refl (sym e ∙ p.1)
 
 -- and says no line
 pub end-no-line : (text : List ℕ) (line : Line) → text ≡ end_of_phase → IsScriptLine text line → ⊥

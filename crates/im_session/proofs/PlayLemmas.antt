@@ -10,13 +10,14 @@ use Rattle.im_accept.specs.Messages.{IsReadBack}
 use Rattle.im_accept.specs.Taken.{AreReadBack}
 use Rattle.im_digest.specs.Digests.{Hash}
 use Rattle.im_model.specs.declared.transactions.Transaction.{Transaction}
+use Rattle.im_octet.proofs.Common.{bytes-other}
 use Rattle.im_report.specs.Outcomes.{IsSession, Outcome, line_in, numbers_in, of_session, reply_in}
 use Rattle.im_report.specs.Report.{Answered, floor_after}
 use Rattle.im_report.specs.Sessions.{AreOfOne, IsJustOver, floor_reached, floors_of, replies_in}
 use Rattle.im_script.specs.declared.commands.Line.{Line}
 use Rattle.im_session.proofs.EachLemmas.{each_all, each_matches, each_none, each_of, replies_all, together_all}
 use Rattle.im_session.proofs.OutLemmas.{HaveOuts, IsOut, outs_all, outs_own}
-use Rattle.im_session.proofs.TogetherLemmas.{Each, Matches, not-same, sum_each, together, together_lines, together_own, together_sum}
+use Rattle.im_session.proofs.TogetherLemmas.{Each, Matches, sum_each, together, together_lines, together_own, together_sum}
 use Rattle.im_session.specs.Dealing.{AreDealt, AreNamed, lines_with}
 use Rattle.im_session.specs.Gathered.{AreGathered}
 use Rattle.im_session.specs.Lines.{MayBecome}
@@ -49,7 +50,7 @@ sum_far : (f : Outcome → ℕ) (first : List ℕ) (out : List Outcome) (names :
     → sum_each f some (each_of (first ∷ names) (out ∷ outs)) ≡ sum_each f some (each_of names outs)
 sum_far f first out names outs [] far = refl
 sum_far f first out names outs (n ∷ some) far =
-    let other : bytes_eq first n ≡ false = not-same first n (λ q. far 0 n (omega arith) q) in
+    let other : bytes_eq first n ≡ false = bytes-other first n (λ q. far 0 n (omega arith) q) in
     let here : each_of (first ∷ names) (out ∷ outs) n ≡ each_of names outs n = ap (λ (b : Bool). if b then out else each_of names outs n) other in
     let rest = sum_far f first out names outs some (λ i d lt. far (suc i) d (omega (arith, lt))) in
     omega (arith, rest, ap (sum_by f) here, sum_by-cons (λ m. sum_by f (each_of (first ∷ names) (out ∷ outs) m)) n some, sum_by-cons (λ m. sum_by f (each_of names outs m)) n some)

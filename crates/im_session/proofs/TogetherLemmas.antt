@@ -5,18 +5,11 @@ use Rattle.std.specs.List.{sum_by}
 use Rattle.std.proofs.lemmas.List.Sums.{sum_by-cons}
 use Rattle.std.specs.Str.{bytes_eq}
 use Rattle.std.proofs.lemmas.Slice.Eq.{bytes_eq-Decides}
+use Rattle.im_octet.proofs.Common.{bytes-other, bytes-same}
 use Rattle.im_report.specs.Outcomes.{Outcome, not_run, of_session}
 use Rattle.im_script.specs.declared.commands.Line.{Line}
 use Rattle.im_script.specs.Script.{has_name}
 use Rattle.im_session.specs.Dealing.{AreNamed, lines_with}
-
--- two names that differ are told apart
-pub not-same : (a b : List ℕ) → (a ≡ b → ⊥) → bytes_eq a b ≡ false
-not-same a b differ = go (bytes_eq a b) refl
-  where
-    go : (t : Bool) → bytes_eq a b ≡ t → bytes_eq a b ≡ false
-    go true e = absurd (differ ((bytes_eq-Decides a b).0 e))
-    go false e = e
 
 -- of each session, by its name, what became of its lines
 abbrev pub Each : Type 0
@@ -50,12 +43,9 @@ pub first_line : (line : Line) (lines : List Line) (outcomes : List Outcome) →
 first_line line lines [] e = cc e
 first_line line lines (o ∷ outcomes) e = (cc e, cc e, refl)
 
-bytes_eq-refl : (octets : List ℕ) → bytes_eq octets octets ≡ true
-bytes_eq-refl octets = (bytes_eq-Decides octets octets).1 refl
-
 -- the lines of the session of the first line begin with it
 pub own_first : (line : Line) (lines : List Line) → lines_with line.session (line ∷ lines) ≡ line ∷ lines_with line.session lines
-own_first line lines = ap (λ (b : Bool). if b then line ∷ lines_with line.session lines else lines_with line.session lines) (bytes_eq-refl line.session)
+own_first line lines = ap (λ (b : Bool). if b then line ∷ lines_with line.session lines else lines_with line.session lines) (bytes-same line.session line.session refl)
 
 -- behind the first line each session has outcomes for just its lines still
 pub matches_rest : (line : Line) (lines : List Line) (each : Each) → Matches (line ∷ lines) each → Matches lines (without line.session each)
@@ -112,7 +102,7 @@ sum_each f names each = sum_by (λ name. sum_by f (each name)) names
 without_sum : (f : Outcome → ℕ) (o : Outcome) (outcomes : List Outcome) (name : List ℕ) (names : List (List ℕ)) (each : Each) → has_name names name ≡ true → AllPairs (λ a b. a ≢ b) names
     → each name ≡ o ∷ outcomes → sum_each f names each ≡ f o + sum_each f names (without name each)
 without_sum f o outcomes name [] each has apart e = absurd (true≢false (sym has))
-without_sum f o outcomes name (first ∷ names) each has apart e = go (bytes_eq first name) refl
+without_sum f o outcomes name (first ∷ names) each has apart e = go (bytes_eq first name) refl (λ h a. without_sum f o outcomes name names each h a e)
   where
     here : bytes_eq first name ≡ true → sum_by f (each first) ≡ f o + sum_by f (without name each first)
     here same =
@@ -125,20 +115,21 @@ without_sum f o outcomes name (first ∷ names) each has apart e = go (bytes_eq 
     others : (xs : List (List ℕ)) → All (λ x. x ≢ name) xs → sum_each f xs (without name each) ≡ sum_each f xs each
     others [] all = refl
     others (x ∷ xs) all =
-        let apart' : bytes_eq name x ≡ false = not-same name x (λ q. all 0 x (omega arith) (sym q)) in
+        let apart' : bytes_eq name x ≡ false = bytes-other name x (λ q. all 0 x (omega arith) (sym q)) in
         let same : without name each x ≡ each x = ap (λ (b : Bool). if b then rest_of (each x) else each x) apart' in
         let rest = others xs (λ i d lt. all (suc i) d (omega arith)) in
         omega (arith, rest, ap (sum_by f) same, sum_by-cons (λ n. sum_by f (each n)) x xs, sum_by-cons (λ n. sum_by f (without name each n)) x xs)
 
-    go : (b : Bool) → bytes_eq first name ≡ b → sum_each f (first ∷ names) each ≡ f o + sum_each f (first ∷ names) (without name each)
-    go true same =
+    go : (b : Bool) → bytes_eq first name ≡ b → (has_name names name ≡ true → AllPairs (λ a b. a ≢ b) names → sum_each f names each ≡ f o + sum_each f names (without name each))
+        → sum_each f (first ∷ names) each ≡ f o + sum_each f (first ∷ names) (without name each)
+    go true same more =
         let is : first ≡ name = (bytes_eq-Decides first name).0 same in
         let far : All (λ x. x ≢ name) names = λ i d lt q. apart 0 (suc i) d (omega arith) (omega (arith, lt)) (is ∙ sym q) in
         omega (arith, here same, others names far, sum_by-cons (λ n. sum_by f (each n)) first names, sum_by-cons (λ n. sum_by f (without name each n)) first names)
-    go false other =
-        let back : bytes_eq name first ≡ false = not-same name first (λ q. true≢false (sym ((bytes_eq-Decides first name).1 (sym q)) ∙ other)) in
+    go false other more =
+        let back : bytes_eq name first ≡ false = bytes-other name first (λ q. true≢false (sym ((bytes_eq-Decides first name).1 (sym q)) ∙ other)) in
         let kept : without name each first ≡ each first = ap (λ (b : Bool). if b then rest_of (each first) else each first) back in
-        let rest = without_sum f o outcomes name names each (ap (λ (b : Bool). b || has_name names name) (sym other) ∙ has) (λ i j d lt less. apart (suc i) (suc j) d (omega (arith, lt)) (omega (arith, less))) e in
+        let rest = more (ap (λ (b : Bool). b || has_name names name) (sym other) ∙ has) (λ i j d lt less. apart (suc i) (suc j) d (omega (arith, lt)) (omega (arith, less))) in
         omega (arith, rest, ap (sum_by f) kept, sum_by-cons (λ n. sum_by f (each n)) first names, sum_by-cons (λ n. sum_by f (without name each n)) first names)
 
 pub together_sum : (f : Outcome → ℕ) (names : List (List ℕ)) (lines : List Line) (each : Each) → Matches lines each → AreNamed names lines → AllPairs (λ a b. a ≢ b) names
