@@ -29,11 +29,11 @@ loop-rest-preserved c =
 
 pub returns-clause-ok : goal.returns-clause-ok
 returns-clause-ok c =
-    let read : (the_view c.so_far-2.inside).phases ≡ (with_end c.loop-rest.so_far).phases = ap (λ (s : ReadSoFar). s.phases) (c.so_far-2.view_is ∙ c.in_ok-end_phase.ensures tt) in
+    let read : (the_view c.so_far-2.inside).phases ≡ (with_end c.loop-rest.so_far).phases = ap (λ (s : ReadSoFar). s.phases) (c.so_far-2.view_is ∙ c.in_ok-end_phase.ensures) in
     subst (IsScript c.args.octets.now) (sym read)
     (script-end c.args.octets.now c.loop-rest.rest.now c.loop-rest.so_far (sym c.is_empty.ensures ∙ c.loop-rest-test.false) c.loop-rest.invariant.read)
 
 pub returns-clause-names : goal.returns-clause-names
 returns-clause-names c =
-    let read : the_view c.so_far-2.inside ≡ with_end c.loop-rest.so_far = c.so_far-2.view_is ∙ c.in_ok-end_phase.ensures tt in
+    let read : the_view c.so_far-2.inside ≡ with_end c.loop-rest.so_far = c.so_far-2.view_is ∙ c.in_ok-end_phase.ensures in
     ap (λ (s : ReadSoFar). s.names) read ∙ (names-end c.loop-rest.so_far c.loop-rest.invariant.names ∙ ap (λ (s : ReadSoFar). names_of [] (lines_of s.phases)) (sym read))
