@@ -13,8 +13,7 @@ use Rattle.im_model.specs.declared.transactions.Transaction.{Transaction}
 use Rattle.im_octet.proofs.Common.{all-left, all-right}
 use Rattle.im_report.proofs.FrontLemmas.{answer_same}
 use Rattle.im_report.proofs.OutcomeLemmas.{all_in, cut_first, cut_replies, first_all, first_answered, flat_all, lines_all, lines_answered, numbers_answered, numbers_halted, replies_all_in, replies_answered, texts_all, times_all}
-use Rattle.im_report.proofs.RangeLemmas.{rising_range}
-use Rattle.im_report.proofs.ReportLemmas.{range-next}
+use Rattle.im_report.proofs.RangeLemmas.{range-next, rising_range}
 use Rattle.im_report.proofs.SingleLemmas.{highest_each, one_session}
 use Rattle.im_report.specs.Alone.{IsOneLate, ReportsAlone, all_replies}
 use Rattle.im_report.specs.Further.{number_of_reply}

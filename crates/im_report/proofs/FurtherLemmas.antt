@@ -34,11 +34,11 @@ abbrev further_from : ℕ → List Outcome → List (ℕ × ℕ)
 further_from place [] = []
 further_from place (o ∷ outcomes) = map (λ n. (n, place)) (numbers_in o) ++ further_from (place + 1) outcomes
 
-numbers_of_pairs : (place : ℕ) (ns : List ℕ) → map (λ p. p.0) (map (λ n. (n, place)) ns) ≡ ns
+numbers_of_pairs : (place : ℕ) (ns : List ℕ) → map (λ (p : ℕ × ℕ). p.0) (map (λ (n : ℕ). (n, place)) ns) ≡ ns
 numbers_of_pairs place [] = refl
 numbers_of_pairs place (n ∷ ns) = ap (λ (l : List ℕ). n ∷ l) (numbers_of_pairs place ns)
 
-further_numbers : (place : ℕ) (outcomes : List Outcome) → map (λ p. p.0) (further_from place outcomes) ≡ flat_map numbers_in outcomes
+further_numbers : (place : ℕ) (outcomes : List Outcome) → map (λ (p : ℕ × ℕ). p.0) (further_from place outcomes) ≡ flat_map numbers_in outcomes
 further_numbers place [] = refl
 further_numbers place (o ∷ outcomes) =
     map-append (λ (p : ℕ × ℕ). p.0) (map (λ (n : ℕ). (n, place)) (numbers_in o)) (further_from (place + 1) outcomes)
@@ -107,11 +107,11 @@ further_each hash h phases front (o ∷ outcomes) e behind known =
     (subst (λ (p : ℕ). All (IsOfLine h phases) (further_from p outcomes)) size later)
 
 -- their lines differ
-pairs_at : (place : ℕ) (ns : List ℕ) → All (λ p. p.1 ≡ place) (map (λ n. (n, place)) ns)
+pairs_at : (place : ℕ) (ns : List ℕ) → All (λ (p : ℕ × ℕ). p.1 ≡ place) (map (λ (n : ℕ). (n, place)) ns)
 pairs_at place [] = λ i d lt. absurd (omega arith)
 pairs_at place (n ∷ ns) = cons (pairs_at place ns)
   where
-    cons : All (λ p. p.1 ≡ place) (map (λ m. (m, place)) ns) → All (λ p. p.1 ≡ place) ((n, place) ∷ map (λ m. (m, place)) ns)
+    cons : All (λ (p : ℕ × ℕ). p.1 ≡ place) (map (λ (m : ℕ). (m, place)) ns) → All (λ (p : ℕ × ℕ). p.1 ≡ place) ((n, place) ∷ map (λ (m : ℕ). (m, place)) ns)
     cons more zero d lt = refl
     cons more (suc i) d lt = more i d (omega (arith, lt))
 
@@ -126,13 +126,14 @@ further_above place (o ∷ outcomes) =
 further_apart : (hash : Hash) (h : List Transaction) (place : ℕ) (outcomes : List Outcome) → All (IsKnown hash h) outcomes → AllPairs (λ p q. p.1 ≢ q.1) (further_from place outcomes)
 further_apart hash h place [] known = λ i j d lt less. absurd (omega (arith, less))
 further_apart hash h place (o ∷ outcomes) known =
-    let here : List (ℕ × ℕ) = map (λ n. (n, place)) (numbers_in o) in
+    let pair : ℕ → ℕ × ℕ = λ n. (n, place) in
+    let here : List (ℕ × ℕ) = map pair (numbers_in o) in
     let one = known_one hash h o (known 0 o (omega arith)) in
-    let few : length here ≤ 1 = omega (arith, one.0, length-map (numbers_in o) (λ (n : ℕ). (n, place))) in
+    let few : length here ≤ 1 = omega (arith, one.0, length-map (numbers_in o) pair) in
     let above : All (λ p. place + 1 ≤ p.1) (further_from (place + 1) outcomes) = further_above (place + 1) outcomes in
     pairs_both (λ (p q : ℕ × ℕ). p.1 ≢ q.1) here (further_from (place + 1) outcomes) (λ i j d lt less. absurd (omega (arith, lt, less, few)))
     (further_apart hash h (place + 1) outcomes (λ i d lt. known (suc i) d (omega (arith, lt))))
-    (λ x i d lt e j f less q. (let at : (get_or here i d).1 ≡ place = pairs_at place (numbers_in o) i d lt in
+    (λ (x : ℕ × ℕ) i (d : ℕ × ℕ) lt e j (f : ℕ × ℕ) less q. (let at : (get_or here i d).1 ≡ place = pairs_at place (numbers_in o) i d lt in
     let is : x.1 ≡ (get_or here i d).1 = ap (λ (p : ℕ × ℕ). p.1) e in
     let up : place + 1 ≤ (get_or (further_from (place + 1) outcomes) j f).1 = above j f less in omega (arith, at, is, up, q)))
 
@@ -151,11 +152,11 @@ are_further hash linker h0 h phases r =
     lines_all phases ∙ (ap (map line_in) are ∙ (map-append line_in (map answered written) back ∙ ap (λ (l : List Line). l ++ map line_in back) (lines_answered written))) in
     let behind : All (IsKnown hash h) back = all-right (IsKnown hash h) (map answered written) back (subst (All (IsKnown hash h)) are known) in
     let pairs : List (ℕ × ℕ) = further_from (length front) back in
-    let numbers : flat_map numbers_in all ≡ flat_map number_of_reply written ++ map (λ p. p.0) pairs =
+    let numbers : flat_map numbers_in all ≡ flat_map number_of_reply written ++ map (λ (p : ℕ × ℕ). p.0) pairs =
     ap (flat_map numbers_in) are ∙ (numbers_answered written back ∙ ap (λ (l : List ℕ). flat_map number_of_reply written ++ l) (sym (further_numbers (length front) back))) in
     record {
       pairs = pairs;
       each = further_each hash h phases front back lines (omega (arith, size)) behind;
       apart = further_apart hash h (length front) back behind;
-      all = λ k. sym (times_both k (flat_map number_of_reply written) (map (λ p. p.0) pairs)) ∙ (ap (times k) (sym numbers) ∙ (sym (times_all k phases) ∙ r.placed k));
+      all = λ k. sym (times_both k (flat_map number_of_reply written) (map (λ (p : ℕ × ℕ). p.0) pairs)) ∙ (ap (times k) (sym numbers) ∙ (sym (times_all k phases) ∙ r.placed k));
     }

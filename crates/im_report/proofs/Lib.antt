@@ -1,5 +1,4 @@
 pub mod PlacedLemmas
-pub mod ReportLemmas
 pub mod RangeLemmas
 pub mod FrontLemmas
 pub mod OutcomeLemmas

@@ -78,3 +78,10 @@ rising_range (x ∷ xs) a (suc count) rises same =
     let moved : x ≡ a → (k : ℕ) → times k (x ∷ xs) ≡ times k (x ∷ range_with_len (a + 1) count) = λ e k. same k ∙ ap (λ (n : ℕ). times k (n ∷ range_with_len (a + 1) count)) (sym e) in
     let e : x ≡ a = first_same x xs a count rises same in
     ap₂ (λ (n : ℕ) (ns : List ℕ). n ∷ ns) e (rising_range xs (a + 1) count (rest_rises x xs rises) (times_rest x xs (range_with_len (a + 1) count) (moved e)))
+
+-- one number more
+pub range-next : (a n : ℕ) → range_with_len a (suc n) ≡ range_with_len a n ++ (a + n) ∷ []
+range-next a zero = let same : a ≡ a + 0 = omega arith in ap (λ k. k ∷ []) same
+range-next a (suc n) =
+    let same : a + 1 + n ≡ a + suc n = omega arith in
+    ap (λ (xs : List ℕ). a ∷ xs) (range-next (a + 1) n ∙ ap (λ k. range_with_len (a + 1) n ++ k ∷ []) same)

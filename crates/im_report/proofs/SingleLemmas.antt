@@ -39,7 +39,8 @@ highest_both : (low : ℕ) (xs ys : List Answered) → highest low (xs ++ ys) �
 highest_both low [] ys = refl
 highest_both low (x ∷ xs) ys = highest_both (max low x.number) xs ys
 
-floor_both : (floor : ℕ) (xs ys : List Answered) → floor_after floor (xs ++ ys) ≡ floor_after (floor_after floor xs) ys
+-- the floor behind replies and others
+pub floor_both : (floor : ℕ) (xs ys : List Answered) → floor_after floor (xs ++ ys) ≡ floor_after (floor_after floor xs) ys
 floor_both floor [] ys = refl
 floor_both floor (x ∷ xs) ys = floor_both (floor_by x.line.command x.number floor) xs ys
 
@@ -183,10 +184,9 @@ session_behind hash low floor h xs outcomes before s = record {
   told = answers_behind hash low floor h xs s.answers before s.told;
 }
 
--- all phases of one session are what that session came to
-pub one_session : (hash : Hash) (low floor : ℕ) (h : List Transaction) (name : List ℕ) (phases : List (List Outcome)) → floor ≤ low → All (All (λ o. o.line.session ≡ name)) phases → AreAllButLast phases
-    → ArePhases hash low floor h phases → IsSession hash low floor h (all_in phases)
-one_session hash low floor h name [] le same ran each = record {
+-- no line, no outcome
+pub session_none : (hash : Hash) (low floor : ℕ) (h : List Transaction) → IsSession hash low floor h []
+session_none hash low floor h = record {
   answers = [];
   rest = [];
   are = refl;
@@ -198,6 +198,11 @@ one_session hash low floor h name [] le same ran each = record {
     floors = λ i d lt. absurd (omega arith);
   };
 }
+
+-- all phases of one session are what that session came to
+pub one_session : (hash : Hash) (low floor : ℕ) (h : List Transaction) (name : List ℕ) (phases : List (List Outcome)) → floor ≤ low → All (All (λ o. o.line.session ≡ name)) phases → AreAllButLast phases
+    → ArePhases hash low floor h phases → IsSession hash low floor h (all_in phases)
+one_session hash low floor h name [] le same ran each = session_none hash low floor h
 one_session hash low floor h name (outcomes ∷ []) le same ran each =
     subst (IsSession hash low floor h) (own_all name outcomes (same 0 outcomes (omega arith)) ∙ sym (append-nil outcomes)) (each.0 name)
 one_session hash low floor h name (outcomes ∷ next ∷ phases) le same ran each =

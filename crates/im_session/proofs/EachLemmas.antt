@@ -102,11 +102,6 @@ together_all P (line ∷ lines) each h all = cons one (together_all P lines (wit
     cons p ps zero d lt = p
     cons p ps (suc i) d lt = ps i d (omega (arith, lt))
 
--- of each reply
-pub replies_all : (P : Answered → Type 0) (outcomes : List Outcome) → All (λ o. All P (reply_in o)) outcomes → All P (replies_in outcomes)
-replies_all P [] all = λ i d lt. absurd (omega arith)
-replies_all P (o ∷ outcomes) all = All-append P (reply_in o) (replies_in outcomes) (all 0 o (omega arith)) (replies_all P outcomes (λ i d lt. all (suc i) d (omega (arith, lt))))
-
 -- the texts that a session has: those of its replies, up to its first line without one
 abbrev pub texts_of : List Outcome → List (List ℕ)
 texts_of outcomes = map answer_line (first_replies outcomes)

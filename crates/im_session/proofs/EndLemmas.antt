@@ -6,6 +6,7 @@ use Rattle.std.proofs.lemmas.List.{map-append}
 use Rattle.std.proofs.lemmas.List.Sums.{sum_by-cons}
 use Rattle.im_digest.specs.Digests.{Hash}
 use Rattle.im_model.specs.declared.transactions.Transaction.{Transaction}
+use Rattle.im_report.proofs.OutcomeLemmas.{lines_answered}
 use Rattle.im_report.specs.Outcomes.{IsLate, IsSession, Outcome, answered, halted, highest, line_in, not_run, number_or_none, number_told, numbers_in}
 use Rattle.im_report.specs.Report.{Answered, floor_after}
 use Rattle.im_script.specs.declared.commands.Line.{Line}
@@ -30,10 +31,6 @@ outcomes_of answers (Some s) = map answered answers ++ halted s.0 s.1.0 ∷ map 
 abbrev pub stop_in : (hash : Hash) (start : Start) (p : KnownPass) (lines : List Line) (answers : List Answered) (why : Option LineError) → HasRun hash start p lines answers why → Option (Line × (Option ℕ × List Line))
 stop_in hash start p lines answers None ran = None
 stop_in hash start p lines answers (Some why) (line, others, e, cut) = Some (line, (cut.stuck.late, others))
-
-lines_answered : (answers : List Answered) → map line_in (map answered answers) ≡ map (λ (a : Answered). a.line) answers
-lines_answered [] = refl
-lines_answered (a ∷ answers) = ap (λ (l : List Line). a.line ∷ l) (lines_answered answers)
 
 lines_unrun : (lines : List Line) → map line_in (map not_run lines) ≡ lines
 lines_unrun [] = refl

@@ -1,5 +1,6 @@
 -- Lists that the one list may have grown to, and passes behind several calls.
 use Rattle.std.proofs.Common.{◌≡◌, ◌≤◌, ◌+◌, ◌++◌, ℕ, List, [], ◌∷◌, length, take, zero, suc, ◌-◌, Option, Some, slice_get, slice_index_or, refl, ap, sym, ◌∙◌, arith, length-append}
+use Rattle.std.proofs.lemmas.List.{take-append-le}
 use mathlib.Core.List.{IsPrefix}
 use Rattle.im_model.specs.History.{no_transaction, transaction_of}
 use Rattle.im_model.specs.declared.transactions.Transaction.{Transaction}
@@ -19,26 +20,9 @@ may_before old new items l m = record {
   history = m.history;
 }
 
-pub later_on : (old mid new : KnownPass) → Later old mid → Later mid new → Later old new
-later_on old mid new l m = record {
-  table = m.table ∙ l.table;
-  roles = m.roles ∙ l.roles;
-  weight = m.weight ∙ l.weight;
-  seen = prefix_trans old.view.seen mid.view.seen new.view.seen l.seen m.seen;
-  durable = omega (arith, l.durable, m.durable);
-  linked = omega (arith, l.linked, m.linked);
-  indexed = omega (arith, l.indexed, m.indexed);
-  failed = omega (arith, l.failed, m.failed);
-}
-
 -- the first n of a list and of one that begins with it, where it has so many
 pub take_front : {X : Type 0} (xs ys : List X) (n : ℕ) → IsPrefix xs ys → n ≤ length xs → take n ys ≡ take n xs
-take_front xs ys n p le = ap (take n) (sym p.1) ∙ take_first xs p.0 n le
-  where
-    take_first : {Y : Type 0} (as bs : List Y) (k : ℕ) → k ≤ length as → take k (as ++ bs) ≡ take k as
-    take_first as bs zero le = refl
-    take_first [] bs (suc k) le = absurd (omega arith)
-    take_first (a ∷ as) bs (suc k) le = ap (λ (l : List _). a ∷ l) (take_first as bs k (omega arith))
+take_front xs ys n p le = ap (take n) (sym p.1) ∙ take-append-le n xs p.0 le
 
 -- the first n transactions that the pass has seen are those of each list that it may become
 pub history_taken : (p : KnownPass) (items : List LogItem) (n : ℕ) → MayBecome p items → n ≤ length p.view.seen → take n (history_of items) ≡ take n (history_of p.view.seen)

@@ -6,6 +6,7 @@ use Rattle.std.proofs.lemmas.List.Sums.{sum_by-cons}
 use mathlib.Core.List.{IsPrefix}
 use Rattle.im_accept.specs.Messages.{IsReadBack}
 use Rattle.im_digest.specs.Digests.{Hash}
+use Rattle.im_report.proofs.OutcomeLemmas.{first_answered, replies_answered, replies_unrun}
 use Rattle.im_report.specs.Outcomes.{IsSession, Outcome, answered, halted, line_in, not_run, reply_in}
 use Rattle.im_report.specs.Report.{Answered, answer_line, floor_after}
 use Rattle.im_report.specs.Sessions.{first_replies, replies_in}
@@ -27,33 +28,14 @@ use Rattle.im_table.specs.declared.items.LogItem.{LogItem}
 use Rattle.im_table.specs.declared.view.Least.{Least}
 
 -- the replies of a session's outcomes, and those before the first line without one, are its answers
-first_answered : (answers : List Answered) → first_replies (map answered answers) ≡ answers
-first_answered [] = refl
-first_answered (a ∷ answers) = ap (λ (l : List Answered). a ∷ l) (first_answered answers)
-
-first_halted : (answers : List Answered) (line : Line) (late : Option ℕ) (rest : List Outcome) → first_replies (map answered answers ++ halted line late ∷ rest) ≡ answers
-first_halted [] line late rest = refl
-first_halted (a ∷ answers) line late rest = ap (λ (l : List Answered). a ∷ l) (first_halted answers line late rest)
-
 pub first_of_outcomes : (answers : List Answered) (stop : Option (Line × (Option ℕ × List Line))) → first_replies (outcomes_of answers stop) ≡ answers
-first_of_outcomes answers None = first_answered answers
-first_of_outcomes answers (Some s) = first_halted answers s.0 s.1.0 (map not_run s.1.1)
-
-no_replies : (lines : List Line) → replies_in (map not_run lines) ≡ []
-no_replies [] = refl
-no_replies (l ∷ lines) = no_replies lines
-
-replies_answered : (answers : List Answered) → replies_in (map answered answers) ≡ answers
-replies_answered [] = refl
-replies_answered (a ∷ answers) = ap (λ (l : List Answered). a ∷ l) (replies_answered answers)
-
-replies_halted : (answers : List Answered) (line : Line) (late : Option ℕ) (others : List Line) → replies_in (map answered answers ++ halted line late ∷ map not_run others) ≡ answers
-replies_halted [] line late others = no_replies others
-replies_halted (a ∷ answers) line late others = ap (λ (l : List Answered). a ∷ l) (replies_halted answers line late others)
+first_of_outcomes answers None = ap first_replies (sym (append-nil (map answered answers))) ∙ (first_answered answers [] ∙ append-nil answers)
+first_of_outcomes answers (Some s) = first_answered answers (halted s.0 s.1.0 ∷ map not_run s.1.1) ∙ append-nil answers
 
 pub replies_of_outcomes : (answers : List Answered) (stop : Option (Line × (Option ℕ × List Line))) → replies_in (outcomes_of answers stop) ≡ answers
-replies_of_outcomes answers None = replies_answered answers
-replies_of_outcomes answers (Some s) = replies_halted answers s.0 s.1.0 s.1.1
+replies_of_outcomes answers None = ap replies_in (sym (append-nil (map answered answers))) ∙ (replies_answered answers [] ∙ append-nil answers)
+replies_of_outcomes answers (Some s) =
+    replies_answered answers (halted s.0 s.1.0 ∷ map not_run s.1.1) ∙ (ap (λ (l : List Answered). answers ++ l) (replies_unrun s.1.1) ∙ append-nil answers)
 
 -- what holds of each answer holds of the reply of each outcome
 each_unrun : (P : Answered → Type 0) (lines : List Line) → All (λ o. All P (reply_in o)) (map not_run lines)

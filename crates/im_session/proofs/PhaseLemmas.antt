@@ -5,7 +5,7 @@ use Rattle.im_digest.specs.Digests.{Hash}
 use Rattle.im_model.specs.declared.transactions.Transaction.{Transaction}
 use Rattle.im_report.specs.Outcomes.{AreAnswers, IsCutOff, IsLate, IsOver, IsSession, Outcome, floors_told, highest, of_session}
 use Rattle.im_report.specs.Report.{Answered, floor_after, floor_by, is_placed}
-use Rattle.im_report.specs.Sessions.{ArePhases, IsPhase, greatest, next_floor, next_low}
+use Rattle.im_report.specs.Sessions.{ArePhases, IsPhase, next_floor, next_low}
 use Rattle.im_script.specs.declared.commands.Line.{Line}
 use Rattle.im_session.proofs.RunLemmas.{floor_more}
 use Rattle.im_session.specs.Phases.{floor_behind, low_after}
@@ -79,10 +79,6 @@ phase_less hash l f m g h outcomes le up p = λ name. session_less hash l f m g 
 pub highest_most : (low n : ℕ) (answers : List Answered) → low ≤ n → All (λ a. a.number ≤ n) answers → highest low answers ≤ n
 highest_most low n [] le all = le
 highest_most low n (a ∷ answers) le all = highest_most (max low a.number) n answers (omega (arith, le, all 0 a (omega arith))) (λ i d lt. all (suc i) d (omega arith))
-
-pub greatest_most : (best n : ℕ) (ns : List ℕ) → best ≤ n → All (λ k. k ≤ n) ns → greatest best ns ≤ n
-greatest_most best n [] le all = le
-greatest_most best n (k ∷ ns) le all = greatest_most (max best k) n ns (omega (arith, le, all 0 k (omega arith))) (λ i d lt. all (suc i) d (omega arith))
 
 pub low_push : (low : ℕ) (phases : List (List Outcome)) (outcomes : List Outcome) → low_after low (phases ++ outcomes ∷ []) ≡ next_low (low_after low phases) outcomes
 low_push low [] outcomes = refl

@@ -2,6 +2,7 @@
 use Rattle.std.proofs.Common.{◌≡◌, ◌≢◌, ◌⊎◌, inl, inr, ℕ, zero, suc, ◌+◌, ◌-◌, ◌<◌, ◌≤◌, ◌++◌, List, [], ◌∷◌, length, map, Bool, true, false, if◌then◌else◌, Option, Some, None, refl, ap, ap₂, sym, ◌∙◌, subst, arith, slice_index_or}
 use Rattle.std.specs.Prelude.{All, AllPairs, take}
 use Rattle.std.specs.List.{sum_by}
+use Rattle.std.proofs.lemmas.List.{length-map}
 use Rattle.std.proofs.lemmas.List.Sums.{sum_by-cons}
 use Rattle.std.specs.Str.{bytes_eq}
 use Rattle.std.proofs.lemmas.Slice.Eq.{bytes_eq-Decides}
@@ -11,11 +12,13 @@ use Rattle.im_accept.specs.Taken.{AreReadBack}
 use Rattle.im_digest.specs.Digests.{Hash}
 use Rattle.im_model.specs.declared.transactions.Transaction.{Transaction}
 use Rattle.im_octet.proofs.Common.{bytes-other}
+use Rattle.im_report.proofs.OutcomeLemmas.{flat_all}
+use Rattle.im_report.proofs.SingleLemmas.{session_none}
 use Rattle.im_report.specs.Outcomes.{IsSession, Outcome, line_in, numbers_in, of_session, reply_in}
 use Rattle.im_report.specs.Report.{Answered, floor_after}
 use Rattle.im_report.specs.Sessions.{AreOfOne, IsJustOver, floor_reached, floors_of, replies_in}
 use Rattle.im_script.specs.declared.commands.Line.{Line}
-use Rattle.im_session.proofs.EachLemmas.{each_all, each_matches, each_none, each_of, replies_all, together_all}
+use Rattle.im_session.proofs.EachLemmas.{each_all, each_matches, each_none, each_of, together_all}
 use Rattle.im_session.proofs.OutLemmas.{HaveOuts, IsOut, outs_all, outs_own}
 use Rattle.im_session.proofs.TogetherLemmas.{Each, Matches, sum_each, together, together_lines, together_own, together_sum}
 use Rattle.im_session.specs.Dealing.{AreDealt, AreNamed, lines_with}
@@ -29,21 +32,6 @@ use Rattle.im_table.specs.Histories.{history_of}
 use Rattle.im_table.specs.Known.{KnownPass, TableId}
 use Rattle.im_table.specs.Views.{times}
 use Rattle.im_table.specs.declared.items.LogItem.{LogItem}
-
--- no line, no outcome
-pub session_none : (hash : Hash) (low floor : ℕ) (h : List Transaction) → IsSession hash low floor h []
-session_none hash low floor h = record {
-  answers = [];
-  rest = [];
-  are = refl;
-  cut = inl refl;
-  told = record {
-    each = λ i d lt. absurd (omega arith);
-    least = λ i d lt. absurd (omega arith);
-    rising = λ i j d lt less. absurd (omega arith);
-    floors = λ i d lt. absurd (omega arith);
-  };
-}
 
 -- added up by the names it is what it is list by list
 sum_far : (f : Outcome → ℕ) (first : List ℕ) (out : List Outcome) (names : List (List ℕ)) (outs : List (List Outcome)) (some : List (List ℕ)) → All (λ n. first ≢ n) some
@@ -67,11 +55,7 @@ sum_outs f (first ∷ names) (out ∷ outs) many apart =
     omega (arith, far, rest, ap (sum_by f) here, sum_by-cons (λ m. sum_by f (each_of (first ∷ names) (out ∷ outs) m)) first names, sum_by-cons (sum_by f) out outs)
 
 length_same : {X Y Z : Type 0} (f : X → Z) (g : Y → Z) (xs : List X) (ys : List Y) → map f xs ≡ map g ys → length xs ≡ length ys
-length_same f g xs ys e = omega (arith, length_of f xs, length_of g ys, ap length e)
-  where
-    length_of : {A B : Type 0} (h : A → B) (as : List A) → length (map h as) ≡ length as
-    length_of h [] = refl
-    length_of h (a ∷ as) = ap suc (length_of h as)
+length_same f g xs ys e = sym (length-map xs f) ∙ (ap length e ∙ length-map ys g)
 
 -- what a phase was begun and ended with
 pub record WasPlayed (hash : Hash) (table : TableId) (names : List (List ℕ)) (lines : List Line) (order : List ℕ) (before after : List Session) (ended : List Ended) (old mid new : KnownPass) : Type 0 where
@@ -116,7 +100,7 @@ module _ (hash : Hash) (table : TableId) (links : Bool) (names : List (List ℕ)
   -- of each reply
   each_reply : (p : WasPlayed hash table names lines order before after ended old mid new) (P : Session → Type 0) (R : Answered → Type 0) → All P after → ((s : Session) (out : List Outcome) → P s → IsOut hash table old.view.least.durable old.view.least.linked s out → All (λ o. All R (reply_in o)) out) → All R (replies_in (outcomes_in p))
   each_reply p P R all step =
-      replies_all R (outcomes_in p) (together_all (λ o. All R (reply_in o)) lines (by_name p) (matches_of p) (by_each p P (All (λ o. All R (reply_in o))) all (λ i d lt. absurd (omega arith)) step))
+      flat_all R reply_in (outcomes_in p) (together_all (λ o. All R (reply_in o)) lines (by_name p) (matches_of p) (by_each p P (All (λ o. All R (reply_in o))) all (λ i d lt. absurd (omega arith)) step))
 
   pub all_read_back : (p : WasPlayed hash table names lines order before after ended old mid new) (items : List LogItem) → MayBecome new items → AreReadBack hash (history_of items) (replies_in (outcomes_in p))
   all_read_back p items m =

@@ -7,6 +7,7 @@ use Rattle.std.proofs.lemmas.List.Quantifiers.{all_pairs_push}
 use Rattle.im_accept.specs.Messages.{IsReadBack}
 use Rattle.im_digest.specs.Digests.{Hash}
 use Rattle.im_model.specs.declared.transactions.Transaction.{Transaction}
+use Rattle.im_report.proofs.SingleLemmas.{floor_both}
 use Rattle.im_report.specs.Outcomes.{AreAnswers, IsOver, Rises, floors_told, number_told}
 use Rattle.im_report.specs.Report.{Answered, IsAnswer, floor_after, floor_by, is_placed}
 use Rattle.im_report.specs.Sessions.{IsJustOver}
@@ -23,10 +24,6 @@ use Rattle.im_table.specs.declared.items.LogItem.{LogItem}
 pub numbers_push : (xs : List Answered) (a : Answered) → numbers_told (xs ++ a ∷ []) ≡ numbers_told xs ++ number_told (Some a)
 numbers_push [] a = append-nil (number_told (Some a))
 numbers_push (x ∷ xs) a = ap (λ (l : List ℕ). number_told (Some x) ++ l) (numbers_push xs a) ∙ sym (append_assoc (number_told (Some x)) (numbers_told xs) (number_told (Some a)))
-
-pub after_push : (f : ℕ) (xs : List Answered) (a : Answered) → floor_after f (xs ++ a ∷ []) ≡ floor_by a.line.command a.number (floor_after f xs)
-after_push f [] a = refl
-after_push f (x ∷ xs) a = after_push (floor_by x.line.command x.number f) xs a
 
 -- the pair of a line that reply `tx`, or none
 abbrev pair_of : Bool → ℕ → ℕ → List (ℕ × ℕ)
@@ -110,12 +107,12 @@ run_push hash start old new answers a r s l =
       calm = s.calm ∙ r.calm;
       known = All-push (λ (b : Answered). b.number ≤ new.view.least.durable) answers a (λ k d lt. omega (arith, r.known k d lt, l.durable)) s.known;
       from = omega (arith, r.from, l.durable);
-      reached = omega (arith, after_push start.floor answers a, floor_more a.line.command a.number (floor_after start.floor answers) old.view.least.linked r.reached, s.floor);
+      reached = omega (arith, floor_both start.floor answers (a ∷ []), floor_more a.line.command a.number (floor_after start.floor answers) old.view.least.linked r.reached, s.floor);
       leaves = omega (arith, r.leaves, s.slack);
       placed = omega (arith, r.placed, more, told_rises hash old new a s l);
       exact = λ alone.
           let before = alone_before hash start old new answers a r s l alone in
-          after_push start.floor answers a ∙ ap (floor_by a.line.command a.number) (r.exact before)
+          floor_both start.floor answers (a ∷ []) ∙ ap (floor_by a.line.command a.number) (r.exact before)
           ∙ s.just (same_before hash start old new answers a r s l alone) (still_before hash start old new answers a r s l alone);
       just = λ alone items m.
           let before = alone_before hash start old new answers a r s l alone in

@@ -9,11 +9,11 @@ use mathlib.Core.List.{IsPrefix}
 use Rattle.im_accept.specs.Taken.{AreReadBack}
 use Rattle.im_digest.specs.Digests.{Hash}
 use Rattle.im_model.specs.declared.transactions.Transaction.{Transaction}
+use Rattle.im_report.proofs.SingleLemmas.{greatest_most, session_none}
 use Rattle.im_report.specs.Outcomes.{Outcome, line_in, of_session}
 use Rattle.im_report.specs.Sessions.{AreAllButLast, AreAnswered, AreOfOne, IsJustOver, floor_reached, floors_of, next_floor, next_low, replies_in}
 use Rattle.im_script.specs.declared.commands.Line.{Line}
-use Rattle.im_session.proofs.PhaseLemmas.{after_more, floor_push, greatest_most, highest_most, low_push, phase_less, phases_push}
-use Rattle.im_session.proofs.PlayLemmas.{session_none}
+use Rattle.im_session.proofs.PhaseLemmas.{after_more, floor_push, highest_most, low_push, phase_less, phases_push}
 use Rattle.im_session.specs.Lines.{MayBecome}
 use Rattle.im_session.specs.Phases.{AreSoFar, HasGrown, IsPlayed, floor_behind, low_after, times_in}
 use Rattle.im_table.proofs.FrontLemmas.{prefix_self, prefix_trans}

@@ -12,7 +12,7 @@ use Rattle.im_report.specs.Report.{Answered, IsAnswer, floor_by, is_placed}
 use Rattle.im_script.specs.declared.commands.Command.{Command}
 use Rattle.im_script.specs.declared.commands.Command.TheVariants.{Set, Link}
 use Rattle.im_script.specs.declared.commands.Line.{Line}
-use Rattle.im_session.proofs.GrowLemmas.{front_length, history_taken, later_on, map_take, transaction_at}
+use Rattle.im_session.proofs.GrowLemmas.{front_length, history_taken, map_take, transaction_at}
 use Rattle.im_session.specs.Lines.{IsStep, IsStuck, IsWhy, KnowsFault, MayBecome}
 use Rattle.im_session.specs.declared.errors.LineError.{LineError}
 use Rattle.im_session.specs.declared.errors.LineError.TheVariants.{DiskFault, Memory}
@@ -28,6 +28,7 @@ use Rattle.im_versions.specs.declared.refusals.PlaceError.{PlaceError}
 use Rattle.im_store.specs.Gains.{Gains}
 use Rattle.im_store.specs.Growth.{IsLinked}
 use Rattle.im_table.proofs.HistoryLemmas.{history_length}
+use Rattle.im_table.proofs.PassLemmas.{later_both}
 use Rattle.im_table.specs.Histories.{history_of}
 use Rattle.im_table.specs.Known.{KnownPass}
 use Rattle.im_table.specs.Passes.{Later}
@@ -59,7 +60,7 @@ pub shown_step : (hash : Hash) (old mid new : KnownPass) (a : Answered) → Late
     → IsStep hash old new a
 shown_step hash old mid new a l m g k is above none floor answer again =
     let told : number_told (Some a) ≡ [] = ap (λ (b : Bool). if b then a.number ∷ [] else []) none in
-    let whole = later_on old mid new l m in
+    let whole = later_both old mid new l m in
     record {
       answer = answer;
       again = again;

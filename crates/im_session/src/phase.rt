@@ -31,6 +31,7 @@ const LINKED_AT_ONCE: u64 = 16;
 const INDEXED_AT_ONCE: u64 = 64;
 
 /// What runs beside the sessions.
+#[derive(Drop)]
 pub(crate) struct Helpers {
     /// The pass of the linker.
     pub(crate) linker: Pass,

@@ -54,11 +54,11 @@ fn refused_between(alloc: Global, count: u64, s: u64, t: u64) -> Result<Option<V
 }
 
 // Numbers that were compared before are in order and durable: want of memory is the only error left.
-fn proved<T: Drop>(result: Result<T, ProveError>) -> Result<T, AllocError>
-    requires memory { IfErr result (λ error. error ≡ ProveError.Memory) }
-    ensures same { IfOk result (λ value. IfOk result (λ given. given ≡ value)) }
+fn proved<T: Drop>(given: Result<T, ProveError>) -> Result<T, AllocError>
+    requires memory { IfErr given (λ error. error ≡ ProveError.Memory) }
+    ensures same { IfOk result (λ value. given ≡ Ok value) }
 {
-    match result {
+    match given {
         Ok(value) => Ok(value),
         Err(ProveError::Memory) => Err(AllocError),
         Err(ProveError::Order { .. } | ProveError::Beyond { .. }) => unreachable!(),

@@ -39,7 +39,7 @@ pub enum Stopped {
 
 /// What a script left: the disk and the clock, and why it ended before its end, if it did.
 #[derive(Drop)]
-pub struct Served<D: Drop, C: Drop> {
+pub struct Served<D, C> {
     /// The disk.
     pub disk: D,
     /// The clock.
