@@ -141,7 +141,7 @@ told_rising (a ∷ answers) rising = go (is_placed a) (told_rising answers (λ i
     go true rest = cons rest
 
 -- the floors of answered lines, and of those behind them
-floors_behind : (floor : ℕ) (answers : List Answered) (rest : List Outcome) → floors_of floor (map answered answers ++ rest) ≡ floors_told floor answers ++ floors_of (floor_after floor answers) rest
+pub floors_behind : (floor : ℕ) (answers : List Answered) (rest : List Outcome) → floors_of floor (map answered answers ++ rest) ≡ floors_told floor answers ++ floors_of (floor_after floor answers) rest
 floors_behind floor [] rest = refl
 floors_behind floor (a ∷ answers) rest =
     let next : ℕ = floor_by a.line.command a.number floor in

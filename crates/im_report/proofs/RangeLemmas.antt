@@ -1,5 +1,5 @@
 -- Rising numbers that are those of a range, each as often, are that range.
-use Rattle.std.proofs.Common.{◌≡◌, ◌≢◌, ◌⊎◌, inl, inr, ℕ, zero, suc, ◌+◌, ◌-◌, ◌<◌, ◌≤◌, ◌==◌, ◌++◌, List, [], ◌∷◌, length, Bool, true, false, cond, refl, ap, ap₂, sym, ◌∙◌, subst, arith}
+use Rattle.std.proofs.Common.{◌≡◌, ◌≢◌, ◌⊎◌, inl, inr, ℕ, zero, suc, ◌+◌, ◌-◌, ◌<◌, ◌≤◌, ◌==◌, ◌++◌, List, [], ◌∷◌, length, Bool, true, false, cond, refl, ap, ap₂, sym, ◌∙◌, subst, arith, get_or}
 use Rattle.std.specs.Prelude.{All, AllPairs}
 use Rattle.std.specs.List.{range_with_len}
 use Rattle.std.proofs.lemmas.Bool.{cases_lt}
@@ -85,3 +85,45 @@ range-next a zero = let same : a ≡ a + 0 = omega arith in ap (λ k. k ∷ []) 
 range-next a (suc n) =
     let same : a + 1 + n ≡ a + suc n = omega arith in
     ap (λ (xs : List ℕ). a ∷ xs) (range-next (a + 1) n ∙ ap (λ k. range_with_len (a + 1) n ++ k ∷ []) same)
+
+-- what holds of each number of a list holds of each of one in which they stand as often
+times_some : (n : ℕ) (xs : List ℕ) (i d : ℕ) → i < length xs → get_or xs i d ≡ n → 1 ≤ times n xs
+times_some n [] i d lt e = absurd (omega (arith, lt))
+times_some n (x ∷ xs) zero d lt e = let here : times n (n ∷ xs) ≡ suc (times n xs) = times_here n xs in subst (λ (y : ℕ). 1 ≤ times n (y ∷ xs)) (sym e) (omega (arith, here))
+times_some n (x ∷ xs) (suc i) d lt e = let more = times_some n xs i d (omega (arith, lt)) e in omega (arith, more)
+
+times_found : (P : ℕ → Type 0) (n : ℕ) (xs : List ℕ) → 1 ≤ times n xs → All P xs → P n
+times_found P n [] some all = absurd (omega (arith, some))
+times_found P n (x ∷ xs) some all = go (eqb_tells x n) (λ more. times_found P n xs more (λ i d lt. all (suc i) d (omega (arith, lt))))
+  where
+    go : (((x == n) ≡ true) × (x ≡ n)) ⊎ (((x == n) ≡ false) × (x ≢ n)) → (1 ≤ times n xs → P n) → P n
+    go (inl e) rest = subst P e.1 (all 0 x (omega arith))
+    go (inr e) rest = rest (let none : times n (x ∷ xs) ≡ 0 + times n xs = ap (λ (b : Bool). cond b 1 0 + times n xs) e.0 in omega (arith, none, some))
+
+pub times_all_of : (P : ℕ → Type 0) (xs ys : List ℕ) → ((k : ℕ) → times k xs ≡ times k ys) → All P ys → All P xs
+times_all_of P xs ys same all i d lt =
+    let n : ℕ = get_or xs i d in
+    let some : 1 ≤ times n xs = times_some n xs i d lt refl in
+    times_found P n ys (omega (arith, some, same n)) all
+
+-- a list without a number that stands in it
+times_without : (n : ℕ) (ys : List ℕ) → 1 ≤ times n ys → (left : List ℕ) × (length ys ≡ length left + 1) × ((k : ℕ) → times k ys ≡ times k (n ∷ left))
+times_without n [] some = absurd (omega (arith, some))
+times_without n (y ∷ ys) some = go (eqb_tells y n) (λ more. times_without n ys more)
+  where
+    go : (((y == n) ≡ true) × (y ≡ n)) ⊎ (((y == n) ≡ false) × (y ≢ n)) → (1 ≤ times n ys → (left : List ℕ) × (length ys ≡ length left + 1) × ((k : ℕ) → times k ys ≡ times k (n ∷ left)))
+        → (left : List ℕ) × (length (y ∷ ys) ≡ length left + 1) × ((k : ℕ) → times k (y ∷ ys) ≡ times k (n ∷ left))
+    go (inl e) rest = (ys, omega arith, λ k. ap (λ (m : ℕ). times k (m ∷ ys)) e.1)
+    go (inr e) rest =
+        let more = rest (let none : times n (y ∷ ys) ≡ 0 + times n ys = ap (λ (b : Bool). cond b 1 0 + times n ys) e.0 in omega (arith, none, some)) in
+        (y ∷ more.0, omega (arith, more.1), λ k. (let f = more.2 k in omega (arith, f)))
+
+-- and they are as many
+pub times_length : (xs ys : List ℕ) → ((k : ℕ) → times k xs ≡ times k ys) → length xs ≡ length ys
+times_length [] [] same = refl
+times_length [] (y ∷ ys) same = absurd (let e : 0 ≡ suc (times y ys) = same y ∙ times_here y ys in omega (arith, e))
+times_length (x ∷ xs) ys same =
+    let some : 1 ≤ times x ys = (let e : suc (times x xs) ≡ times x ys = sym (times_here x xs) ∙ same x in omega (arith, e)) in
+    let left = times_without x ys some in
+    let rest : length xs ≡ length left.0 = times_length xs left.0 (λ k. (let e = same k in let f = left.2 k in omega (arith, e, f))) in
+    omega (arith, rest, left.1)

@@ -15,7 +15,7 @@ use Rattle.im_script.specs.declared.commands.Command.{Command}
 use Rattle.im_script.specs.declared.commands.Command.TheVariants.{Set, Get, Scan, History, Header, State, Prove, Advance, Item, Link}
 
 -- where all lines are of one session they are those of that session
-own_all : (name : List ℕ) (outcomes : List Outcome) → All (λ o. o.line.session ≡ name) outcomes → of_session name outcomes ≡ outcomes
+pub own_all : (name : List ℕ) (outcomes : List Outcome) → All (λ o. o.line.session ≡ name) outcomes → of_session name outcomes ≡ outcomes
 own_all name [] all = refl
 own_all name (o ∷ outcomes) all =
     let here : bytes_eq o.line.session name ≡ true = bytes-same o.line.session name (all 0 o (omega arith)) in

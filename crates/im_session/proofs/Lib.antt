@@ -9,3 +9,4 @@ pub mod OutLemmas
 pub mod PlayLemmas
 pub mod SoFarLemmas
 pub mod ReportLemmas
+pub mod AloneLemmas

@@ -11,12 +11,13 @@ use Rattle.im_report.specs.Outcomes.{IsSession, Outcome, answered, halted, line_
 use Rattle.im_report.specs.Report.{Answered, answer_line, floor_after}
 use Rattle.im_report.specs.Sessions.{first_replies, replies_in}
 use Rattle.im_script.specs.declared.commands.Line.{Line}
+use Rattle.im_session.proofs.AloneLemmas.{ended_alone, ended_idle}
 use Rattle.im_session.proofs.EachLemmas.{StopFits, texts_of}
 use Rattle.im_session.proofs.EndLemmas.{ended_known, ended_lines, ended_own, ended_reached, ended_session, outcomes_of, stop_in}
 use Rattle.im_session.proofs.GrowLemmas.{may_before}
 use Rattle.im_session.specs.Gathered.{own_of}
 use Rattle.im_session.specs.Lines.{MayBecome}
-use Rattle.im_session.specs.Phases.{AreDone, times_in}
+use Rattle.im_session.specs.Phases.{AreDone, RunsAlone, times_in}
 use Rattle.im_session.specs.Runs.{HasRun, IsDone, Start, start_of}
 use Rattle.im_session.specs.declared.errors.LineError.{LineError}
 use Rattle.im_session.specs.declared.sessions.Session.{Session}
@@ -88,6 +89,8 @@ pub record IsOut (hash : Hash) (table : TableId) (low floor : ℕ) (s : Session)
   pub fits : StopFits s.why out
   pub known : All (λ o. All (λ a. a.number ≤ s.pass.view.least.durable) (reply_in o)) out
   pub reached : floor_after floor (replies_in out) ≤ s.pass.view.least.linked
+  pub alone : RunsAlone low floor s.pass.view.leaves s.pass out
+  pub idle : out ≡ [] → s.pass.view.leaves ≡ 0
 
 read_back : (hash : Hash) (start : Start) (p : KnownPass) (lines : List Line) (answers : List Answered) (why : Option LineError) → HasRun hash start p lines answers why
     → (items : List LogItem) → MayBecome p items → All (λ a. IsReadBack hash (take a.number (history_of items)) a.line.command a.reply) answers
@@ -117,6 +120,8 @@ out_is hash table low floor before after done e =
           let r : floor_after st.floor done.answers ≤ after.pass.view.least.linked = ended_reached hash st after.pass before.lines.items done.answers after.why done.ran in
           subst (λ (t : Start). floor_after t.floor (replies_in (outcomes_of done.answers stop)) ≤ after.pass.view.least.linked) e
           (subst (λ (l : List Answered). floor_after st.floor l ≤ after.pass.view.least.linked) (sym (replies_of_outcomes done.answers stop)) r);
+      alone = subst (λ (t : Start). RunsAlone t.low t.floor after.pass.view.leaves after.pass (outcomes_of done.answers stop)) e (ended_alone hash st after.pass before.lines.items done.answers after.why done.ran);
+      idle = ended_idle hash st after.pass before.lines.items done.answers after.why done.ran;
     }
 
 -- what all sessions left, one by one

@@ -1,8 +1,9 @@
 -- A phase between two moments of the pass that takes all others in.
-use Rattle.std.proofs.Common.{◌≡◌, ◌≢◌, ◌⊎◌, inl, inr, ℕ, zero, suc, ◌+◌, ◌-◌, ◌<◌, ◌≤◌, ◌++◌, List, [], ◌∷◌, length, map, Bool, true, false, if◌then◌else◌, Option, Some, None, refl, ap, ap₂, sym, ◌∙◌, subst, arith, slice_index_or}
+use Rattle.std.proofs.Common.{◌≡◌, ◌≢◌, ◌⊎◌, inl, inr, ℕ, zero, suc, ◌+◌, ◌-◌, ◌<◌, ◌≤◌, ◌++◌, List, [], ◌∷◌, length, map, Bool, true, false, if◌then◌else◌, Option, Some, None, refl, ap, ap₂, sym, ◌∙◌, subst, arith, slice_index_or, true≢false}
 use Rattle.std.specs.Prelude.{All, AllPairs, take}
 use Rattle.std.specs.List.{sum_by}
 use Rattle.std.proofs.lemmas.List.{length-map}
+use Rattle.std.proofs.lemmas.List.Elements.{All-map}
 use Rattle.std.proofs.lemmas.List.Sums.{sum_by-cons}
 use Rattle.std.specs.Str.{bytes_eq}
 use Rattle.std.proofs.lemmas.Slice.Eq.{bytes_eq-Decides}
@@ -11,20 +12,21 @@ use Rattle.im_accept.specs.Messages.{IsReadBack}
 use Rattle.im_accept.specs.Taken.{AreReadBack}
 use Rattle.im_digest.specs.Digests.{Hash}
 use Rattle.im_model.specs.declared.transactions.Transaction.{Transaction}
-use Rattle.im_octet.proofs.Common.{bytes-other}
+use Rattle.im_octet.proofs.Common.{bytes-other, heads-are, tails-are}
 use Rattle.im_report.proofs.OutcomeLemmas.{flat_all}
-use Rattle.im_report.proofs.SingleLemmas.{session_none}
+use Rattle.im_report.proofs.SingleLemmas.{own_all, session_none}
 use Rattle.im_report.specs.Outcomes.{IsSession, Outcome, line_in, numbers_in, of_session, reply_in}
 use Rattle.im_report.specs.Report.{Answered, floor_after}
-use Rattle.im_report.specs.Sessions.{AreOfOne, IsJustOver, floor_reached, floors_of, replies_in}
+use Rattle.im_report.specs.Sessions.{AreOfOne, floor_reached, replies_in}
 use Rattle.im_script.specs.declared.commands.Line.{Line}
 use Rattle.im_session.proofs.EachLemmas.{each_all, each_matches, each_none, each_of, together_all}
-use Rattle.im_session.proofs.OutLemmas.{HaveOuts, IsOut, outs_all, outs_own}
+use Rattle.im_session.proofs.AloneLemmas.{alone_grown, alone_none}
+use Rattle.im_session.proofs.OutLemmas.{AreOuts, HaveOuts, IsOut, outs_all, outs_own}
 use Rattle.im_session.proofs.TogetherLemmas.{Each, Matches, sum_each, together, together_lines, together_own, together_sum}
 use Rattle.im_session.specs.Dealing.{AreDealt, AreNamed, lines_with}
-use Rattle.im_session.specs.Gathered.{AreGathered}
+use Rattle.im_session.specs.Gathered.{AreGathered, leaves_of}
 use Rattle.im_session.specs.Lines.{MayBecome}
-use Rattle.im_session.specs.Phases.{HasGrown, IsPlayed, times_in}
+use Rattle.im_session.specs.Phases.{HasGrown, IsPlayed, RanAlone, RunsAlone, times_in}
 use Rattle.im_session.specs.declared.sessions.Ended.{Ended}
 use Rattle.im_session.specs.declared.sessions.Session.{Session}
 use Rattle.im_table.proofs.FrontLemmas.{prefix_trans}
@@ -56,6 +58,69 @@ sum_outs f (first ∷ names) (out ∷ outs) many apart =
 
 length_same : {X Y Z : Type 0} (f : X → Z) (g : Y → Z) (xs : List X) (ys : List Y) → map f xs ≡ map g ys → length xs ≡ length ys
 length_same f g xs ys e = sym (length-map xs f) ∙ (ap length e ∙ length-map ys g)
+
+-- the sessions with other names have no outcomes
+abbrev pub OthersIdle : List ℕ → List (List ℕ) → List (List Outcome) → Type 0
+OthersIdle name [] outs = Unit {0}
+OthersIdle name (n ∷ names) [] = Unit {0}
+OthersIdle name (n ∷ names) (out ∷ outs) = (n ≢ name → out ≡ []) × OthersIdle name names outs
+
+-- where all lines are of one session, no line is of another
+lines_other : (name other : List ℕ) (lines : List Line) → All (λ l. l.session ≡ name) lines → other ≢ name → lines_with other lines ≡ []
+lines_other name other [] all far = refl
+lines_other name other (line ∷ lines) all far =
+    let apart : bytes_eq line.session other ≡ false = bytes-other line.session other (λ q. far (sym q ∙ all 0 line (omega arith))) in
+    ap (λ (b : Bool). if b then line ∷ lines_with other lines else lines_with other lines) apart ∙ lines_other name other lines (λ i d lt. all (suc i) d (omega (arith, lt))) far
+
+none_left : (outcomes : List Outcome) → map line_in outcomes ≡ [] → outcomes ≡ []
+none_left [] e = refl
+none_left (o ∷ outcomes) e = absurd (let long : suc (length (map line_in outcomes)) ≡ 0 = ap length e in omega (arith, long))
+
+idle_of : (name : List ℕ) (lines : List Line) (names : List (List ℕ)) (outs : List (List Outcome)) → map (map line_in) outs ≡ map (λ n. lines_with n lines) names → All (λ l. l.session ≡ name) lines → OthersIdle name names outs
+idle_of name lines [] outs e all = tt
+idle_of name lines (n ∷ names) [] e all = tt
+idle_of name lines (n ∷ names) (out ∷ outs) e all =
+    let here : map line_in out ≡ lines_with n lines = heads-are (map line_in out) (lines_with n lines) (map (map line_in) outs) (map (λ m. lines_with m lines) names) e in
+    let more : map (map line_in) outs ≡ map (λ m. lines_with m lines) names = tails-are (map line_in out) (lines_with n lines) (map (map line_in) outs) (map (λ m. lines_with m lines) names) e in
+    (λ far. none_left out (here ∙ lines_other name n lines all far), idle_of name lines names outs more all)
+
+-- Of sessions of which those with other names left nothing: none linked anything, or the one with this name alone.
+abbrev pub OneLeft : Hash → TableId → ℕ → ℕ → List Session → List Outcome → Type 0
+OneLeft hash table low floor sessions out =
+    ((out ≡ []) × (sum_by leaves_of sessions ≡ 0))
+    ⊎ ((i : ℕ) × (d : Session) × (i < length sessions) × IsOut hash table low floor (slice_index_or sessions i d) out × (sum_by leaves_of sessions ≡ leaves_of (slice_index_or sessions i d)))
+
+rest_none : (hash : Hash) (table : TableId) (low floor : ℕ) (name : List ℕ) (names : List (List ℕ)) (sessions : List Session) (outs : List (List Outcome)) → AreOuts hash table low floor sessions outs → length outs ≡ length names
+    → OthersIdle name names outs → All (λ n. n ≢ name) names → sum_by leaves_of sessions ≡ 0
+rest_none hash table low floor name names [] [] are many idle far = refl
+rest_none hash table low floor name names [] (out ∷ outs) are many idle far = absurd are
+rest_none hash table low floor name names (s ∷ sessions) [] are many idle far = absurd are
+rest_none hash table low floor name [] (s ∷ sessions) (out ∷ outs) are many idle far = absurd (omega (arith, many))
+rest_none hash table low floor name (n ∷ names) (s ∷ sessions) (out ∷ outs) are many idle far =
+    let here : leaves_of s ≡ 0 = are.0.idle (idle.0 (far 0 n (omega arith))) in
+    let more = rest_none hash table low floor name names sessions outs are.1 (omega (arith, many)) idle.1 (λ i d lt. far (suc i) d (omega (arith, lt))) in
+    omega (arith, here, more, sum_by-cons leaves_of s sessions)
+
+one_left : (hash : Hash) (table : TableId) (low floor : ℕ) (name : List ℕ) (names : List (List ℕ)) (sessions : List Session) (outs : List (List Outcome)) → AreOuts hash table low floor sessions outs → length outs ≡ length names
+    → AllPairs (λ a b. a ≢ b) names → OthersIdle name names outs → OneLeft hash table low floor sessions (each_of names outs name)
+one_left hash table low floor name [] [] [] are many apart idle = inl (refl, refl)
+one_left hash table low floor name (n ∷ names) [] [] are many apart idle = absurd (omega (arith, many))
+one_left hash table low floor name names [] (out ∷ outs) are many apart idle = absurd are
+one_left hash table low floor name names (s ∷ sessions) [] are many apart idle = absurd are
+one_left hash table low floor name [] (s ∷ sessions) (out ∷ outs) are many apart idle = absurd (omega (arith, many))
+one_left hash table low floor name (n ∷ names) (s ∷ sessions) (out ∷ outs) are many apart idle =
+    go (bytes_eq n name) refl (one_left hash table low floor name names sessions outs are.1 (omega (arith, many)) (λ i j d lt less. apart (suc i) (suc j) d (omega (arith, lt)) (omega (arith, less))) idle.1)
+  where
+    behind : n ≡ name → sum_by leaves_of sessions ≡ 0
+    behind is = rest_none hash table low floor name names sessions outs are.1 (omega (arith, many)) idle.1 (λ i d lt q. apart 0 (suc i) d (omega arith) (omega (arith, lt)) (is ∙ sym q))
+
+    later : leaves_of s ≡ 0 → OneLeft hash table low floor sessions (each_of names outs name) → OneLeft hash table low floor (s ∷ sessions) (each_of names outs name)
+    later none (inl (e, z)) = inl (e, omega (arith, none, z, sum_by-cons leaves_of s sessions))
+    later none (inr (i, d, lt, is, sum)) = inr (suc i, d, omega (arith, lt), is, omega (arith, none, sum, sum_by-cons leaves_of s sessions))
+
+    go : (b : Bool) → bytes_eq n name ≡ b → OneLeft hash table low floor sessions (each_of names outs name) → OneLeft hash table low floor (s ∷ sessions) (if b then out else each_of names outs name)
+    go true e rest = inr (0, s, omega arith, are.0, omega (arith, behind ((bytes_eq-Decides n name).0 e), sum_by-cons leaves_of s sessions))
+    go false e rest = later (are.0.idle (idle.0 (λ q. true≢false (sym ((bytes_eq-Decides n name).1 q) ∙ e)))) rest
 
 -- what a phase was begun and ended with
 pub record WasPlayed (hash : Hash) (table : TableId) (names : List (List ℕ)) (lines : List Line) (order : List ℕ) (before after : List Session) (ended : List Ended) (old mid new : KnownPass) : Type 0 where
@@ -125,13 +190,35 @@ module _ (hash : Hash) (table : TableId) (links : Bool) (names : List (List ℕ)
       let all = together_sum f names lines (by_name p) (matches_of p) p.named p.apart (λ name none. each_none names p.outs.outs name none) in
       omega (arith, p.gathered.own k, ap (times k) p.own, outs_own hash table old.view.least.durable old.view.least.linked k after p.outs.outs p.outs.are, all, sum_outs f names p.outs.outs many p.apart)
 
-  -- all but what is said of a single session is here
-  pub phase_is : (p : WasPlayed hash table names lines order before after ended old mid new)
-      → (links ≡ false → AreOfOne (outcomes_in p ∷ []) → old.view.least.linked + new.view.leaves ≤ new.view.least.linked + old.view.leaves)
-      → (links ≡ false → AreOfOne (outcomes_in p ∷ []) → new.view.least.linked + old.view.leaves ≡ old.view.least.linked + new.view.leaves
-      → (items : List LogItem) → MayBecome new items → length items ≡ old.view.least.durable + (length new.view.own - length old.view.own) → All (IsJustOver (history_of items)) (floors_of old.view.least.linked (outcomes_in p)))
-      → IsPlayed hash links old new lines (outcomes_in p)
-  phase_is p slack just = record {
+  -- where all lines are of one session, and no helper linked, that session alone placed and linked
+  alone_by : (p : WasPlayed hash table names lines order before after ended old mid new) (out : List Outcome) → mid.view.leaves ≡ old.view.leaves → OneLeft hash table old.view.least.durable old.view.least.linked after out → RanAlone old new out
+  alone_by p out idle (inl (none, zero)) = (
+    0,
+    omega (arith, p.gathered.leaves, idle, zero),
+    subst (RunsAlone old.view.least.durable old.view.least.linked 0 new) (sym none)
+        (alone_none old.view.least.durable old.view.least.linked new (omega (arith, p.grown.durable, p.gathered.durable)) (omega (arith, p.grown.linked, p.gathered.linked))),
+  )
+  alone_by p out idle (inr (i, d, lt, is, sum)) =
+      let s = slice_index_or after i d in (
+        leaves_of s,
+        omega (arith, p.gathered.leaves, idle, sum),
+        alone_grown old.view.least.durable old.view.least.linked (leaves_of s) s.pass new out (p.gathered.seen i d lt) (p.gathered.all_durable i d lt) (p.gathered.all_linked i d lt) is.alone,
+      )
+
+  ran_alone : (p : WasPlayed hash table names lines order before after ended old mid new) → mid.view.leaves ≡ old.view.leaves → AreOfOne (outcomes_in p ∷ []) → RanAlone old new (outcomes_in p)
+  ran_alone p idle one =
+      let name : List ℕ = one.0 in
+      let mine : All (λ o. o.line.session ≡ name) (outcomes_in p) = one.1 0 (outcomes_in p) (omega arith) in
+      let named : All (λ l. l.session ≡ name) lines = subst (All (λ (l : Line). l.session ≡ name)) (together_lines lines (by_name p) (matches_of p)) (All-map (λ (l : Line). l.session ≡ name) line_in (outcomes_in p) mine) in
+      let is : outcomes_in p ≡ by_name p name = sym (own_all name (outcomes_in p) mine) ∙ together_own lines (by_name p) (matches_of p) name in
+      let many : length p.outs.outs ≡ length names = length_same (map line_in) (λ n. lines_with n lines) p.outs.outs names (same_lines p) in
+      let left : OneLeft hash table old.view.least.durable old.view.least.linked after (by_name p name) =
+      one_left hash table old.view.least.durable old.view.least.linked name names after p.outs.outs p.outs.are many p.apart (idle_of name lines names p.outs.outs (same_lines p) named) in
+      subst (RanAlone old new) (sym is) (alone_by p (by_name p name) idle left)
+
+  -- the phase, where no helper linked unless a linker runs
+  pub phase_is : (p : WasPlayed hash table names lines order before after ended old mid new) → (links ≡ false → mid.view.leaves ≡ old.view.leaves) → IsPlayed hash links old new lines (outcomes_in p)
+  phase_is p idle = record {
     grown = record {
       seen = prefix_trans old.view.seen mid.view.seen new.view.seen p.grown.seen p.gathered.mine;
       durable = omega (arith, p.grown.durable, p.gathered.durable);
@@ -144,6 +231,5 @@ module _ (hash : Hash) (table : TableId) (links : Bool) (names : List (List ℕ)
     most = all_durable p;
     reached = floors_reached p;
     own = own_counted p;
-    slack = slack;
-    just = just;
+    alone = λ off one. ran_alone p (idle off) one;
   }

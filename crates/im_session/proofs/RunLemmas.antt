@@ -121,6 +121,7 @@ run_push hash start old new answers a r s l =
           (pairs_on (IsJustOver (history_of items)) (floors_told start.floor answers) (is_placed a) a.number (floor_after start.floor answers)
           (r.just before items (may_before old new items l m))
           (λ e. omega (arith, r.exact before, same, s.linked_none e, s.over e items m, s.under e items m)));
+      unlinked = λ none. absurd (let long : length (answers ++ a ∷ []) ≡ 0 = ap length none in omega (arith, long, length-append answers (a ∷ [])));
     }
 
 -- nothing was answered yet
@@ -143,4 +144,5 @@ run_none hash p none leaves faults = record {
   placed = omega (arith, ap length none);
   exact = λ alone. refl;
   just = λ alone items m i d lt. absurd (omega arith);
+  unlinked = λ _. leaves;
 }

@@ -1,21 +1,26 @@
 -- The phases played so far, and one more.
-use Rattle.std.proofs.Common.{◌≡◌, ◌⊎◌, inl, inr, ℕ, zero, suc, ◌+◌, ◌-◌, ◌≤◌, ◌++◌, List, [], ◌∷◌, length, map, Bool, false, Option, refl, ap, ap₂, sym, ◌∙◌, subst, arith, append_assoc, append-nil, length-append, slice_index_or}
-use Rattle.std.specs.Prelude.{All, take}
+use Rattle.std.proofs.Common.{◌≡◌, ◌⊎◌, inl, inr, ℕ, zero, suc, ◌+◌, ◌≤◌, ◌++◌, List, [], ◌∷◌, length, map, Bool, true, false, if◌then◌else◌, true≢false, Option, refl, ap, ap₂, sym, ◌∙◌, subst, arith, append_assoc, append-nil, length-append, slice_index_or}
+use Rattle.std.specs.Prelude.{All, IsSome}
 use Rattle.std.specs.List.{flat_map, sum_by}
 use Rattle.std.proofs.lemmas.List.{map-append}
-use Rattle.std.proofs.lemmas.List.Elements.{All-push, All-map}
+use Rattle.std.proofs.lemmas.List.Elements.{All-append, All-push, All-map}
 use Rattle.std.proofs.lemmas.List.Sums.{sum_by_push}
 use mathlib.Core.List.{IsPrefix}
 use Rattle.im_accept.specs.Taken.{AreReadBack}
 use Rattle.im_digest.specs.Digests.{Hash}
 use Rattle.im_model.specs.declared.transactions.Transaction.{Transaction}
+use Rattle.im_octet.proofs.Common.{all-left, all-right}
+use Rattle.im_report.proofs.KnownLemmas.{IsKnown, known_phases}
+use Rattle.im_report.proofs.OutcomeLemmas.{flat_all, replies_all_in}
 use Rattle.im_report.proofs.SingleLemmas.{greatest_most, session_none}
-use Rattle.im_report.specs.Outcomes.{Outcome, line_in, of_session}
-use Rattle.im_report.specs.Sessions.{AreAllButLast, AreAnswered, AreOfOne, IsJustOver, floor_reached, floors_of, next_floor, next_low, replies_in}
+use Rattle.im_report.specs.Outcomes.{Outcome, line_in, numbers_in, of_session, reply_in}
+use Rattle.im_report.specs.Report.{Answered, is_placed}
+use Rattle.im_session.proofs.AloneLemmas.{alone_both, alone_none}
+use Rattle.im_report.specs.Sessions.{AreAllButLast, AreAnswered, AreOfOne, floor_reached, next_floor, next_low, replies_in}
 use Rattle.im_script.specs.declared.commands.Line.{Line}
 use Rattle.im_session.proofs.PhaseLemmas.{after_more, floor_push, highest_most, low_push, phase_less, phases_push}
 use Rattle.im_session.specs.Lines.{MayBecome}
-use Rattle.im_session.specs.Phases.{AreSoFar, HasGrown, IsPlayed, floor_behind, low_after, times_in}
+use Rattle.im_session.specs.Phases.{AreSoFar, HasGrown, IsPlayed, RanAlone, RunsAlone, floor_behind, low_after, times_in}
 use Rattle.im_table.proofs.FrontLemmas.{prefix_self, prefix_trans}
 use Rattle.im_table.specs.Histories.{history_of}
 use Rattle.im_table.specs.Known.{KnownPass}
@@ -49,8 +54,7 @@ played_none hash links p = record {
   most = λ i d lt. absurd (omega arith);
   reached = λ i d lt. absurd (omega arith);
   own = λ k. omega arith;
-  slack = λ e one. omega arith;
-  just = λ e one same items m many i d lt. absurd (omega arith);
+  alone = λ off one. (0, omega arith, alone_none p.view.least.durable p.view.least.linked p (omega arith) (omega arith));
 }
 
 -- no phase was played yet
@@ -65,8 +69,7 @@ so_far_none hash links p = record {
   low = omega arith;
   floor = omega arith;
   own = λ k. omega arith;
-  slack = λ e one. omega arith;
-  just = λ e one same items m many i d lt. absurd (omega arith);
+  alone = λ off one. (0, omega arith, alone_none p.view.least.durable p.view.least.linked p (omega arith) (omega arith));
 }
 
 -- behind phases that were answered whole one more may be
@@ -90,15 +93,53 @@ flat_push : (phases : List (List Outcome)) (outcomes : List Outcome) → flat_ma
 flat_push [] outcomes = append-nil outcomes
 flat_push (p ∷ phases) outcomes = ap (λ (l : List Outcome). p ++ l) (flat_push phases outcomes) ∙ sym (append_assoc p (flat_map (λ (q : List Outcome). q) phases) outcomes)
 
--- one phase more. What is said of a single session is given: by the phases so far and by this one
+-- the numbers of answered lines are those that their replies tell
+numbers_most : (hash : Hash) (h : List Transaction) (n : ℕ) (outcomes : List Outcome) → All (IsKnown hash h) outcomes → AreAnswered outcomes → All (λ a. a.number ≤ n) (replies_in outcomes) → All (λ k. k ≤ n) (flat_map numbers_in outcomes)
+numbers_most hash h n [] known some most = λ i d lt. absurd (omega arith)
+numbers_most hash h n (o ∷ outcomes) known some most =
+    All-append (λ k. k ≤ n) (numbers_in o) (flat_map numbers_in outcomes) (one (known 0 o (omega arith)) (some 0 o (omega arith)) (all-left (λ (a : Answered). a.number ≤ n) (reply_in o) (replies_in outcomes) most))
+    (numbers_most hash h n outcomes (λ i d lt. known (suc i) d (omega (arith, lt))) (λ i d lt. some (suc i) d (omega (arith, lt))) (all-right (λ (a : Answered). a.number ≤ n) (reply_in o) (replies_in outcomes) most))
+  where
+    told : (a : Answered) (b : Bool) → a.number ≤ n → All (λ k. k ≤ n) ((if b then a.number ∷ [] else []) ++ [])
+    told a true le zero d lt = le
+    told a true le (suc i) d lt = absurd (omega (arith, lt))
+    told a false le i d lt = absurd (omega (arith, lt))
+
+    one : IsKnown hash h o → IsSome o.reply → All (λ a. a.number ≤ n) (reply_in o) → All (λ k. k ≤ n) (numbers_in o)
+    one (inl (a, is, answer)) has le =
+        let mine : All (λ b. b.number ≤ n) (a ∷ []) = subst (λ (p : Outcome). All (λ b. b.number ≤ n) (reply_in p)) is le in
+        subst (λ (p : Outcome). All (λ k. k ≤ n) (numbers_in p)) (sym is) (told a (is_placed a) (mine 0 a (omega arith)))
+    one (inr (line, late, is, tx)) has le = absurd (true≢false (sym (subst (λ (p : Outcome). IsSome p.reply) is has)))
+
+-- of the phases so far
+numbers_known : (hash : Hash) (links : Bool) (first now : KnownPass) (script : List (List Line)) (phases : List (List Outcome)) → AreSoFar hash links first now script phases → All AreAnswered phases
+    → (items : List LogItem) → MayBecome now items → All (λ n. n ≤ now.view.least.durable) (flat_map numbers_in (flat_map (λ outcomes. outcomes) phases))
+numbers_known hash links first now script phases a whole items m =
+    let known = known_phases hash first.view.least.durable first.view.least.linked (history_of items) phases (a.each items m) in
+    let all : List Outcome = flat_map (λ outcomes. outcomes) phases in
+    let most : All (λ r. r.number ≤ now.view.least.durable) (replies_in all) =
+    subst (All (λ (r : Answered). r.number ≤ now.view.least.durable)) (replies_all_in phases) (flat_all (λ (r : Answered). r.number ≤ now.view.least.durable) replies_in phases a.most) in
+    numbers_most hash (history_of items) now.view.least.durable all (flat_all (IsKnown hash (history_of items)) (λ (os : List Outcome). os) phases known)
+    (flat_all (λ (o : Outcome). IsSome o.reply) (λ (os : List Outcome). os) phases whole) most
+
+-- where all phases are of one session, and no linker runs, that session alone placed and linked
+alone_push : (hash : Hash) (links : Bool) (first mid new : KnownPass) (script : List (List Line)) (phases : List (List Outcome)) (lines : List Line) (outcomes : List Outcome)
+    → AreSoFar hash links first mid script phases → IsPlayed hash links mid new lines outcomes → All AreAnswered phases → links ≡ false → AreOfOne (phases ++ outcomes ∷ [])
+    → RanAlone first new (flat_map (λ (p : List Outcome). p) (phases ++ outcomes ∷ []))
+alone_push hash links first mid new script phases lines outcomes a p whole off one =
+    let before : RanAlone first mid (flat_map (λ (q : List Outcome). q) phases) = a.alone off (one.0, all-left (All (λ (o : Outcome). o.line.session ≡ one.0)) phases (outcomes ∷ []) one.1) in
+    let behind : RanAlone mid new outcomes = p.alone off (one.0, all-right (All (λ (o : Outcome). o.line.session ≡ one.0)) phases (outcomes ∷ []) one.1) in
+    let some : AreAnswered (flat_map (λ (q : List Outcome). q) phases) = flat_all (λ (o : Outcome). IsSome o.reply) (λ (q : List Outcome). q) phases whole in (
+      before.0 + behind.0,
+      omega (arith, before.1, behind.1),
+      subst (RunsAlone first.view.least.durable first.view.least.linked (before.0 + behind.0) new) (sym (flat_push phases outcomes))
+          (alone_both first.view.least.durable first.view.least.linked before.0 behind.0 mid new (flat_map (λ (q : List Outcome). q) phases) outcomes p.grown some (numbers_known hash links first mid script phases a whole) before.2 behind.2),
+    )
+
+-- one phase more
 pub so_far_push : (hash : Hash) (links : Bool) (first mid new : KnownPass) (script : List (List Line)) (phases : List (List Outcome)) (lines : List Line) (outcomes : List Outcome)
-    → AreSoFar hash links first mid script phases → IsPlayed hash links mid new lines outcomes → All AreAnswered phases
-    → (links ≡ false → AreOfOne (phases ++ outcomes ∷ []) → first.view.least.linked + new.view.leaves ≤ new.view.least.linked + first.view.leaves)
-    → (links ≡ false → AreOfOne (phases ++ outcomes ∷ []) → new.view.least.linked + first.view.leaves ≡ first.view.least.linked + new.view.leaves
-    → (items : List LogItem) → MayBecome new items → length items ≡ first.view.least.durable + (length new.view.own - length first.view.own)
-    → All (IsJustOver (history_of items)) (floors_of first.view.least.linked (flat_map (λ (p : List Outcome). p) (phases ++ outcomes ∷ []))))
-    → AreSoFar hash links first new (script ++ lines ∷ []) (phases ++ outcomes ∷ [])
-so_far_push hash links first mid new script phases lines outcomes a p whole slack just =
+    → AreSoFar hash links first mid script phases → IsPlayed hash links mid new lines outcomes → All AreAnswered phases → AreSoFar hash links first new (script ++ lines ∷ []) (phases ++ outcomes ∷ [])
+so_far_push hash links first mid new script phases lines outcomes a p whole =
     let l = first.view.least.durable in
     let f = first.view.least.linked in
     let low = low_after l phases in
@@ -114,6 +155,5 @@ so_far_push hash links first mid new script phases lines outcomes a p whole slac
       low = omega (arith, low_push l phases outcomes, next_known new.view.least.durable low outcomes (omega (arith, a.low, p.grown.durable)) p.most);
       floor = omega (arith, floor_push f phases outcomes, floor_known new.view.least.linked floor outcomes (omega (arith, a.floor, p.grown.linked)) (lower_reached new.view.least.linked floor mid.view.least.linked outcomes a.floor p.reached));
       own = λ k. omega (arith, p.own k, a.own k, sum_by_push (times_in k) phases outcomes);
-      slack = slack;
-      just = just;
+      alone = λ off one. alone_push hash links first mid new script phases lines outcomes a p whole off one;
     }

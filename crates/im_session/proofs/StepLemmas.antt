@@ -44,6 +44,7 @@ stuck_none old new line leaves l g slack = record {
   own = g.own;
   tx = tt;
   under = tt;
+  still = tt;
   slack = slack;
 }
 
@@ -204,6 +205,7 @@ late_stuck time asked old new n session drafts why free are same p l own leaves 
   own = own;
   tx = λ items m. late_of time asked old new n drafts free are same p items m;
   under = λ items m. (placed_stands time asked old new n p items m).under;
+  still = leaves;
   slack = omega (arith, l.linked, leaves);
 }
   where
@@ -222,6 +224,7 @@ unplaced_stuck asked old new session drafts why free are l own leaves fault = re
   own = own;
   tx = tt;
   under = tt;
+  still = tt;
   slack = omega (arith, l.linked, leaves);
 }
   where

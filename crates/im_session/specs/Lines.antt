@@ -60,7 +60,7 @@ abbrev pub KnowsFault : LineError → KnownPass → KnownPass → Type 0
 KnowsFault DiskFault old new = 1 ≤ new.view.least.failed
 KnowsFault Memory old new = new.view.faults ≡ old.view.faults
 
--- A line has no reply. At most one transaction was placed for it all the same.
+-- A line has no reply. At most one transaction was placed for it all the same, and then it linked nothing.
 pub record IsStuck (old new : KnownPass) (line : Line) (why : LineError) : Type 0 where
   pub because : IsWhy why line.command
   pub fault : KnowsFault why old new
@@ -68,6 +68,7 @@ pub record IsStuck (old new : KnownPass) (line : Line) (why : LineError) : Type 
   pub own : new.view.own ≡ old.view.own ++ number_or_none late
   pub tx : IfSome late (λ n. (items : List LogItem) → MayBecome new items → IsLate (history_of items) old.view.least.durable old.view.least.linked line.command n)
   pub under : IfSome late (λ n. (items : List LogItem) → MayBecome new items → (transaction_of (history_of items) n).bl ≤ new.view.least.linked)
+  pub still : IfSome late (λ n. new.view.leaves ≡ old.view.leaves)
   pub slack : old.view.least.linked + new.view.leaves ≤ new.view.least.linked + old.view.leaves
 
 -- a command that places and links nothing

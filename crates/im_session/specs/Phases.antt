@@ -5,6 +5,7 @@ use mathlib.Core.List.{IsPrefix}
 use Rattle.im_digest.specs.Digests.{Hash}
 use Rattle.im_accept.specs.Taken.{AreReadBack}
 use Rattle.im_report.specs.Outcomes.{Outcome, line_in, numbers_in}
+use Rattle.im_report.specs.Report.{floor_after}
 use Rattle.im_report.specs.Sessions.{AreAllButLast, AreAnswered, AreOfOne, ArePhases, IsJustOver, IsPhase, first_replies, floor_reached, floors_of, lines_in, next_floor, next_low, replies_in}
 use Rattle.im_script.specs.declared.commands.Line.{Line}
 use Rattle.im_session.specs.Lines.{IsWhy, MayBecome}
@@ -46,6 +47,26 @@ times_in k outcomes = sum_by (λ o. times k (numbers_in o)) outcomes
 abbrev pub start_at : KnownPass → Start
 start_at p = record { low = p.view.least.durable; floor = p.view.least.linked }
 
+-- how many transactions were placed for lines
+abbrev pub count_in : List Outcome → ℕ
+count_in outcomes = length (flat_map numbers_in outcomes)
+
+-- What more is known of a pass where its lines alone placed and linked anything, from these numbers on: so many transactions were durable, and so many leaves
+-- linked, to which it added so many. It knows of each leaf, and each transaction that it was told; and where it knows of no other leaf, and of no transaction that
+-- isn't its own, the floor is exact, and each was placed over just the floor.
+pub record RunsAlone (low floor leaves : ℕ) (new : KnownPass) (outcomes : List Outcome) : Type 0 where
+  pub slack : floor + leaves ≤ new.view.least.linked
+  pub risen : AreAnswered outcomes → low + count_in outcomes ≤ new.view.least.durable
+  pub placed : (items : List LogItem) → MayBecome new items → (most : ℕ) → new.view.least.durable ≤ most → All (λ n. n ≤ most) (flat_map numbers_in outcomes) → low + count_in outcomes ≤ most
+  pub exact : AreAnswered outcomes → new.view.least.linked ≡ floor + leaves → new.view.least.durable ≤ low + count_in outcomes → floor_after floor (replies_in outcomes) ≡ new.view.least.linked
+  pub just : new.view.least.linked ≡ floor + leaves → new.view.least.durable ≤ low + count_in outcomes → (items : List LogItem) → MayBecome new items
+      → All (λ n. n ≤ low + count_in outcomes) (flat_map numbers_in outcomes) → All (IsJustOver (history_of items)) (floors_of floor outcomes)
+
+-- so it is between two moments of a pass
+abbrev pub RanAlone : KnownPass → KnownPass → List Outcome → Type 0
+RanAlone old new outcomes =
+    (leaves : ℕ) × (new.view.leaves ≡ old.view.leaves + leaves) × RunsAlone old.view.least.durable old.view.least.linked leaves new outcomes
+
 -- One phase, of these lines. What is said of a list is said of each that the one list may have grown to.
 pub record IsPlayed (hash : Hash) (links : Bool) (old new : KnownPass) (lines : List Line) (outcomes : List Outcome) : Type 0 where
   pub grown : HasGrown old new
@@ -55,10 +76,7 @@ pub record IsPlayed (hash : Hash) (links : Bool) (old new : KnownPass) (lines : 
   pub most : All (λ a. a.number ≤ new.view.least.durable) (replies_in outcomes)
   pub reached : All (λ o. floor_reached old.view.least.linked outcomes o ≤ new.view.least.linked) outcomes
   pub own : (k : ℕ) → times k new.view.own ≡ times k old.view.own + times_in k outcomes
-  pub slack : links ≡ false → AreOfOne (outcomes ∷ []) → old.view.least.linked + new.view.leaves ≤ new.view.least.linked + old.view.leaves
-  pub just : links ≡ false → AreOfOne (outcomes ∷ []) → new.view.least.linked + old.view.leaves ≡ old.view.least.linked + new.view.leaves
-      → (items : List LogItem) → MayBecome new items → length items ≡ old.view.least.durable + (length new.view.own - length old.view.own)
-      → All (IsJustOver (history_of items)) (floors_of old.view.least.linked outcomes)
+  pub alone : links ≡ false → AreOfOne (outcomes ∷ []) → RanAlone old new outcomes
 
 -- where phases have come to: behind how many transactions, and over a tree of which size
 abbrev pub low_after : ℕ → List (List Outcome) → ℕ
@@ -80,7 +98,4 @@ pub record AreSoFar (hash : Hash) (links : Bool) (first now : KnownPass) (script
   pub low : low_after first.view.least.durable phases ≤ now.view.least.durable
   pub floor : floor_behind first.view.least.linked phases ≤ now.view.least.linked
   pub own : (k : ℕ) → times k now.view.own ≡ times k first.view.own + sum_by (times_in k) phases
-  pub slack : links ≡ false → AreOfOne phases → first.view.least.linked + now.view.leaves ≤ now.view.least.linked + first.view.leaves
-  pub just : links ≡ false → AreOfOne phases → now.view.least.linked + first.view.leaves ≡ first.view.least.linked + now.view.leaves
-      → (items : List LogItem) → MayBecome now items → length items ≡ first.view.least.durable + (length now.view.own - length first.view.own)
-      → All (IsJustOver (history_of items)) (floors_of first.view.least.linked (flat_map (λ outcomes. outcomes) phases))
+  pub alone : links ≡ false → AreOfOne phases → RanAlone first now (flat_map (λ outcomes. outcomes) phases)

@@ -31,7 +31,8 @@ pub record IsAlone (start : Start) (p : KnownPass) : Type 0 where
   pub durable : p.view.least.durable ≡ start.low + length p.view.own
 
 -- Answered so far: of each list that the one list may have grown to, the replies are those of a session. Its own numbers are those that they told. Leaves and
--- own transactions are among what it knows; and where there are no others the floor is exact.
+-- own transactions are among what it knows; where there are no others the floor is exact; and before
+-- the first reply it linked nothing.
 pub record IsRun (hash : Hash) (start : Start) (p : KnownPass) (answers : List Answered) : Type 0 where
   pub session : (items : List LogItem) → MayBecome p items → AreAnswers hash start.low start.floor (history_of items) answers
   pub again : (items : List LogItem) → MayBecome p items → AreReadBack hash (history_of items) answers
@@ -44,6 +45,7 @@ pub record IsRun (hash : Hash) (start : Start) (p : KnownPass) (answers : List A
   pub placed : start.low + length p.view.own ≤ p.view.least.durable
   pub exact : IsAlone start p → floor_after start.floor answers ≡ p.view.least.linked
   pub just : IsAlone start p → (items : List LogItem) → MayBecome p items → All (IsJustOver (history_of items)) (floors_told start.floor answers)
+  pub unlinked : answers ≡ [] → p.view.leaves ≡ 0
 
 -- cut off at a line: what was answered before it, at an earlier moment of the pass, and why it has no reply
 pub record IsCutAt (hash : Hash) (start : Start) (p : KnownPass) (answers : List Answered) (line : Line) (why : LineError) : Type 0 where
