@@ -1,5 +1,5 @@
 -- The replies of sessions are taken by clients, and what is written of them is cut at each LF into its lines.
-use Rattle.std.proofs.Common.{◌≡◌, ℕ, zero, suc, List, [], ◌∷◌, ◌++◌, length, map, sym, subst, arith, All, get_or, Bool, Option, Some, None}
+use Rattle.std.proofs.Common.{ℕ, zero, suc, List, [], ◌∷◌, ◌++◌, length, map, sym, subst, arith, All, get_or, Bool, Option, Some, None}
 use Rattle.im_digest.specs.Digests.{Hash}
 use Rattle.im_model.specs.declared.transactions.Transaction.{Transaction}
 use Rattle.im_text.specs.Cuts.{Lacks}

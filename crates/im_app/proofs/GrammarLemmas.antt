@@ -1,5 +1,5 @@
 -- The script that `gen` runs is in the grammar, and says its lines.
-use Rattle.std.proofs.Common.{◌≡◌, ◌⊎◌, ◌∙◌, ◌+◌, ◌-◌, ◌*◌, ◌/◌, ◌%◌, ◌^◌, ◌<◌, ◌≤◌, ◌==◌, ◌&&◌, ◌||◌, cond, nat_le, ℕ, zero, suc, Bool, true, false, List, [], ◌∷◌, ◌++◌, length, map, None, codes, refl, sym, ap, subst, inl, inr, arith, append_assoc}
+use Rattle.std.proofs.Common.{◌≡◌, ◌⊎◌, ◌∙◌, ◌+◌, ◌-◌, ◌*◌, ◌/◌, ◌%◌, ◌^◌, ◌<◌, ◌≤◌, ◌==◌, ◌||◌, cond, nat_le, ℕ, zero, suc, Bool, true, false, List, [], ◌∷◌, ◌++◌, length, map, None, codes, refl, sym, ap, subst, inl, inr, arith, append_assoc}
 use Rattle.std.proofs.lemmas.Bool.{and_from, and_parts, false≢true, le-leb, leb-true}
 use Rattle.std.proofs.lemmas.Fmt.{decimal_by_steps}
 use Rattle.std.proofs.lemmas.Grind.{fold-append}
@@ -18,7 +18,6 @@ use Rattle.im_gen.specs.Generator.{advance_text, asked_text, behind_text, genera
 use Rattle.im_script.specs.Script.{deletion, AreNumbers, IsCommand, IsScript, IsScriptLine, MayFollow, Say, with_name}
 use Rattle.im_script.specs.declared.commands.Command.{Command}
 use Rattle.im_script.specs.declared.commands.Command.TheVariants.{Set, State, Advance, Item, Link}
-use Rattle.im_script.specs.declared.commands.Line.{Line}
 use Rattle.im_app.specs.GeneratedLines.{asked_commands, behind_commands, generated_entry, generated_key, generated_line, own_command, script_commands, script_lines}
 
 -- the octets are texts, each ended by LF, that say these commands in the script's session

@@ -1,5 +1,5 @@
 -- What is answered at a number is read off so many transactions; and which answers say that something was placed.
-use Rattle.std.proofs.Common.{◌≡◌, ◌≤◌, ◌-◌, ℕ, List, [], ◌∷◌, length, take, get_or, true, false, inl, inr, refl, sym, ◌∙◌, ap, subst, arith, true≢false, map, Option, Some, None}
+use Rattle.std.proofs.Common.{◌≡◌, ◌≤◌, ◌-◌, ℕ, List, [], take, get_or, true, false, inl, inr, refl, sym, ◌∙◌, ap, subst, arith, true≢false, map, Some, None}
 use Rattle.std.proofs.lemmas.List.{get_or-take}
 use Rattle.std.specs.Str.{bytes_eq}
 use Rattle.im_digest.specs.Digests.{Hash}

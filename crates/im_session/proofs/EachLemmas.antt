@@ -1,14 +1,12 @@
 -- What became of the lines of sessions, by their names.
-use Rattle.std.proofs.Common.{◌≡◌, ◌≢◌, ◌⊎◌, inl, inr, ◌||◌, true≢false, ℕ, zero, suc, ◌+◌, ◌-◌, ◌<◌, ◌≤◌, ◌==◌, ◌++◌, List, [], ◌∷◌, length, map, filter, drop, Bool, true, false, cond, if◌then◌else◌, Option, Some, None, slice_get, slice_index_or, refl, ap, ap₂, sym, ◌∙◌, subst, arith}
+use Rattle.std.proofs.Common.{◌≡◌, ◌≢◌, ◌||◌, true≢false, ℕ, zero, suc, ◌-◌, List, [], ◌∷◌, length, map, drop, Bool, true, false, if◌then◌else◌, Option, Some, None, slice_get, slice_index_or, refl, ap, ap₂, sym, ◌∙◌, subst, arith}
 use Rattle.std.specs.Prelude.{All, AllPairs, IsSome}
-use Rattle.std.specs.List.{flat_map}
 use Rattle.std.specs.Str.{bytes_eq}
 use Rattle.std.proofs.lemmas.Slice.Eq.{bytes_eq-Decides}
-use Rattle.std.proofs.lemmas.List.Elements.{All-append}
 use Rattle.im_octet.proofs.Common.{bytes-other}
-use Rattle.im_report.specs.Outcomes.{Outcome, line_in, reply_in}
+use Rattle.im_report.specs.Outcomes.{Outcome, line_in}
 use Rattle.im_report.specs.Report.{Answered, answer_line}
-use Rattle.im_report.specs.Sessions.{before_others, first_replies, replies_in}
+use Rattle.im_report.specs.Sessions.{before_others, first_replies}
 use Rattle.im_script.specs.Script.{has_name}
 use Rattle.im_script.specs.declared.commands.Line.{Line}
 use Rattle.im_session.proofs.TogetherLemmas.{Each, Matches, first_line, first_of, matches_rest, own_first, rest_of, together, without}

@@ -1,11 +1,9 @@
 -- What a session came to, as outcomes of its lines.
-use Rattle.std.proofs.Common.{◌≡◌, ◌⊎◌, inl, inr, ℕ, zero, suc, ◌+◌, ◌≤◌, ◌++◌, List, [], ◌∷◌, length, map, Option, Some, None, refl, ap, ap₂, sym, ◌∙◌, subst, arith, append-nil, append_assoc, length-append}
+use Rattle.std.proofs.Common.{◌≡◌, inl, inr, ℕ, ◌+◌, ◌≤◌, ◌++◌, List, [], ◌∷◌, map, Option, Some, None, refl, ap, ap₂, sym, ◌∙◌, arith, append-nil}
 use Rattle.std.specs.Prelude.{All, IfSome}
-use Rattle.std.specs.List.{sum_by}
 use Rattle.std.proofs.lemmas.List.{map-append}
 use Rattle.std.proofs.lemmas.List.Sums.{sum_by-cons}
 use Rattle.im_digest.specs.Digests.{Hash}
-use Rattle.im_model.specs.declared.transactions.Transaction.{Transaction}
 use Rattle.im_report.proofs.OutcomeLemmas.{lines_answered}
 use Rattle.im_report.specs.Outcomes.{IsLate, IsSession, Outcome, answered, halted, highest, line_in, not_run, number_or_none, number_told, numbers_in}
 use Rattle.im_report.specs.Report.{Answered, floor_after}

@@ -1,9 +1,8 @@
 -- What one session leaves of a phase, as outcomes of its lines; and what all of them do.
-use Rattle.std.proofs.Common.{◌≡◌, ◌⊎◌, inl, inr, ℕ, zero, suc, ◌+◌, ◌<◌, ◌≤◌, ◌++◌, List, [], ◌∷◌, length, map, Option, Some, None, refl, ap, ap₂, sym, ◌∙◌, subst, arith, append-nil, slice_index_or}
-use Rattle.std.specs.Prelude.{All, IfSome, take}
+use Rattle.std.proofs.Common.{◌≡◌, ℕ, zero, suc, ◌+◌, ◌≤◌, ◌++◌, List, [], ◌∷◌, length, map, Option, Some, None, refl, ap, ap₂, sym, ◌∙◌, subst, arith, append-nil}
+use Rattle.std.specs.Prelude.{All, take}
 use Rattle.std.specs.List.{sum_by}
 use Rattle.std.proofs.lemmas.List.Sums.{sum_by-cons}
-use mathlib.Core.List.{IsPrefix}
 use Rattle.im_accept.specs.Messages.{IsReadBack}
 use Rattle.im_digest.specs.Digests.{Hash}
 use Rattle.im_report.proofs.OutcomeLemmas.{first_answered, replies_answered, replies_unrun}
@@ -26,7 +25,6 @@ use Rattle.im_table.specs.Known.{KnownPass, TableId}
 use Rattle.im_table.specs.Passes.{IsPassOf}
 use Rattle.im_table.specs.Views.{times}
 use Rattle.im_table.specs.declared.items.LogItem.{LogItem}
-use Rattle.im_table.specs.declared.view.Least.{Least}
 
 -- the replies of a session's outcomes, and those before the first line without one, are its answers
 pub first_of_outcomes : (answers : List Answered) (stop : Option (Line × (Option ℕ × List Line))) → first_replies (outcomes_of answers stop) ≡ answers

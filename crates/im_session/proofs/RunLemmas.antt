@@ -1,12 +1,10 @@
 -- What a session has answered, and one line more.
-use Rattle.std.proofs.Common.{◌≡◌, ◌⊎◌, inl, inr, ℕ, ◌+◌, ◌<◌, ◌≤◌, ◌++◌, List, [], ◌∷◌, length, take, map, Bool, true, false, Option, Some, None, if◌then◌else◌, refl, ap, sym, ◌∙◌, subst, arith, append-nil, append_assoc, length-append}
-use Rattle.std.specs.Prelude.{All, AllPairs, IsTrue}
-use Rattle.std.proofs.lemmas.List.{map-append}
+use Rattle.std.proofs.Common.{◌≡◌, ℕ, ◌+◌, ◌≤◌, ◌++◌, List, [], ◌∷◌, length, take, Bool, true, false, Some, if◌then◌else◌, refl, ap, sym, ◌∙◌, subst, arith, append-nil, append_assoc, length-append}
+use Rattle.std.specs.Prelude.{All}
 use Rattle.std.proofs.lemmas.List.Elements.{All-push}
 use Rattle.std.proofs.lemmas.List.Quantifiers.{all_pairs_push}
 use Rattle.im_accept.specs.Messages.{IsReadBack}
 use Rattle.im_digest.specs.Digests.{Hash}
-use Rattle.im_model.specs.declared.transactions.Transaction.{Transaction}
 use Rattle.im_report.proofs.SingleLemmas.{floor_both}
 use Rattle.im_report.specs.Outcomes.{AreAnswers, IsOver, Rises, floors_told, number_told}
 use Rattle.im_report.specs.Report.{Answered, IsAnswer, floor_after, floor_by, is_placed}
@@ -19,7 +17,6 @@ use Rattle.im_session.specs.Runs.{IsAlone, IsRun, Start, numbers_told}
 use Rattle.im_table.specs.Histories.{history_of}
 use Rattle.im_table.specs.Known.{KnownPass}
 use Rattle.im_table.specs.Passes.{Later}
-use Rattle.im_table.specs.declared.items.LogItem.{LogItem}
 
 pub numbers_push : (xs : List Answered) (a : Answered) → numbers_told (xs ++ a ∷ []) ≡ numbers_told xs ++ number_told (Some a)
 numbers_push [] a = append-nil (number_told (Some a))

@@ -1,11 +1,10 @@
 -- The phases played so far, and one more.
-use Rattle.std.proofs.Common.{◌≡◌, ◌⊎◌, inl, inr, ℕ, zero, suc, ◌+◌, ◌≤◌, ◌++◌, List, [], ◌∷◌, length, map, Bool, true, false, if◌then◌else◌, true≢false, Option, refl, ap, ap₂, sym, ◌∙◌, subst, arith, append_assoc, append-nil, length-append, slice_index_or}
+use Rattle.std.proofs.Common.{◌≡◌, inl, inr, ℕ, zero, suc, ◌+◌, ◌≤◌, ◌++◌, List, [], ◌∷◌, map, Bool, true, false, if◌then◌else◌, true≢false, refl, ap, ap₂, sym, ◌∙◌, subst, arith, append_assoc, append-nil, slice_index_or}
 use Rattle.std.specs.Prelude.{All, IsSome}
-use Rattle.std.specs.List.{flat_map, sum_by}
+use Rattle.std.specs.List.{flat_map}
 use Rattle.std.proofs.lemmas.List.{map-append}
 use Rattle.std.proofs.lemmas.List.Elements.{All-append, All-push, All-map}
 use Rattle.std.proofs.lemmas.List.Sums.{sum_by_push}
-use mathlib.Core.List.{IsPrefix}
 use Rattle.im_accept.specs.Taken.{AreReadBack}
 use Rattle.im_digest.specs.Digests.{Hash}
 use Rattle.im_model.specs.declared.transactions.Transaction.{Transaction}

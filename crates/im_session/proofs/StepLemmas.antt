@@ -1,9 +1,8 @@
 -- What one line makes of its session's pass, by the calls that it makes.
-use Rattle.std.proofs.Common.{◌≡◌, ◌⊎◌, inl, inr, ℕ, ◌+◌, ◌-◌, ◌<◌, ◌≤◌, ◌++◌, List, [], ◌∷◌, length, take, min, Bool, true, false, Option, Some, None, ℤ, map, if◌then◌else◌, true≢false, refl, ap, sym, ◌∙◌, subst, arith, append-nil}
+use Rattle.std.proofs.Common.{◌≡◌, inl, inr, ℕ, ◌+◌, ◌-◌, ◌≤◌, ◌++◌, List, [], ◌∷◌, length, take, min, Bool, true, false, Option, Some, None, ℤ, map, if◌then◌else◌, true≢false, refl, ap, sym, ◌∙◌, subst, arith, append-nil}
 use Rattle.im_digest.specs.Digests.{Hash}
 use Rattle.im_draft.specs.Drafts.{entry_of, AreEntries, AreFree}
 use Rattle.im_draft.specs.declared.drafts.Draft.{Draft}
-use Rattle.im_draft.specs.declared.preconditions.Pre.{Pre}
 use Rattle.im_model.specs.History.{transaction_of}
 use Rattle.im_model.specs.declared.transactions.Transaction.{Transaction}
 use Rattle.im_accept.specs.Messages.{IsReadBack}
