@@ -230,8 +230,8 @@ order_stop names whys (line ∷ lines) (number ∷ order) each apart numbered h 
 
     on : (a : Answered) → (first_of line (each line.session)).reply ≡ Some a → (s : Option ℕ) → EndsAt names whys (together lines (without line.session each)) s → EndsAt names whys (together (line ∷ lines) each) s
     on a e None all = answered_on a e all
-    on a e (Some k) (name, at, w, is, l, rest, next', because) =
-        (name, at, w, is, l, rest, ap (λ (r : Option Answered). drop (length (before_others r (first_replies (together lines (without line.session each))))) ((first_of line (each line.session)).line ∷ map line_in (together lines (without line.session each)))) e ∙ next', because)
+    on a e (Some k) (name, there, w, is, (l, rest, after, because)) =
+        (name, there, w, is, (l, rest, ap (λ (r : Option Answered). drop (length (before_others r (first_replies (together lines (without line.session each))))) ((first_of line (each line.session)).line ∷ map line_in (together lines (without line.session each)))) e ∙ after, because))
 
     go : (r : Option Answered) → (first_of line (each line.session)).reply ≡ r
         → (((name : List ℕ) → StopFits (whys name) (without line.session each name)) → EndsAt names whys (together lines (without line.session each)) (stop_in_order order (map (λ n. texts_of (without line.session each n)) names)))
@@ -244,10 +244,12 @@ order_stop names whys (line ∷ lines) (number ∷ order) each apart numbered h 
           numbered.0,
           f.0,
           f.1,
-          (first_of line (each line.session)).line,
-          map line_in (together lines (without line.session each)),
-          ap (λ (r : Option Answered). drop (length (before_others r (first_replies (together lines (without line.session each))))) ((first_of line (each line.session)).line ∷ map line_in (together lines (without line.session each)))) e,
-          f.2,
+          (
+            (first_of line (each line.session)).line,
+            map line_in (together lines (without line.session each)),
+            ap (λ (r : Option Answered). drop (length (before_others r (first_replies (together lines (without line.session each))))) ((first_of line (each line.session)).line ∷ map line_in (together lines (without line.session each)))) e,
+            f.2,
+          ),
         ) in
         subst (EndsAt names whys (together (line ∷ lines) each)) (sym (ap (λ (t : Option (List ℕ)). stop_or t number (stop_in_order order (without_first number (map (λ n. texts_of (each n)) names)))) none)) here
     go (Some a) e later =

@@ -152,8 +152,8 @@ together_sum f names (line ∷ lines) each h named apart none =
     omega (arith, rest, whole, sum_by-cons f o (together lines (without line.session each)))
   where
     none_behind : (l : Line) (es : Each) → ((name : List ℕ) → has_name names name ≡ false → es name ≡ []) → (name : List ℕ) → has_name names name ≡ false → without l.session es name ≡ []
-    none_behind l es no name e = go (bytes_eq l.session name) refl
+    none_behind l es missing name e = go (bytes_eq l.session name) refl
       where
         go : (b : Bool) → bytes_eq l.session name ≡ b → without l.session es name ≡ []
-        go true q = ap (λ (b : Bool). if b then rest_of (es name) else es name) q ∙ ap rest_of (no name e)
-        go false q = ap (λ (b : Bool). if b then rest_of (es name) else es name) q ∙ no name e
+        go true q = ap (λ (b : Bool). if b then rest_of (es name) else es name) q ∙ ap rest_of (missing name e)
+        go false q = ap (λ (b : Bool). if b then rest_of (es name) else es name) q ∙ missing name e

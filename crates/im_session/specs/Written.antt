@@ -1,5 +1,5 @@
 -- Which texts of sessions stand before the first line without one, in the script's order.
-use Rattle.std.specs.Prelude.{◌≡◌, ◌==◌, ◌-◌, ℕ, List, [], ◌∷◌, length, drop, map, cond, Option, Some, None, slice_get, slice_index_or}
+use Rattle.std.specs.Prelude.{ℕ, zero, suc, List, [], ◌∷◌, drop, map, Option, Some, None, slice_get, slice_index_or}
 use Rattle.im_session.specs.declared.errors.LineError.{LineError}
 use Rattle.im_session.specs.declared.sessions.Ended.{Ended}
 
@@ -10,7 +10,8 @@ texts_left ended = map (λ e. e.texts) ended
 -- without the first text of one session
 abbrev pub without_first : ℕ → List (List (List ℕ)) → List (List (List ℕ))
 without_first number [] = []
-without_first number (texts ∷ more) = cond (number == 0) (drop 1 texts ∷ more) (texts ∷ without_first (number - 1) more)
+without_first zero (texts ∷ more) = drop 1 texts ∷ more
+without_first (suc number) (texts ∷ more) = texts ∷ without_first number more
 
 -- a text before others, or none of them
 abbrev pub text_before : Option (List ℕ) → List (List ℕ) → List (List ℕ)
