@@ -127,9 +127,11 @@ cut_late hash start p answers line why others n cut late under still =
           let above = (late items m).above in
           let within : n ≤ start.low + count_in out = last (start.low + count_in out) all in
           let alone = alone_cut hash start p answers line why cut linked (omega (arith, above, within, many)) in
-          let over = (late items m).over in
-          let below = under items m in
-          let here : (transaction_of (history_of items) n).bl ≡ floor = omega (arith, cut.run.exact alone, alone.linked, linked, still, over, below) in
+          let over : b.view.least.linked ≤ (transaction_of (history_of items) n).bl = (late items m).over in
+          let below : (transaction_of (history_of items) n).bl ≤ p.view.least.linked = under items m in
+          let reached : floor ≡ b.view.least.linked = cut.run.exact alone in
+          let same : b.view.least.linked ≡ start.floor + b.view.leaves = alone.linked in
+          let here : (transaction_of (history_of items) n).bl ≡ floor = omega (arith, reached, same, linked, still, over, below) in
           subst (All (IsJustOver (history_of items)))
           (sym (floors_behind start.floor answers (halted line (Some n) ∷ map not_run others) ∙ ap (λ (l : List (ℕ × ℕ)). floors_told start.floor answers ++ (n, floor) ∷ l) (floors_unrun floor others)))
           (All-append (IsJustOver (history_of items)) (floors_told start.floor answers) ((n, floor) ∷ []) (cut.run.just alone items (may_before b p items cut.later m)) (single (history_of items) here));

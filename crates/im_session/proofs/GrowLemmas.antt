@@ -4,6 +4,7 @@ use Rattle.std.proofs.lemmas.List.{take-append-le}
 use mathlib.Core.List.{IsPrefix}
 use Rattle.im_model.specs.History.{no_transaction, transaction_of}
 use Rattle.im_model.specs.declared.transactions.Transaction.{Transaction}
+use Rattle.im_octet.proofs.Common.{some-is}
 use Rattle.im_session.specs.Lines.{MayBecome}
 use Rattle.im_table.proofs.FrontLemmas.{prefix_trans}
 use Rattle.im_table.proofs.HistoryLemmas.{history_front, history_length}
@@ -39,12 +40,12 @@ map_take items zero = refl
 map_take [] (suc n) = refl
 map_take (x ∷ items) (suc n) = ap (λ (l : List Transaction). x.tx ∷ l) (map_take items n)
 
--- the transaction of an item by its number
-pub transaction_at : (items : List LogItem) (n : ℕ) (item : LogItem) → 1 ≤ n → slice_get items (n - 1) ≡ Some item → transaction_of (history_of items) n ≡ item.tx
-transaction_at items zero item some e = absurd (omega (arith, some))
-transaction_at items (suc n) item some e = get_tx items n item e
-  where
-    get_tx : (xs : List LogItem) (k : ℕ) (x : LogItem) → slice_get xs k ≡ Some x → slice_index_or (history_of xs) k no_transaction ≡ x.tx
-    get_tx [] k x h = cc
-    get_tx (y ∷ xs) zero x h = cc h
-    get_tx (y ∷ xs) (suc k) x h = get_tx xs k x h
+-- the transaction of an item by its place
+tx_at : (items : List LogItem) (k : ℕ) (item : LogItem) → slice_get items k ≡ Some item → slice_index_or (history_of items) k no_transaction ≡ item.tx
+tx_at [] k item e = cc
+tx_at (x ∷ items) zero item e = ap (λ (y : LogItem). y.tx) (some-is x item e)
+tx_at (x ∷ items) (suc k) item e = tx_at items k item e
+
+-- and by its number
+pub transaction_at : (items : List LogItem) (n : ℕ) (item : LogItem) → slice_get items (n - 1) ≡ Some item → transaction_of (history_of items) n ≡ item.tx
+transaction_at items n item e = tx_at items (n - 1) item e

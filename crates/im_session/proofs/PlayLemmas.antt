@@ -148,7 +148,7 @@ module _ (hash : Hash) (table : TableId) (links : Bool) (names : List (List ℕ)
   pub matches_of : (p : WasPlayed hash table names lines order before after ended old mid new) → Matches lines (by_name p)
   matches_of p = each_matches names p.outs.outs lines p.named (same_lines p)
 
-  pub outcomes_in : WasPlayed hash table names lines order before after ended old mid new → List Outcome
+  abbrev pub outcomes_in : WasPlayed hash table names lines order before after ended old mid new → List Outcome
   outcomes_in p = together lines (by_name p)
 
   -- what holds of each session's outcomes holds by each name

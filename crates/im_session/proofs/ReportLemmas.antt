@@ -24,20 +24,28 @@ use Rattle.im_table.specs.declared.items.LogItem.{LogItem}
 new_numbers : (k : ℕ) (rest : List LogItem) → All (λ x. x.found ≡ false) rest → numbers k rest ≡ range_with_len k (length rest)
 new_numbers k [] fresh = refl
 new_numbers k (x ∷ rest) fresh =
-    let more : numbers (suc k) rest ≡ range_with_len (k + 1) (length rest) = new_numbers (suc k) rest (λ i d lt. fresh (suc i) d (omega (arith, lt))) ∙ ap (λ (m : ℕ). range_with_len m (length rest)) (omega arith) in
+    let next : suc k ≡ k + 1 = omega arith in
+    let more : numbers (suc k) rest ≡ range_with_len (k + 1) (length rest) =
+    new_numbers (suc k) rest (λ i d lt. fresh (suc i) d (omega (arith, lt))) ∙ ap (λ (m : ℕ). range_with_len m (length rest)) next in
     subst (λ (b : Bool). cond b (numbers (suc k) rest) (k ∷ numbers (suc k) rest) ≡ k ∷ range_with_len (k + 1) (length rest)) (sym (fresh 0 x (omega arith))) (ap (λ (l : List ℕ). k ∷ l) more)
 
 numbers_behind : (k : ℕ) (xs rest : List LogItem) → All (λ x. x.found ≡ true) xs → All (λ x. x.found ≡ false) rest → numbers k (xs ++ rest) ≡ range_with_len (k + length xs) (length rest)
-numbers_behind k [] rest old fresh = new_numbers k rest fresh ∙ ap (λ (m : ℕ). range_with_len m (length rest)) (omega arith)
+numbers_behind k [] rest old fresh =
+    let start : k ≡ k + length [] = omega arith in new_numbers k rest fresh ∙ ap (λ (m : ℕ). range_with_len m (length rest)) start
 numbers_behind k (x ∷ xs) rest old fresh =
-    let more : numbers (suc k) (xs ++ rest) ≡ range_with_len (k + suc (length xs)) (length rest) = numbers_behind (suc k) xs rest (λ i d lt. old (suc i) d (omega (arith, lt))) fresh ∙ ap (λ (m : ℕ). range_with_len m (length rest)) (omega arith) in
-    subst (λ (b : Bool). cond b (numbers (suc k) (xs ++ rest)) (k ∷ numbers (suc k) (xs ++ rest)) ≡ range_with_len (k + suc (length xs)) (length rest)) (sym (old 0 x (omega arith))) more
+    let start : suc k + length xs ≡ k + length (x ∷ xs) = omega arith in
+    let more : numbers (suc k) (xs ++ rest) ≡ range_with_len (k + length (x ∷ xs)) (length rest) =
+    numbers_behind (suc k) xs rest (λ i d lt. old (suc i) d (omega (arith, lt))) fresh ∙ ap (λ (m : ℕ). range_with_len m (length rest)) start in
+    subst (λ (b : Bool). cond b (numbers (suc k) (xs ++ rest)) (k ∷ numbers (suc k) (xs ++ rest)) ≡ range_with_len (k + length (x ∷ xs)) (length rest)) (sym (old 0 x (omega arith))) more
 
 pub placed_behind : (found items : List LogItem) → GoesOn found items → All (λ x. x.found ≡ true) found → placed_by items ≡ range_with_len (length (history_of found) + 1) (length (history_of items) - length (history_of found))
 placed_behind found items g old =
     let many : length items ≡ length found + length g.rest = ap length g.begins ∙ length-append found g.rest in
-    ap placed_by g.begins ∙ numbers_behind 1 found g.rest old g.fresh
-    ∙ (ap (λ (m : ℕ). range_with_len m (length g.rest)) (omega (arith, history_length found)) ∙ ap (λ (m : ℕ). range_with_len (length (history_of found) + 1) m) (omega (arith, many, history_length found, history_length items)))
+    let start : 1 + length found ≡ length (history_of found) + 1 = omega (arith, history_length found) in
+    let count : length g.rest ≡ length (history_of items) - length (history_of found) = omega (arith, many, history_length found, history_length items) in
+    ap placed_by g.begins
+    ∙ (numbers_behind 1 found g.rest old g.fresh
+    ∙ (ap (λ (m : ℕ). range_with_len m (length g.rest)) start ∙ ap (λ (m : ℕ). range_with_len (length (history_of found) + 1) m) count))
 
 -- a number stands as often in the report's words as in the table's
 same_times : (k : ℕ) (xs : List ℕ) → times k xs ≡ told.times k xs

@@ -23,7 +23,7 @@ numbers_push [] a = append-nil (number_told (Some a))
 numbers_push (x ∷ xs) a = ap (λ (l : List ℕ). number_told (Some x) ++ l) (numbers_push xs a) ∙ sym (append_assoc (number_told (Some x)) (numbers_told xs) (number_told (Some a)))
 
 -- the pair of a line that reply `tx`, or none
-abbrev pair_of : Bool → ℕ → ℕ → List (ℕ × ℕ)
+abbrev pub pair_of : Bool → ℕ → ℕ → List (ℕ × ℕ)
 pair_of b n f = if b then (n, f) ∷ [] else []
 
 pub floors_push : (f : ℕ) (xs : List Answered) (a : Answered) → floors_told f (xs ++ a ∷ []) ≡ floors_told f xs ++ pair_of (is_placed a) a.number (floor_after f xs)

@@ -115,7 +115,7 @@ placed_stands time asked old new n p items m =
     let at = p.at in
     let some : 1 ≤ n = omega (arith, p.above) in
     let same : transaction_of (history_of items) n ≡ transaction_of (history_of new.view.seen) n = transaction_front new.view.seen items n m.begins some p.within in
-    let tx : transaction_of (history_of new.view.seen) n ≡ at.item.tx = transaction_at new.view.seen n at.item some at.item_is in
+    let tx : transaction_of (history_of new.view.seen) n ≡ at.item.tx = transaction_at new.view.seen n at.item at.item_is in
     let whole = same ∙ tx in
     let front : take (n - 1) (history_of items) ≡ take (n - 1) (history_of new.view.seen) = history_taken new items (n - 1) m (omega (arith, p.within)) in
     record {
