@@ -31,7 +31,7 @@ new_numbers k (x ∷ rest) fresh =
 
 numbers_behind : (k : ℕ) (xs rest : List LogItem) → All (λ x. x.found ≡ true) xs → All (λ x. x.found ≡ false) rest → numbers k (xs ++ rest) ≡ range_with_len (k + length xs) (length rest)
 numbers_behind k [] rest old fresh =
-    let start : k ≡ k + length [] = omega arith in new_numbers k rest fresh ∙ ap (λ (m : ℕ). range_with_len m (length rest)) start
+    let start : k ≡ k + 0 = omega arith in new_numbers k rest fresh ∙ ap (λ (m : ℕ). range_with_len m (length rest)) start
 numbers_behind k (x ∷ xs) rest old fresh =
     let start : suc k + length xs ≡ k + length (x ∷ xs) = omega arith in
     let more : numbers (suc k) (xs ++ rest) ≡ range_with_len (k + length (x ∷ xs)) (length rest) =
