@@ -10,3 +10,6 @@ pub mod PlayLemmas
 pub mod SoFarLemmas
 pub mod ReportLemmas
 pub mod AloneLemmas
+pub mod GatherLemmas
+pub mod DealLemmas
+pub mod WriteLemmas

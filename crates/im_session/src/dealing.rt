@@ -1,5 +1,5 @@
 // The lines of a phase are dealt to their sessions.
-ghost use Rattle.std.specs.Prelude.{◌≡◌, ◌≤◌, ◌<◌, ℕ, List, length, map, IfOk, IfSome, IsNone, Some, true};
+ghost use Rattle.std.specs.Prelude.{◌≡◌, ◌≢◌, ◌≤◌, ◌<◌, AllPairs, ℕ, List, length, map, IfOk, IfSome, IsNone, Some, true};
 ghost use Rattle.std.specs.List.{All};
 ghost use Rattle.im_script.specs.Script.{has_name};
 ghost use Rattle.im_session.specs.Dealing.{AreDealt, AreNamed, IsAt};
@@ -51,6 +51,7 @@ fn deal_out(
     order: &mut Vec<u8>,
 ) -> Result<(), AllocError>
     requires named { AreNamed names.now lines.items }
+    requires apart { AllPairs (λ a b. a ≢ b) names.now }
     requires few { length names.now ≤ 8 }
     requires hands { (length hands.old ≡ length names.now) × All (λ hand. hand.items ≡ []) hands.old }
     requires none { order.old.items ≡ [] }
@@ -68,6 +69,7 @@ fn deal_out(
 /// the lines, and compares the name of each with the names.
 pub(crate) fn deal(alloc: Global, names: &[Octets], phase: Phase) -> Result<Dealt, AllocError>
     requires named { AreNamed names.now phase }
+    requires apart { AllPairs (λ a b. a ≢ b) names.now }
     requires few { length names.now ≤ 8 }
     ensures { IfOk result (λ dealt. AreDealt names.now phase dealt.order.items dealt.lines.items) }
 {

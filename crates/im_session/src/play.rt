@@ -48,6 +48,7 @@ struct Room {
 // Deals the lines, and takes room for the sessions and for what they leave.
 fn room_for(alloc: Global, names: &[Octets], phase: Phase) -> Result<Room, AllocError>
     requires named { AreNamed names.now phase }
+    requires apart { AllPairs (λ a b. a ≢ b) names.now }
     requires few { length names.now ≤ 8 }
     ensures dealt { IfOk result (λ room. AreDealt names.now phase room.order.items room.lines.items) }
     ensures none { IfOk result (λ room. (room.sessions.items ≡ []) × (room.ended.items ≡ [])) }
