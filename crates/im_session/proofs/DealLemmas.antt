@@ -1,5 +1,6 @@
 -- The lines of a phase, dealt one after the other.
-use Rattle.std.proofs.Common.{◌≡◌, ◌≢◌, ℕ, zero, suc, ◌<◌, ◌++◌, List, [], ◌∷◌, length, map, Bool, true, false, if◌then◌else◌, Some, slice_get, refl, ap, ap₂, sym, ◌∙◌, arith, append-nil, get_or, set}
+use Rattle.std.proofs.Common.{◌≡◌, ◌≢◌, ℕ, zero, suc, ◌<◌, ◌++◌, List, [], ◌∷◌, length, map, Bool, true, false, if◌then◌else◌, Some, slice_get, refl, ap, ap₂, sym, ◌∙◌, arith, append-nil, get_or}
+use Rattle.std.proofs.Math.ListN.{set}
 use Rattle.std.specs.Prelude.{All, AllPairs}
 use Rattle.std.specs.Str.{bytes_eq}
 use Rattle.std.proofs.lemmas.List.Elements.{All-push, filter-append}

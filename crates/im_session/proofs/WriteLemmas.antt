@@ -1,5 +1,6 @@
 -- The texts of a phase, one after the other: where the next ones of each session stand.
-use Rattle.std.proofs.Common.{◌≡◌, ℕ, zero, suc, ◌+◌, ◌<◌, ◌≤◌, List, [], ◌∷◌, length, drop, Option, Some, None, slice_get, slice_index_or, refl, ap, ap₂, sym, ◌∙◌, arith, get_or, set}
+use Rattle.std.proofs.Common.{◌≡◌, ℕ, zero, suc, ◌+◌, ◌<◌, ◌≤◌, List, [], ◌∷◌, length, drop, Option, Some, None, slice_get, slice_index_or, refl, ap, ap₂, sym, ◌∙◌, arith, get_or}
+use Rattle.std.proofs.Math.ListN.{set}
 use Rattle.std.specs.Prelude.{All}
 use Rattle.std.proofs.lemmas.List.{drop_all, drop_more}
 use Rattle.im_session.specs.Written.{next_text, stop_in_order, stop_or, text_before, texts_in_order, without_first}
