@@ -13,3 +13,6 @@ pub mod AloneLemmas
 pub mod GatherLemmas
 pub mod DealLemmas
 pub mod WriteLemmas
+pub mod ShowLemmas
+pub mod CommitLemmas
+pub mod ProvedLemmas

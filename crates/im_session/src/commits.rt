@@ -2,7 +2,8 @@ ghost use Rattle.std.specs.Prelude.{◌≡◌, IfErr, IfOk, List, map};
 ghost use Rattle.im_draft.specs.Drafts.{entry_of, AreEntries, AreFree};
 ghost use Rattle.im_draft.specs.declared.drafts.Draft.{Draft as TheDraft};
 ghost use Rattle.im_script.specs.declared.commands.Command.TheVariants.{Set, Link};
-ghost use Rattle.im_session.specs.Answered.{IsAnswered, IsUnanswered};
+ghost use Rattle.im_report.specs.Reads.{place_reply};
+ghost use Rattle.im_session.specs.Answered.{IsAnswered, IsRefusal, IsUnanswered, fault_of};
 ghost use Rattle.im_table.specs.Passes.{IsPassOf, Later};
 
 use crate::answers::Answer;
@@ -27,7 +28,9 @@ use std::alloc::{AllocError, Global};
 use std::sync::Wait;
 
 // The reply of a commit that was refused behind so many transactions.
-fn refusal(alloc: Global, why: PlaceError, at: u64) -> Result<Answer, AllocError> {
+fn refusal(alloc: Global, why: PlaceError, at: u64) -> Result<Answer, AllocError>
+    ensures { IfOk result (λ answer. (answer.number ≡ at) × (answer.reply.items ≡ place_reply why)) }
+{
     let reply = place_text(alloc, &why);
     drop(why);
     Ok(Answer {
@@ -37,7 +40,10 @@ fn refusal(alloc: Global, why: PlaceError, at: u64) -> Result<Answer, AllocError
 }
 
 // The reply of a commit that has no receipt, where it has one: a refusal. The device's answers and want of memory have none.
-fn refused(alloc: Global, error: CommitError) -> Result<Answer, LineError> {
+fn refused(alloc: Global, error: CommitError) -> Result<Answer, LineError>
+    ensures ok { IfOk result (λ answer. IsRefusal error answer) }
+    ensures err { IfErr result (λ why. why ≡ fault_of error) }
+{
     match error {
         CommitError::Missing { key, at } => Ok(refusal(alloc, PlaceError::Missing { key }, at)?),
         CommitError::Exists { key, tx, at } => {
