@@ -16,3 +16,4 @@ pub mod WriteLemmas
 pub mod ShowLemmas
 pub mod CommitLemmas
 pub mod ProvedLemmas
+pub mod AnswerLemmas
