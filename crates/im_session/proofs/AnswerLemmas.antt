@@ -25,6 +25,7 @@ use Rattle.im_session.proofs.ProvedLemmas.{advance_said, anchor_taken, dual_take
 use Rattle.im_session.proofs.ShowLemmas.{closed_again, shown_answered}
 use Rattle.im_session.specs.Answered.{IsAnswered}
 use Rattle.im_session.specs.Lines.{MayBecome}
+use Rattle.im_session.specs.Shown.{IsRefusedBetween}
 use Rattle.im_session.specs.declared.answers.Answer.{Answer}
 use Rattle.im_store.specs.Gains.{Gains}
 use Rattle.im_table.specs.Histories.{history_of}
@@ -97,12 +98,6 @@ state_answered hash old mid new answer l says =
     let durable = looked_durable old mid new answer.number l in
     shown_answered hash old mid new asks.State answer l.first l.then l.first_gains l.then_gains l.is l.above (λ n f. refl) (state_unplaced hash new answer.number answer.reply.items says)
     (state_each hash new answer.number answer.reply.items durable says) (state_again hash new answer.number answer.reply.items durable says)
-
--- two numbers that aren't in order, or of which the second is beyond the first n; and such a reply is no message
-pub record IsRefusedBetween (n s t : ℕ) (reply : List ℕ) : Type 0 where
-  pub says : (history : List Transaction) (other : List ℕ) → length history ≡ n → reply ≡ between_reply history s t other
-  pub closed : is_open reply ≡ false
-  pub unplaced : bytes_eq reply (tx_reply n) ≡ false
 
 -- two that are in order, and that the pass has seen
 pub record AreSeen (p : KnownPass) (n s t : ℕ) : Type 0 where

@@ -17,3 +17,4 @@ pub mod ShowLemmas
 pub mod CommitLemmas
 pub mod ProvedLemmas
 pub mod AnswerLemmas
+pub mod ReadLemmas

@@ -1,14 +1,13 @@
 //! Replies that show headers and proofs.
 
-ghost use Rattle.std.specs.Prelude.{◌≡◌, ◌≤◌, ℕ, List, length, take, false, IfErr, IfNone, IfOk, IfSome, unwrap_or};
-ghost use Rattle.im_report.specs.Replies.{between_reply};
+ghost use Rattle.std.specs.Prelude.{◌≡◌, ◌≤◌, IfErr, IfNone, IfOk, IfSome, Ok};
 ghost use Rattle.im_script.specs.declared.commands.Command.TheVariants as says;
 ghost use Rattle.im_session.specs.Answered.{IsAnswered, IsUnanswered};
+ghost use Rattle.im_session.specs.Shown.{IsRefusedBetween};
 ghost use Rattle.im_table.specs.Passes.{IsPassOf, Later};
-ghost use Rattle.im_wire.specs.Lines.{is_open};
 ghost use Rattle.im_wire.specs.Messages.{HasMessage};
 ghost use Rattle.im_wire.specs.Texts.{text};
-ghost use Rattle.im_model.specs.declared.transactions.Transaction.{Transaction};
+ghost use Rattle.im_wire.specs.declared.messages.Message.TheVariants as message;
 
 use crate::answers::Answer;
 use crate::errors::LineError;
@@ -40,8 +39,7 @@ fn message_text(alloc: Global, message: Message) -> Result<Vec<u8>, AllocError>
 
 // The refusal of two numbers of transactions, or `None` where they are in order and the second is at most `count`.
 fn refused_between(alloc: Global, count: u64, s: u64, t: u64) -> Result<Option<Vec<u8>>, AllocError>
-    ensures refused { IfOk result (λ refused. IfSome refused (λ reply. (history : List Transaction) (shown : List ℕ) → length history ≡ count → reply.items ≡ between_reply history s t shown)) }
-    ensures closed { IfOk result (λ refused. IfSome refused (λ reply. is_open reply.items ≡ false)) }
+    ensures refused { IfOk result (λ refused. IfSome refused (λ reply. IsRefusedBetween count s t reply.items)) }
     ensures taken { IfOk result (λ refused. IfNone refused ((1 ≤ s) × (s ≤ t) × (t ≤ count))) }
 {
     if s == 0 || t < s {
@@ -159,7 +157,10 @@ pub(crate) fn answer_advance<H: Hash32, D: Disk, C: Clock, N: TipName, R: Wait>(
 }
 
 // The text of a proved entry.
-fn entry_text(alloc: Global, proved: ProvedEntry) -> Result<Vec<u8>, AllocError> {
+fn entry_text(alloc: Global, proved: ProvedEntry) -> Result<Vec<u8>, AllocError>
+    ensures text { IfOk result (λ octets. octets.items ≡ text (message.Item proved.dual proved.entry proved.index proved.path)) }
+    ensures again { IfOk result (λ octets. HasMessage octets.items (message.Item proved.dual proved.entry proved.index proved.path)) }
+{
     let ProvedEntry {
         dual,
         entry,
