@@ -1,11 +1,15 @@
 -- Passes that are handed out to sessions, and taken in again.
-use Rattle.std.proofs.Common.{◌≡◌, ℕ, ◌+◌, ◌-◌, ◌<◌, ◌≤◌, ◌++◌, List, [], ◌∷◌, refl, ap, ap₂, sym, ◌∙◌, subst, arith, get_or, append-nil, Option}
+use Rattle.std.proofs.Common.{◌≡◌, ℕ, suc, ◌+◌, ◌-◌, ◌<◌, ◌≤◌, ◌++◌, List, [], ◌∷◌, length, refl, ap, ap₂, sym, ◌∙◌, subst, arith, get_or, append-nil, Option}
+use Rattle.std.specs.Prelude.{All}
+use Rattle.std.specs.List.{sum_by}
 use Rattle.std.proofs.lemmas.List.{map-append}
 use Rattle.std.proofs.lemmas.List.Elements.{All-push}
-use Rattle.std.proofs.lemmas.List.Sums.{sum_by_push}
+use Rattle.std.proofs.lemmas.List.Sums.{sum_by-cons, sum_by_push}
 use mathlib.Core.List.{IsPrefix}
+use Rattle.im_digest.specs.Digests.{Hash}
 use Rattle.im_session.specs.Gathered.{AreGathered, AreHanded, leaves_of, own_of, weight_of}
-use Rattle.im_session.specs.Phases.{HasGrown}
+use Rattle.im_session.specs.Phases.{AreDone, HasGrown}
+use Rattle.im_session.specs.Runs.{Start, start_of}
 use Rattle.im_session.specs.declared.errors.LineError.{LineError}
 use Rattle.im_session.specs.declared.sessions.Ended.{Ended}
 use Rattle.im_session.specs.declared.sessions.Session.{Session}
@@ -103,3 +107,24 @@ handed_grown table old new count h = record {
   linked = let e : new.view.least.linked ≡ old.view.least.linked = ap (λ (l : Least). l.linked) h.least in omega (arith, e);
   failed = let e : new.view.least.failed ≡ old.view.least.failed = ap (λ (l : Least). l.failed) h.least in omega (arith, e);
 }
+
+-- where sessions begin whose passes are copies of one
+pub starts_of : (p : KnownPass) (sessions : List Session) → All (λ s. (s.pass.view.seen ≡ p.view.seen) × (s.pass.view.least ≡ p.view.least)) sessions
+    → All (λ s. start_of s ≡ record { low = p.view.least.durable; floor = p.view.least.linked }) sessions
+starts_of p sessions copies = λ i d lt. ap (λ (l : Least). let t : Start = record { low = l.durable; floor = l.linked } in t) (copies i d lt).1
+
+-- the weights of sessions that have ended, one each
+weights_one : (sessions : List Session) → All (λ s. s.pass.view.weight ≡ 1) sessions → sum_by weight_of sessions ≡ length sessions
+weights_one [] all = refl
+weights_one (s ∷ sessions) all =
+    let here : weight_of s ≡ 1 = all 0 s (omega arith) in
+    let more : sum_by weight_of sessions ≡ length sessions = weights_one sessions (λ i d lt. all (suc i) d (omega (arith, lt))) in
+    omega (arith, here, more, sum_by-cons weight_of s sessions)
+
+pub done_weights : (hash : Hash) (table : TableId) (before after : List Session) → AreDone hash table before after → sum_by weight_of after ≡ length before
+done_weights hash table before after done =
+    let each : All (λ s. s.pass.view.weight ≡ 1) after = λ i d lt. (done.each i d (omega (arith, lt, done.many))).weight in
+    weights_one after each ∙ done.many
+
+pub done_passes : (hash : Hash) (table : TableId) (before after : List Session) → AreDone hash table before after → All (λ s. IsPassOf table s.pass) after
+done_passes hash table before after done = λ i d lt. (done.each i d (omega (arith, lt, done.many))).pass
