@@ -1,8 +1,8 @@
 -- The book of a list that goes on by one item.
-use Rattle.std.proofs.Common.{◌≡◌, ℕ, ℤ, suc, ◌+◌, ◌≤◌, ◌∙◌, List, [], ◌∷◌, ◌++◌, length, map, drop, false, refl, sym, ap, subst, arith, append_assoc, length-append, Option}
+use Rattle.std.proofs.Common.{◌≡◌, ℕ, ℤ, suc, ◌+◌, ◌≤◌, ◌∙◌, List, [], ◌∷◌, ◌++◌, length, map, drop, false, refl, sym, ap, subst, arith, append_assoc, length-append, Option, Some, None}
 use Rattle.std.proofs.lemmas.List.{append-nil, drop-append-le, map-append}
 use Rattle.std.proofs.lemmas.List.Elements.{All-push}
-use Rattle.std.specs.Prelude.{FitsSigned}
+use Rattle.std.specs.Prelude.{All, FitsSigned, IfSome}
 use Rattle.std.specs.Int.{w64}
 use Rattle.im_digest.specs.Digests.{Hash}
 use Rattle.im_edge.specs.Clocks.{AddsTimes}
@@ -85,14 +85,20 @@ holds_same hash found items book after refs more ends h same is taken = record {
   room = h.room;
 }
 
+-- a time behind others that are all the clock's
+all_timed : (time : Option ℤ) (times : List ℤ) (ts : ℤ) → IfSome time (λ t. All (λ x. x ≡ t) times) → IfSome time (λ t. ts ≡ t) → IfSome time (λ t. All (λ x. x ≡ t) (times ++ ts ∷ []))
+all_timed None times ts all one = tt
+all_timed (Some t) times ts all one = All-push (λ (x : ℤ). x ≡ t) times ts all one
+
 -- one time more
 pub timed_more : (time constant later : Option ℤ) (before now next : Option (List ℤ)) (found items : List LogItem) (item : LogItem) → HasTimed time constant before now found items → later ≡ constant
-    → AddsTimes now next (item.tx.ts ∷ []) → length found ≤ length items → HasTimed time later before next found (items ++ item ∷ [])
-timed_more time constant later before now next found items item h same given le =
+    → IfSome time (λ t. item.tx.ts ≡ t) → AddsTimes now next (item.tx.ts ∷ []) → length found ≤ length items → HasTimed time later before next found (items ++ item ∷ [])
+timed_more time constant later before now next found items item h same told given le =
     let times : times_behind found (items ++ item ∷ []) ≡ times_behind found items ++ item.tx.ts ∷ [] =
     ap (λ (l : List LogItem). map (λ (x : LogItem). x.tx.ts) l) (drop-append-le (length found) items (item ∷ []) le) ∙ map-append (λ (x : LogItem). x.tx.ts) (drop (length found) items) (item ∷ []) in
     record {
       same = same ∙ h.same;
+      timed = subst (λ (l : List ℤ). IfSome time (λ t. All (λ x. x ≡ t) l)) (sym times) (all_timed time (times_behind found items) item.tx.ts h.timed told);
       given = subst (λ (l : List ℤ). AddsTimes before next l) (sym times) (times-both before now next (times_behind found items) (item.tx.ts ∷ []) h.given given);
     }
 

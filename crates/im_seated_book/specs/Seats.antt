@@ -1,5 +1,5 @@
 -- What lies under the book's lock, and what a place tells.
-use Rattle.std.specs.Prelude.{◌≡◌, ◌+◌, ◌≤◌, ◌++◌, ◌∷◌, [], ℕ, ℤ, List, length, map, drop, false, None, Option, IfSome}
+use Rattle.std.specs.Prelude.{◌≡◌, ◌+◌, ◌≤◌, ◌++◌, ◌∷◌, [], ℕ, ℤ, List, length, map, drop, false, All, None, Option, IfSome}
 use mathlib.Core.List.{IsPrefix}
 use Rattle.im_digest.specs.Digests.{Hash}
 use Rattle.im_edge.specs.Clocks.{AddsTimes}
@@ -36,10 +36,11 @@ pub record HoldsItems (hash : Hash) (found items : List LogItem) (book : Booked)
 abbrev pub times_behind : List LogItem → List LogItem → List ℤ
 times_behind found items = map (λ item. item.tx.ts) (drop (length found) items)
 
--- the clock always gives this time, where it tells one, and since it had given these it gave those of the items that were
--- not found
+-- the clock always gives this time, where it tells one: each item that was not found has it; and since it had given these it
+-- gave those of the items that were not found
 pub record HasTimed (time constant : Option ℤ) (before now : Option (List ℤ)) (found items : List LogItem) : Type 0 where
   pub same : constant ≡ time
+  pub timed : IfSome time (λ t. All (λ ts. ts ≡ t) (times_behind found items))
   pub given : AddsTimes before now (times_behind found items)
 
 -- of each list that begins with this one, that the law allows, and behind which what was asked may be placed, the law

@@ -1,35 +1,43 @@
 -- The batches whose calls the disk got are those of the list, their values put by the rule of the value logs.
-use Rattle.std.proofs.Common.{◌≡◌, ℕ, zero, suc, ◌+◌, ◌≤◌, ◌∙◌, List, [], ◌∷◌, ◌++◌, length, map, take, drop, refl, sym, ap, subst, arith, append_assoc}
-use Rattle.std.proofs.Math.Seq.{take-add}
-use Rattle.std.proofs.lemmas.List.{length-map, map-append}
+use Rattle.std.proofs.Common.{◌≡◌, ℕ, zero, suc, ◌+◌, ◌≤◌, ◌∙◌, List, [], ◌∷◌, ◌++◌, length, map, take, drop, refl, sym, ap, subst, arith, append_assoc, inl, inr}
+use Rattle.std.proofs.Math.Seq.{take-add, take-length}
+use Rattle.std.proofs.lemmas.List.{append-nil, length-map, map-append}
 use Rattle.std.specs.List.{All}
-use Rattle.std.specs.Prelude.{Option}
+use Rattle.std.specs.Prelude.{IfSome, Option}
 use mathlib.Core.List.{IsPrefix}
 use Rattle.im_octet.proofs.Common.{all-right}
 use Rattle.im_digest.specs.Digests.{Hash}
 use Rattle.im_disk.specs.Disk.{Told}
+use Rattle.im_disk.specs.Disk as disks
 use Rattle.im_disk.specs.Grown.{after_all}
+use Rattle.im_disk.proofs.Leaving.{if_told}
 use Rattle.std.specs.Option.{option_map}
 use Rattle.im_model.specs.declared.transactions.Transaction.{Transaction}
-use Rattle.im_format.specs.Batches.{joined}
+use Rattle.im_format.specs.Batches.{gate_of, joined, spans_of}
 use Rattle.im_format.specs.Places.{ArePut, refs_of}
 use Rattle.im_format.specs.Records.{AreRecords}
 use Rattle.im_format.specs.declared.records.Record.{Record}
 use Rattle.im_format.specs.declared.references.ValueRef.{ValueRef}
 use Rattle.im_table.specs.Histories.{history_of, GoesOn}
 use Rattle.im_table.specs.Records.{AreRecordsOf}
-use Rattle.im_table.specs.References.{references_of, AreLaid}
+use Rattle.im_table.specs.References.{AreLaid}
 use Rattle.im_table.specs.declared.items.LogItem.{LogItem}
+use Rattle.im_table.proofs.FrontLemmas.{prefix_length}
 use Rattle.im_table.proofs.HistoryLemmas.{history_front, history_length, map_front, take_front}
-use Rattle.im_journal.specs.Holding.{AreFirst}
+use Rattle.im_journal.specs.Holding.{AreFirst, IsResting, ends_of}
 use Rattle.im_journal.specs.Kept.{Kept}
+use Rattle.im_journal.specs.Phases.{IsSafe}
+use Rattle.im_journal.specs.Pieces.{end_of}
+use Rattle.im_journal.specs.declared.ends.Ends.{Ends}
 use Rattle.im_journal.proofs.Limits.{first_number}
 use Rattle.im_journal.proofs.Longer.{records_longer}
+use Rattle.im_journal.proofs.Mids.{first_at}
 use Rattle.im_journal.proofs.Prefixes.{records_both}
-use Rattle.im_seated_journal.specs.Calls.{IsFilled, MakesBatches, MakesPart, calls_of_batch, calls_of_batches}
-use Rattle.im_seated_journal.specs.Seats.{HasMade, ServesItems, refs_in}
+use Rattle.im_journal.proofs.Turns.{stands, stands_batches}
+use Rattle.im_seated_journal.specs.Calls.{IsFilled, MakesBatches, MakesPart, StandsPut, calls_of_batch, calls_of_batches}
+use Rattle.im_seated_journal.specs.Seats.{HasMade, IsGoing, ServesItems, refs_in}
 use Rattle.im_seated_journal.proofs.BeginLemmas.{fresh_behind, put_behind, records_of_front, refs_joined, take_refs}
-use Rattle.im_seated_journal.proofs.ServeLemmas.{first_of}
+use Rattle.im_seated_journal.proofs.ServeLemmas.{durable_within, first_of}
 
 -- the records of batches, and of batches behind them
 joined_both : (a b : List (List Record)) → joined (a ++ b) ≡ joined a ++ joined b
@@ -125,3 +133,46 @@ serves_batches {D} {told} {faults} {hash} {found} {synced} {before} w seen k s g
       put = all_put s.items seen s.batches s.last k s.begins first m w s.refs_are goes laid;
       part = subst (λ (b : List (List Record)). MakesPart (calls_of_batch b s.last) middle (told k.disk)) both m.part;
     }
+
+-- what reads give of a disk that is at rest with batches stands for what is durable, with these very batches
+rest_put : (hash : Hash) (w n : ℕ) (history : List Transaction) (batches first more : List (List Record)) (durable : ℕ) (ends : Ends) (t : Told)
+    → AreFirst hash history batches durable ends → IsResting batches ends t → batches ≡ first ++ more → length (joined first) ≡ n
+    → ArePut w (n + 1) (refs_of (joined first)) (joined more) → StandsPut hash w n (take durable history) (disks.seen t)
+rest_put hash w n history batches first more durable ends t are rests both count put =
+    let own : AreFirst hash history batches durable (ends_of batches) = first_at hash history batches durable ends are in
+    let safe : IsSafe (end_of (ends_of batches)) (spans_of batches) (gate_of (length batches)) (disks.seen t) =
+    subst (λ (e : Ends). IsSafe (end_of e) (spans_of batches) (gate_of (length batches)) (disks.seen t)) are.ends_are rests.here in
+    record {
+      stands = stands hash history batches durable own (disks.seen t) safe;
+      first = first;
+      more = more;
+      batches_are = stands_batches hash history batches durable own (disks.seen t) safe ∙ both;
+      found_are = count;
+      put = put;
+    }
+
+-- where no call has failed, and all of the list is durable, what reads give stands for it, the values put by the rule
+pub serves_put : {D : Type 0} {told : D → Option Told} {faults : D → ℕ} {hash : Hash} {found : List LogItem} {synced : Option Told} {before : ℕ} (w : ℕ) (seen : List LogItem) (k : Kept D)
+    → ServesItems told faults hash found synced before seen k → GoesOn found seen → AreLaid w 1 [] seen → k.failures ≡ 0 → length seen ≤ k.durable
+    → IfSome (told k.disk) (λ t. StandsPut hash w (length found) (history_of seen) (disks.seen t))
+serves_put {D} {told} {faults} {hash} {found} {synced} {before} w seen k s goes laid sound all = put (s.going sound)
+  where
+    every : take k.durable (history_of s.items) ≡ history_of seen
+    every =
+        let first = first_of s.items s.batches k s.holds in
+        let count : k.durable ≡ length (history_of seen) = omega (arith, all, durable_within seen k s, history_length seen) in
+        take_front (history_of s.items) (history_of seen) k.durable (history_front s.items seen s.begins) first.placed
+        ∙ ap (λ (n : ℕ). take n (history_of seen)) count ∙ take-length (history_of seen)
+
+    put : IsGoing told hash s.items s.batches s.last k → IfSome (told k.disk) (λ t. StandsPut hash w (length found) (history_of seen) (disks.seen t))
+    put (inl rest) =
+        let m = s.made in
+        let own = all_put s.items seen s.batches s.last k s.begins rest.0.first m w s.refs_are goes laid in
+        let bare : joined m.more ++ s.last ≡ joined m.more = ap (λ (l : List Record). joined m.more ++ l) rest.1 ∙ append-nil (joined m.more) in
+        let laid_out : ArePut w (length found + 1) (refs_of (joined m.first)) (joined m.more) =
+        subst (λ (l : List Record). ArePut w (length found + 1) (refs_of (joined m.first)) l) bare own in
+        subst (λ (h : List Transaction). IfSome (told k.disk) (λ t. StandsPut hash w (length found) h (disks.seen t))) every
+        (if_told (IsResting s.batches k.ends) (λ t. StandsPut hash w (length found) (take k.durable (history_of s.items)) (disks.seen t))
+        (λ t rests. rest_put hash w (length found) (history_of s.items) s.batches m.first m.more k.durable k.ends t rest.0.first rests m.batches_are m.found_are laid_out)
+        (told k.disk) rest.0.resting)
+    put (inr mid) = absurd (omega (arith, all, mid.batch.next.placed, mid.batch.next.some, history_length s.items, prefix_length s.items seen s.begins))

@@ -2,14 +2,14 @@
 use Rattle.std.specs.Prelude.{◌≡◌, ◌⊎◌, ◌+◌, ◌≤◌, ℕ, List, [], ◌∷◌, ◌++◌, length, map, take, drop, All, Option, IfSome}
 use Rattle.std.specs.Option.{option_map}
 use Rattle.im_digest.specs.Digests.{Hash}
-use Rattle.im_disk.specs.Disk.{Told, after, seen}
+use Rattle.im_disk.specs.Disk.{Files, Told, after, seen}
 use Rattle.im_disk.specs.Grown.{after_all}
 use Rattle.im_disk.specs.declared.calls.Call.{Call}
 use Rattle.im_disk.specs.declared.calls.Call.TheVariants.{Wrote, Synced}
 use Rattle.im_format.specs.Batches.{gate_of, joined}
 use Rattle.im_format.specs.Places.{ArePut, refs_of}
 use Rattle.im_format.specs.Records.{AreRecords}
-use Rattle.im_format.specs.Standing.{HasBatches}
+use Rattle.im_format.specs.Standing.{HasBatches, Stands}
 use Rattle.im_format.specs.declared.records.Record.{Record}
 use Rattle.im_journal.specs.Holding.{ends_of}
 use Rattle.im_journal.specs.Kept.{Kept}
@@ -69,3 +69,13 @@ pub record MakesBatches (hash : Hash) (w n durable : ℕ) (history : List Transa
   pub records_are : AreRecords hash history 1 (joined (first ++ more) ++ last)
   pub put : ArePut w (n + 1) (refs_of (joined first)) (joined more ++ last)
   pub part : MakesPart (calls_of_batch (first ++ more) last) (option_map (after_all (calls_of_batches first more)) before) now
+
+-- The image stands for the history: behind the batches of its first n transactions are further ones, in which the values are put
+-- over w value logs.
+pub record StandsPut (hash : Hash) (w n : ℕ) (history : List Transaction) (image : Files) : Type 0 where
+  pub stands : Stands hash image history
+  pub first : List (List Record)
+  pub more : List (List Record)
+  pub batches_are : stands.batches ≡ first ++ more
+  pub found_are : length (joined first) ≡ n
+  pub put : ArePut w (n + 1) (refs_of (joined first)) (joined more)

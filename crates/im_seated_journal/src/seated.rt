@@ -15,7 +15,7 @@ ghost use Rattle.im_journal.specs.Faults.{IsCounted, IsReadCounted};
 ghost use Rattle.im_journal.specs.Kept.{HasSealed, HasStaged};
 ghost use Rattle.im_journal.specs.Made.{Makes, calls_to_seal, calls_to_settle, calls_to_stage};
 ghost use Rattle.im_journal.specs.Pieces.{pieces_of};
-ghost use Rattle.im_seated_journal.specs.Calls.{MakesBatches};
+ghost use Rattle.im_seated_journal.specs.Calls.{MakesBatches, StandsPut};
 ghost use Rattle.im_seated_journal.specs.Seats.{HasItemValue, RoseBy, ServesItems, told_failures};
 ghost use Rattle.im_journal.specs.declared.batches.Step.TheVariants.{Idle, Staging, Staged, Sealed};
 
@@ -89,8 +89,8 @@ impl<D: Disk, N: TipName> SeatedJournal<D, N> {
 
     /// Hands the journal and the pass back, and with them what the lock has kept: images now and at each moment since
     /// opening, the calls that the disk got since then, which are those of batches of each list that begins with the
-    /// pass's, over the number of value logs by which its values lie, and the failures that were counted: none only where
-    /// the disk counted none.
+    /// pass's, over the number of value logs by which its values lie, what reads give where none failed and all of that list is
+    /// durable, and the failures that were counted: none only where the disk counted none.
     pub fn into_parts(self) -> (Journal<D>, Pass)
         ensures journal { result.0 ≡ self }
         ensures pass { IsKeeper N.table journal_role result.1 }
@@ -105,6 +105,8 @@ impl<D: Disk, N: TipName> SeatedJournal<D, N> {
         ensures moments { Leaves (StandsFrom N.digest (length N.found) (history_of result.1.view.seen)) N.synced (D.told self.disk) }
         ensures calls { (w : ℕ) (list : List LogItem) → IsPrefix result.1.view.seen list → GoesOn N.found list → AreLaid w 1 [] list
             → MakesBatches N.digest w (length N.found) self.durable (history_of list) N.synced (D.told self.disk) }
+        ensures here { (w : ℕ) (list : List LogItem) → IsPrefix result.1.view.seen list → GoesOn N.found list → AreLaid w 1 [] list → self.failures ≡ 0 → length list ≤ self.durable
+            → IfSome (D.told self.disk) (λ t. StandsPut N.digest w (length N.found) (history_of list) (seen t)) }
         ensures rose { RoseBy N.faults (D.faults self.disk) self.failures }
         ensures calm { self.failures ≡ 0 → D.faults self.disk ≡ N.faults }
     {

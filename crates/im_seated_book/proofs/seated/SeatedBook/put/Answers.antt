@@ -160,7 +160,7 @@ invariant_of-self-2 g c =
     let more = holds_more hash found items item before c.push.new.self c.reserve-2.new.self.items c.push_reserved.new.self.items c.self.inside.ends c.append_values.new.ends held refl
     c.push.ensures.grown is (search rules) referred behind rooms in
     let timed = timed_more g.N.TipName.time (g.C.Clock.constant c.self.inside.clock) (g.C.Clock.constant c.transaction_now-tx.new.clock) g.N.TipName.given (g.C.Clock.given c.self.inside.clock) (g.C.Clock.given c.transaction_now-tx.new.clock)
-    found items item c.self.invariant.3 clock.same clock.given (found_within found items c.self.invariant.1.goes_on) in
+    found items item c.self.invariant.3 clock.same (subst (λ (o : Option ℤ). IfSome o (λ t. tx.ts ≡ t)) c.self.invariant.3.same clock.told) clock.given (found_within found items c.self.invariant.1.goes_on) in
     let linked : c.split.result.view.least.linked ≡ bl = search rules in
     let last : last_bl c.push.new.self.transactions ≡ bl = ap (λ (l : List Transaction). last_bl l) c.push.ensures.grown ∙ last-bl-behind 0 before.transactions tx ∙ clock.over in (
       search rules,

@@ -1,12 +1,14 @@
 use Rattle.std.proofs.Common.{◌≡◌, ◌≤◌, length, take, subst}
+use Rattle.std.specs.Prelude.{IfSome}
+use Rattle.im_disk.specs.Disk as disks
 use Rattle.im_disk.specs.Moments.{Leaves, LeavesNow}
 use Rattle.im_format.specs.Standing.{Stands, StandsFrom}
 use Rattle.im_table.specs.Histories.{history_of}
 use Rattle.im_journal.specs.Kept.{Kept}
-use Rattle.im_seated_journal.specs.Calls.{MakesBatches}
+use Rattle.im_seated_journal.specs.Calls.{MakesBatches, StandsPut}
 use Rattle.im_seated_journal.specs.Seats.{RoseBy}
 use Rattle.im_journal.specs.declared.batches.Step.TheVariants.{Idle}
-use Rattle.im_seated_journal.proofs.BatchLemmas.{serves_batches}
+use Rattle.im_seated_journal.proofs.BatchLemmas.{serves_batches, serves_put}
 use Rattle.im_seated_journal.proofs.ServeLemmas.{durable_within, serves_images, serves_later, serves_moments, serves_settled, serves_whole}
 use Rattle.im_seated_journal.proofs.seated.SeatedJournal.into_parts.Goals as goal
 
@@ -57,6 +59,12 @@ returns-clause-calls g c w list begins goes laid =
     let told = g.D.Disk.told in
     subst (λ (k : Kept g.row.D.Denot). MakesBatches g.N.TipName.digest w (length g.N.TipName.found) k.durable (history_of list) g.N.TipName.synced (told k.disk)) c.self.view_is
     (serves_batches w list c.self.inside.journal (serves_later begins c.self.invariant.3) goes laid)
+
+pub returns-clause-here : goal.returns-clause-here
+returns-clause-here g c w list begins goes laid =
+    let told = g.D.Disk.told in
+    subst (λ (k : Kept g.row.D.Denot). k.failures ≡ 0 → length list ≤ k.durable → IfSome (told k.disk) (λ t. StandsPut g.N.TipName.digest w (length g.N.TipName.found) (history_of list) (disks.seen t))) c.self.view_is
+    (serves_put w list c.self.inside.journal (serves_later begins c.self.invariant.3) goes laid)
 
 pub returns-clause-calm : goal.returns-clause-calm
 returns-clause-calm g c =
