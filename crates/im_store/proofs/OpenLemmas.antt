@@ -1,29 +1,38 @@
 -- What lies under the locks as a store is opened.
-use Rattle.std.proofs.Common.{◌≡◌, ◌+◌, ◌++◌, ◌∷◌, [], ◌∙◌, ◌≤◌, ℕ, zero, suc, ℤ, List, length, map, take, true, Option, Some, refl, ap, sym, subst, arith}
+use Rattle.std.proofs.Common.{◌≡◌, ◌+◌, ◌++◌, ◌∷◌, [], ◌∙◌, ◌≤◌, ℕ, zero, suc, ℤ, List, length, map, take, true, Option, Some, None, IfSome, refl, ap, sym, subst, arith}
 use Rattle.std.proofs.Math.Seq.{drop-length, take-length}
 use Rattle.std.proofs.lemmas.List.{append-nil, length-map}
 use Rattle.std.specs.List.{All}
 use Rattle.im_digest.specs.Digests.{Hash}
 use Rattle.im_disk.specs.Disk.{after, seen, Told}
+use Rattle.im_disk.specs.Grown.{Grows}
 use Rattle.im_disk.specs.Moments.{Leaves}
 use Rattle.im_disk.specs.declared.calls.Call.TheVariants.{Synced}
-use Rattle.im_format.specs.Batches.{joined}
+use Rattle.im_format.specs.Batches.{gate_of, joined, spans_of}
 use Rattle.im_format.specs.Places.{refs_of}
 use Rattle.im_format.specs.Records.{AreRecords}
-use Rattle.im_format.specs.Standing.{Stands}
+use Rattle.im_format.specs.Standing.{HasBatches, Stands}
 use Rattle.im_format.specs.declared.records.Record.{Record}
 use Rattle.im_format.specs.declared.references.ValueRef.{ValueRef}
+use Rattle.im_journal.specs.Holding.{IsResting, ends_of}
 use Rattle.im_journal.specs.Kept.{IsAtRest, Kept}
+use Rattle.im_journal.specs.Phases.{IsSafe}
+use Rattle.im_journal.specs.Pieces.{end_of}
+use Rattle.im_journal.specs.declared.ends.Ends.{Ends}
+use Rattle.im_journal.proofs.Mids.{first_at}
 use Rattle.im_journal.proofs.Rooms.{ends_behind, room_behind}
+use Rattle.im_journal.proofs.Turns.{stands, stands_batches}
 use Rattle.im_levels.specs.Leveled.{IsLeveled, Stored}
 use Rattle.im_linker.specs.Trees.{IsTreeOf}
 use Rattle.im_model.specs.History.{alhs_of, Follow, IsHistory}
 use Rattle.im_model.specs.declared.transactions.Transaction.{Transaction}
 use Rattle.im_model.proofs.HistoryLemmas.{length-alhs_of}
+use Rattle.im_opening.specs.Cut.{IsOpenedBy, repaired}
 use Rattle.im_opening.specs.Opening.{IsOneHistory}
 use Rattle.im_opening.specs.Opens.{Opens}
 use Rattle.im_opening.specs.Reach.{txs_of}
 use Rattle.im_opening.specs.declared.found.FoundHistory.{FoundHistory}
+use Rattle.im_opening.proofs.OpensLemmas.{same-count}
 use Rattle.im_proof.specs.Built.{headers_of}
 use Rattle.im_edge.specs.Clocks.{AddsTimes}
 use Rattle.im_edge.proofs.Times.{times-none}
@@ -100,18 +109,45 @@ module _ {D : Type 0} (told : D → Option Told) (faults : D → ℕ) (hash : Ha
         room = subst (λ (n : ℕ). HaveRoom n k.ends.values) number (room_behind hash history batches k.durable k.ends rest.first);
       }
 
+-- the journal ends at the gate behind any batches that reads give
+module _ {D : Type 0} (told : D → Option Told) (hash : Hash) (history : List Transaction) (batches : List (List Record)) (k : Kept D) (rest : IsAtRest told hash history batches k) where
+  own_batches : (t : Told) → IsResting batches k.ends t → HasBatches (seen t) batches
+  own_batches t rests =
+      let own = first_at hash history batches k.durable k.ends rest.first in
+      let safe : IsSafe (end_of (ends_of batches)) (spans_of batches) (gate_of (length batches)) (seen t) =
+      subst (λ (e : Ends). IsSafe (end_of e) (spans_of batches) (gate_of (length batches)) (seen t)) rest.first.ends_are rests.here in
+      subst (λ (b : List (List Record)). HasBatches (seen t) b) (stands_batches hash history batches k.durable own (seen t) safe) (stands hash history batches k.durable own (seen t) safe).there
+
+  pub gate_behind : (t : Told) → told k.disk ≡ Some t → (others : List (List Record)) → HasBatches (seen t) others → k.ends.commits ≡ gate_of (length others)
+  gate_behind t is others held =
+      let rests : IsResting batches k.ends t = subst (λ (o : Option Told). IfSome o (IsResting batches k.ends)) is rest.resting in
+      ap (λ (e : Ends). e.commits) rest.first.ends_are ∙ ap gate_of (same-count (seen t) batches others (own_batches t rests) held)
+
 -- what names a store, by what opening its disk gave
 module _ {D : Type 0} (told : D → Option Told) (faults : D → ℕ) (hash : Hash) (before now : D) (gate : ℕ) (rs : List Record)
-    (opens : Opens told faults hash before now gate (txs_of rs)) where
+    (opens : Opens told faults hash before now gate (txs_of rs))
+    (behind : (t : Told) → told now ≡ Some t → (batches : List (List Record)) → HasBatches (seen t) batches → gate ≡ gate_of (length batches)) where
+  -- the calls of opening, by the gate behind any batches that reads give now
+  opened_calls : (synced : Option Told) → synced ≡ told now → (t : Told) → told before ≡ Some t → (batches : List (List Record)) → IfSome synced (λ s. HasBatches (seen s) batches)
+      → IsOpenedBy (gate_of (length batches)) t synced
+  opened_calls synced same t is batches held =
+      let opened = opens.calls t is in
+      let H : Option Told → Type 0 = λ o. IfSome o (λ s. HasBatches (seen s) batches) in
+      let at : gate ≡ gate_of (length batches) = behind (repaired opened.0 gate (after Synced t)) opened.2 batches (subst H (same ∙ opened.2) held) in
+      subst (λ (o : Option Told). IsOpenedBy (gate_of (length batches)) t o) (sym same) (subst (λ (g : ℕ). IsOpenedBy g t (told now)) at opened)
+
   pub found_opens : (n : Naming) → n.found ≡ items_of rs → n.digest ≡ hash → n.synced ≡ told now → n.faults ≡ faults now → OpensAs (told before) (faults before) n
   found_opens n found digest synced failed =
       let same : txs_of rs ≡ history_of n.found = sym (ap (λ (l : List LogItem). history_of l) found ∙ found_history rs) in
       record {
         stands = λ t is. subst (λ (h : Hash). Stands h (seen t) (history_of n.found)) (sym digest)
             (subst (λ (l : List Transaction). Stands hash (seen t) l) same (opens.stands t is));
+        one = λ t other is there. sym same ∙ opens.one t other is (subst (λ (h : Hash). Stands h (seen t) other) digest there);
         moments = λ t is. subst (λ (o : Option Told). Leaves (λ image. Stands n.digest image (history_of n.found)) (Some (after Synced t)) o) (sym synced)
             (subst (λ (h : Hash). Leaves (λ image. Stands h image (history_of n.found)) (Some (after Synced t)) (told now)) (sym digest)
             (subst (λ (l : List Transaction). Leaves (λ image. Stands hash image l) (Some (after Synced t)) (told now)) same (opens.moments t is)));
+        calls = opened_calls n.synced synced;
+        grows = subst (λ (o : Option Told). Grows (told before) o) (sym synced) opens.grows;
         same = failed ∙ opens.same;
         marked = subst (λ (l : List LogItem). All (λ x. x.found ≡ true) l) (sym found) (found_marked rs);
       }
@@ -157,8 +193,13 @@ bl_below history h = omega (arith, last_within 0 0 history h.follow (omega arith
 pub found_timed : (time : Option ℤ) (given : Option (List ℤ)) (items : List LogItem) → HasTimed time time given given items items
 found_timed time given items = record {
   same = refl;
+  timed = subst (λ (l : List LogItem). IfSome time (λ t. All (λ ts. ts ≡ t) (map (λ (x : LogItem). x.tx.ts) l))) (sym (drop-length items)) (none time);
   given = subst (λ (l : List LogItem). AddsTimes given given (map (λ (x : LogItem). x.tx.ts) l)) (sym (drop-length items)) (times-none given);
 }
+  where
+    none : (o : Option ℤ) → IfSome o (λ t. All (λ ts. ts ≡ t) [])
+    none None = tt
+    none (Some t) = λ k d lt. absurd (omega (arith, lt))
 
 -- an index of the whole has taken all of it
 pub found_taken : (items : List LogItem) (index : Indexed) → IsIndexOf index (history_of items) → HasTaken items index × (index.taken ≡ length items)

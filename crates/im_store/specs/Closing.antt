@@ -1,14 +1,14 @@
 -- What is known of a store that was closed.
-use Rattle.std.specs.Prelude.{◌≡◌, ◌+◌, ◌≤◌, ℕ, ℤ, List, length, true, Option}
+use Rattle.std.specs.Prelude.{◌≡◌, ◌+◌, ◌≤◌, ℕ, ℤ, List, length, true, Option, IfSome}
 use Rattle.std.specs.List.{All, sum_by}
 use mathlib.Core.List.{IsPrefix}
 use Rattle.im_digest.specs.Digests.{Hash}
-use Rattle.im_disk.specs.Disk.{Told}
+use Rattle.im_disk.specs.Disk.{Told, seen}
 use Rattle.im_disk.specs.Moments.{Leaves, LeavesNow}
 use Rattle.im_format.specs.Standing.{Stands, StandsFrom}
 use Rattle.im_model.specs.History.{IsHistory}
 use Rattle.im_seated_book.specs.Seats.{HasTimed}
-use Rattle.im_seated_journal.specs.Calls.{MakesBatches}
+use Rattle.im_seated_journal.specs.Calls.{MakesBatches, StandsPut}
 use Rattle.im_seated_journal.specs.Seats.{RoseBy}
 use Rattle.im_table.specs.Histories.{history_of, GoesOn}
 use Rattle.im_table.specs.Known.{KnownPass, TableId}
@@ -41,9 +41,9 @@ AreAll passes = sum_by weight_in passes ≡ 1048576
 -- of it, which holds what any of the passes knows to be durable; and at each moment since the disk was opened each image stood for one
 -- not shorter than what was found. The calls that the disk got since then are those of batches of the list, one after the other, and of a
 -- last one as far as they came. The disk has failed since at least as often as any of the passes knows. Where none of its calls failed, and
--- all of the list is durable, each image stands for the whole of it. None of the passes knows of more leaves than the tree has. Where they
+-- all of the list is durable, each image stands for the whole of it, and so does what reads give, the values put by the rule. None of the passes knows of more leaves than the tree has. Where they
 -- have the whole weight, their own numbers are those of all that was not found, each once; the tree has grown by their leaves; and where
--- none of them told a failure, the disk counted none. The clock gave the times of what was placed, in order.
+-- none of them told a failure, none of its calls failed, and the disk counted none. The clock gave the times of what was placed, in order.
 pub record ClosesStore {D : Type 0} (told : D → Option Told) (faults : D → ℕ) (hash : Hash) (logs : ℕ) (found : List LogItem) (synced : Option Told) (before : ℕ)
     (time : Option ℤ) (given : Option (List ℤ)) (passes : List KnownPass) (disk : D) (constant : Option ℤ) (now : Option (List ℤ)) : Type 0 where
   pub items : List LogItem
@@ -59,8 +59,10 @@ pub record ClosesStore {D : Type 0} (told : D → Option Told) (faults : D → �
   pub failures : ℕ
   pub rose : RoseBy before (faults disk) failures
   pub failed : All (λ p. p.view.least.failed ≤ failures) passes
+  pub sound : AreAll passes → All (λ p. p.view.faults ≡ 0) passes → failures ≡ 0
   pub calm : AreAll passes → All (λ p. p.view.faults ≡ 0) passes → faults disk ≡ before
   pub whole : failures ≡ 0 → durable ≡ length items → LeavesNow (λ image. Stands hash image (history_of items)) (told disk)
+  pub here : failures ≡ 0 → durable ≡ length items → IfSome (told disk) (λ t. StandsPut hash logs (length found) (history_of items) (seen t))
   pub owned : AreAll passes → (k : ℕ) → sum_by (own_count k) passes ≡ times k (placed_by items)
   pub linked : ℕ
   pub tree : linked ≤ durable

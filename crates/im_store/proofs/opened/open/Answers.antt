@@ -7,7 +7,7 @@ use Rattle.im_opening.specs.declared.errors.OpenError.{OpenError}
 use Rattle.im_opening.specs.declared.errors.OpenError.TheVariants.{Memory}
 use Rattle.im_opening.proofs.OpensLemmas.{fails-behind}
 use Rattle.im_store.specs.Names.{naming_of}
-use Rattle.im_store.proofs.OpenLemmas.{found_opens}
+use Rattle.im_store.proofs.OpenLemmas.{found_opens, gate_behind}
 use Rattle.im_store.proofs.opened.open.Goals as goal
 
 pub returns-in-Ok-clause-opens : goal.returns-in-Ok-clause-opens
@@ -17,8 +17,10 @@ returns-in-Ok-clause-opens g c =
     let faults = g.D.Disk.faults in
     let journal = c.in-Ok.recovered.journal in
     let rs = c.in-Ok.recovered.found.records.items in
+    let rests = c.in-Ok.ensures.rests in
     IfOk-weaker c.opened_over.result _ _
     (λ opened all. found_opens told faults hash c.args.disk journal.disk journal.ends.commits rs c.in-Ok.ensures.opens
+    (gate_behind told hash (txs_of rs) rests.batches journal rests.rests)
     (naming_of g.H.Hash32.digest told faults g.C.Clock.constant g.C.Clock.given opened) all.0 (ap g.H.Hash32.digest all.1) (ap told all.2) (ap faults all.2))
     c.opened_over.ensures.found
 

@@ -99,6 +99,10 @@ returns g c =
     let own = gathered_own k w i t a b d book.pass.1 journal.pass.1 index.pass.1 tree.pass.1 va vb vd book.pass.3 journal.pass.3 index.pass.3 tree.pass.3 in
     let whole : AreAll c.args.passes.items → last.view.weight ≡ 1048576 = λ all. omega (arith, c.take_in.ensures.weight, none, all) in
     let disk : c.into_disk.result ≡ kept.disk = c.into_disk.ensures ∙ ap (λ (j : Kept g.row.D.Denot). j.disk) journal.journal in
+    let laid : AreLaid g.N.TipName.logs 1 [] items = subst (λ (n : ℕ). AreLaid n 1 [] items) c.args.self.logged (subst (λ (l : List LogItem). AreLaid c.args.self.tip.logs 1 [] l) seen c.close.ensures.meets.laid) in
+    let quiet_of : AreAll c.args.passes.items → All (λ p. p.view.faults ≡ 0) c.args.passes.items → kept.failures ≡ 0 = λ all none.
+    (let told : last.view.faults ≡ last.view.least.failed = c.close.ensures.faults (whole all) (ap (λ (r : Roles). r.journal) c.take_in.ensures.keeper.1) in
+    omega (arith, told, failed, c.take_in.ensures.faults, quiet, sum_none failures_told c.args.passes.items none)) in
     let closes : ClosesStore told g.D.Disk.faults hash g.N.TipName.logs g.N.TipName.found g.N.TipName.synced g.N.TipName.faults g.N.TipName.time g.N.TipName.given c.args.passes.items kept.disk
     (g.C.Clock.constant c.into_parts-placed.result.1) (g.C.Clock.given c.into_parts-placed.result.1) = record {
       items = items;
@@ -114,12 +118,12 @@ returns g c =
       failures = kept.failures;
       rose = journal.rose;
       failed = subst (λ (n : ℕ). All (λ (p : KnownPass). p.view.least.failed ≤ n) c.args.passes.items) failed c.take_in.ensures.failed;
-      calls = (let laid : AreLaid g.N.TipName.logs 1 [] items = subst (λ (n : ℕ). AreLaid n 1 [] items) c.args.self.logged (subst (λ (l : List LogItem). AreLaid c.args.self.tip.logs 1 [] l) seen c.close.ensures.meets.laid) in
-          journal.calls g.N.TipName.logs items writer book.found laid);
-      calm = λ all none. (let told : last.view.faults ≡ last.view.least.failed = c.close.ensures.faults (whole all) (ap (λ (r : Roles). r.journal) c.take_in.ensures.keeper.1) in
-          journal.calm (omega (arith, told, failed, c.take_in.ensures.faults, quiet, sum_none failures_told c.args.passes.items none)));
+      calls = journal.calls g.N.TipName.logs items writer book.found laid;
+      sound = quiet_of;
+      calm = λ all none. journal.calm (quiet_of all none);
       whole = λ sound all. (let le = prefix_length w.view.seen items writer in
           whole_now hash w.view.seen items (told kept.disk) writer (omega (arith, all, journal.within)) (journal.settled sound (omega (arith, le, all))));
+      here = λ sound all. journal.here g.N.TipName.logs items writer book.found laid sound (omega (arith, all));
       owned = λ all n. (let sums : sum_by (own_count n) c.args.passes.items ≡ times n last.view.own = omega (arith, c.take_in.ensures.own n, ap (λ (l : List ℕ). times n l) own) in
           sums ∙ c.close.ensures.owned (whole all) n ∙ ap (λ (l : List LogItem). times n (placed_by l)) seen);
       linked = size;
