@@ -50,7 +50,7 @@ replies_whole : (answers : List Answered) → replies_in (map answered answers) 
 replies_whole answers = ap replies_in (sym (append-nil (map answered answers))) ∙ (replies_answered answers [] ∙ append-nil answers)
 
 -- lines that weren't run have no floors
-floors_unrun : (floor : ℕ) (lines : List Line) → floors_of floor (map not_run lines) ≡ []
+pub floors_unrun : (floor : ℕ) (lines : List Line) → floors_of floor (map not_run lines) ≡ []
 floors_unrun floor [] = refl
 floors_unrun floor (l ∷ lines) = floors_unrun floor lines
 
@@ -71,7 +71,7 @@ whole_alone hash start p answers run =
     }
 
 -- a line without a reply
-not_answered : (answers : List Answered) (line : Line) (late : Option ℕ) (others : List Line) → AreAnswered (map answered answers ++ halted line late ∷ map not_run others) → ⊥
+pub not_answered : (answers : List Answered) (line : Line) (late : Option ℕ) (others : List Line) → AreAnswered (map answered answers ++ halted line late ∷ map not_run others) → ⊥
 not_answered answers line late others some =
     let rest : All (λ o. IsSome o.reply) (halted line late ∷ map not_run others) = all-right (λ (o : Outcome). IsSome o.reply) (map answered answers) (halted line late ∷ map not_run others) some in
     true≢false (sym (rest 0 (not_run line) (omega arith)))

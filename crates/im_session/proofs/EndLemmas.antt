@@ -30,7 +30,7 @@ abbrev pub stop_in : (hash : Hash) (start : Start) (p : KnownPass) (lines : List
 stop_in hash start p lines answers None ran = None
 stop_in hash start p lines answers (Some why) (line, others, e, cut) = Some (line, (cut.stuck.late, others))
 
-lines_unrun : (lines : List Line) → map line_in (map not_run lines) ≡ lines
+pub lines_unrun : (lines : List Line) → map line_in (map not_run lines) ≡ lines
 lines_unrun [] = refl
 lines_unrun (l ∷ lines) = ap (λ (ls : List Line). l ∷ ls) (lines_unrun lines)
 
@@ -77,7 +77,7 @@ times_answered k (a ∷ answers) =
     let here : times k (numbers_in (answered a)) ≡ times k (number_told (Some a)) = ap (times k) (append-nil (number_told (Some a))) in
     omega (arith, here, times_answered k answers, times_append k (number_told (Some a)) (numbers_told answers), sum_by-cons (λ (o : Outcome). times k (numbers_in o)) (answered a) (map answered answers))
 
-times_unrun : (k : ℕ) (lines : List Line) → times_in k (map not_run lines) ≡ 0
+pub times_unrun : (k : ℕ) (lines : List Line) → times_in k (map not_run lines) ≡ 0
 times_unrun k [] = refl
 times_unrun k (l ∷ lines) = omega (arith, times_unrun k lines, sum_by-cons (λ (o : Outcome). times k (numbers_in o)) (not_run l) (map not_run lines))
 

@@ -1,13 +1,13 @@
 -- Passes that are handed out to sessions, and taken in again.
-use Rattle.std.proofs.Common.{◌≡◌, ℕ, suc, ◌+◌, ◌-◌, ◌<◌, ◌≤◌, ◌++◌, List, [], ◌∷◌, length, refl, ap, ap₂, sym, ◌∙◌, subst, arith, get_or, append-nil, Option}
+use Rattle.std.proofs.Common.{◌≡◌, ℕ, suc, ◌+◌, ◌-◌, ◌<◌, ◌≤◌, ◌++◌, List, [], ◌∷◌, length, refl, ap, ap₂, sym, ◌∙◌, subst, arith, get_or, append-nil, length-append, Option}
 use Rattle.std.specs.Prelude.{All}
 use Rattle.std.specs.List.{sum_by}
-use Rattle.std.proofs.lemmas.List.{map-append}
+use Rattle.std.proofs.lemmas.List.{length-map, map-append}
 use Rattle.std.proofs.lemmas.List.Elements.{All-push}
 use Rattle.std.proofs.lemmas.List.Sums.{sum_by-cons, sum_by_push}
 use mathlib.Core.List.{IsPrefix}
 use Rattle.im_digest.specs.Digests.{Hash}
-use Rattle.im_session.specs.Gathered.{AreGathered, AreHanded, leaves_of, own_of, weight_of}
+use Rattle.im_session.specs.Gathered.{AreGathered, AreHanded, faults_of, leaves_of, own_of, weight_of}
 use Rattle.im_session.specs.Phases.{AreDone, HasGrown}
 use Rattle.im_session.specs.Runs.{Start, start_of}
 use Rattle.im_session.specs.declared.errors.LineError.{LineError}
@@ -32,11 +32,26 @@ pub record TakesIn (table : TableId) (old other new : KnownPass) : Type 0 where
   pub linked : old.view.least.linked ≤ new.view.least.linked
   pub their_linked : other.view.least.linked ≤ new.view.least.linked
   pub failed : old.view.least.failed ≤ new.view.least.failed
+  pub their_failed : other.view.least.failed ≤ new.view.least.failed
   pub own : new.view.own ≡ old.view.own ++ other.view.own
   pub leaves : new.view.leaves ≡ old.view.leaves + other.view.leaves
+  pub faults : new.view.faults ≡ old.view.faults + other.view.faults
 
 pub taken_grown : (table : TableId) (old other new : KnownPass) → TakesIn table old other new → HasGrown old new
 taken_grown table old other new t = record { seen = t.mine; durable = t.durable; linked = t.linked; failed = t.failed }
+
+-- one of a list, with those before it and those behind it
+pub middle : {X : Type 0} (P : X → Type 0) (xs ys : List X) (x : X) → All P (xs ++ x ∷ ys) → P x
+middle P [] ys x all = all 0 x (omega arith)
+middle P (y ∷ xs) ys x all = middle P xs ys x (λ i d lt. all (suc i) d (omega (arith, lt)))
+
+pub inside : {X : Type 0} (all xs ys : List X) (x : X) → all ≡ xs ++ x ∷ ys → length xs < length all
+inside {X} all xs ys x is = let e : length all ≡ length (xs ++ x ∷ ys) = ap (λ (l : List X). length l) is in omega (arith, e, length-append xs (x ∷ ys))
+
+-- where none is left all were yielded
+pub all_of : {X : Type 0} (all xs ys : List X) → all ≡ xs ++ ys → length ys ≡ 0 → xs ≡ all
+all_of all xs [] is none = sym (is ∙ append-nil xs)
+all_of all xs (y ∷ ys) is none = absurd (omega (arith, none))
 
 -- no session's pass was taken in yet
 pub gathered_none : (table : TableId) (p : KnownPass) → IsPassOf table p → AreGathered table p p [] []
@@ -51,9 +66,11 @@ gathered_none table p is = record {
   seen = λ i d lt. absurd (omega arith);
   all_durable = λ i d lt. absurd (omega arith);
   all_linked = λ i d lt. absurd (omega arith);
+  all_failed = λ i d lt. absurd (omega arith);
   own = λ k. omega arith;
   weight = omega arith;
   leaves = omega arith;
+  faults = omega arith;
 }
 
 -- one more
@@ -73,13 +90,20 @@ gathered_push table first old new sessions ended s e g t texts why = record {
       (λ i d lt. prefix_trans (get_or sessions i d).pass.view.seen old.view.seen new.view.seen (g.seen i d lt) t.mine) t.theirs;
   all_durable = All-push (λ (x : Session). x.pass.view.least.durable ≤ new.view.least.durable) sessions s (λ i d lt. (let r = g.all_durable i d lt in omega (arith, r, t.durable))) t.their_durable;
   all_linked = All-push (λ (x : Session). x.pass.view.least.linked ≤ new.view.least.linked) sessions s (λ i d lt. (let r = g.all_linked i d lt in omega (arith, r, t.linked))) t.their_linked;
+  all_failed = All-push (λ (x : Session). x.pass.view.least.failed ≤ new.view.least.failed) sessions s (λ i d lt. (let r = g.all_failed i d lt in omega (arith, r, t.failed))) t.their_failed;
   own = λ k.
       let mine : times k new.view.own ≡ times k old.view.own + times k s.pass.view.own = ap (times k) t.own ∙ times_append k old.view.own s.pass.view.own in
       let before = g.own k in
       omega (arith, mine, before, sum_by_push (own_of k) sessions s);
   weight = omega (arith, g.weight, t.weight, sum_by_push weight_of sessions s);
   leaves = omega (arith, g.leaves, t.leaves, sum_by_push leaves_of sessions s);
+  faults = omega (arith, g.faults, t.faults, sum_by_push faults_of sessions s);
 }
+
+-- as many have left something as have ended
+pub gathered_many : (table : TableId) (old new : KnownPass) (sessions : List Session) (ended : List Ended) → AreGathered table old new sessions ended → length ended ≡ length sessions
+gathered_many table old new sessions ended g =
+    sym (length-map ended (λ (e : Ended). e.texts)) ∙ ap (λ (ts : List (List (List ℕ))). length ts) g.texts ∙ length-map sessions (λ (s : Session). s.texts.items)
 
 -- no pass was handed out yet
 pub handed_none : (table : TableId) (p : KnownPass) → IsPassOf table p → AreHanded table p p 0

@@ -1,6 +1,7 @@
 pub mod GrowLemmas
 pub mod StepLemmas
 pub mod RunLemmas
+pub mod LineLemmas
 pub mod PhaseLemmas
 pub mod TogetherLemmas
 pub mod EndLemmas
@@ -10,6 +11,8 @@ pub mod PlayLemmas
 pub mod SoFarLemmas
 pub mod ReportLemmas
 pub mod AloneLemmas
+pub mod StopLemmas
+pub mod ServeLemmas
 pub mod GatherLemmas
 pub mod DealLemmas
 pub mod WriteLemmas
@@ -18,3 +21,4 @@ pub mod CommitLemmas
 pub mod ProvedLemmas
 pub mod AnswerLemmas
 pub mod ReadLemmas
+pub mod PlayedLemmas

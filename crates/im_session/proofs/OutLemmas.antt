@@ -8,9 +8,9 @@ use Rattle.im_digest.specs.Digests.{Hash}
 use Rattle.im_report.proofs.OutcomeLemmas.{first_answered, replies_answered, replies_unrun}
 use Rattle.im_report.specs.Outcomes.{IsSession, Outcome, answered, halted, line_in, not_run, reply_in}
 use Rattle.im_report.specs.Report.{Answered, answer_line, floor_after}
-use Rattle.im_report.specs.Sessions.{first_replies, replies_in}
+use Rattle.im_report.specs.Sessions.{AreAnswered, first_replies, replies_in}
 use Rattle.im_script.specs.declared.commands.Line.{Line}
-use Rattle.im_session.proofs.AloneLemmas.{ended_alone, ended_idle}
+use Rattle.im_session.proofs.AloneLemmas.{ended_alone, ended_idle, not_answered}
 use Rattle.im_session.proofs.EachLemmas.{StopFits, texts_of}
 use Rattle.im_session.proofs.EndLemmas.{ended_known, ended_lines, ended_own, ended_reached, ended_session, outcomes_of, stop_in}
 use Rattle.im_session.proofs.GrowLemmas.{may_before}
@@ -19,6 +19,7 @@ use Rattle.im_session.specs.Lines.{MayBecome}
 use Rattle.im_session.specs.Phases.{AreDone, RunsAlone, times_in}
 use Rattle.im_session.specs.Runs.{HasRun, IsDone, Start, start_of}
 use Rattle.im_session.specs.declared.errors.LineError.{LineError}
+use Rattle.im_session.specs.declared.errors.LineError.TheVariants.{DiskFault, Memory}
 use Rattle.im_session.specs.declared.sessions.Session.{Session}
 use Rattle.im_table.specs.Histories.{history_of}
 use Rattle.im_table.specs.Known.{KnownPass, TableId}
@@ -76,6 +77,18 @@ fits_outcomes hash start p lines answers None ran = subst (StopFits None) (appen
 fits_outcomes hash start p lines answers (Some why) (line, others, e, cut) =
     fits_answered (Some why) answers (halted line cut.stuck.late ∷ map not_run others) (why, refl, cut.stuck.because)
 
+-- What a session's pass told of faults, by why its next line got no reply: nothing, or it knows of one; and then some line has no reply.
+abbrev pub ToldBy : Option LineError → KnownPass → List Outcome → Type 0
+ToldBy None p out = p.view.faults ≡ 0
+ToldBy (Some DiskFault) p out = (1 ≤ p.view.least.failed) × (AreAnswered out → ⊥)
+ToldBy (Some Memory) p out = (p.view.faults ≡ 0) × (AreAnswered out → ⊥)
+
+ended_told : (hash : Hash) (start : Start) (p : KnownPass) (lines : List Line) (answers : List Answered) (why : Option LineError) (ran : HasRun hash start p lines answers why)
+    → ToldBy why p (outcomes_of answers (stop_in hash start p lines answers why ran))
+ended_told hash start p lines answers None ran = ran.1.calm
+ended_told hash start p lines answers (Some DiskFault) (line, others, e, cut) = (cut.stuck.fault, not_answered answers line cut.stuck.late others)
+ended_told hash start p lines answers (Some Memory) (line, others, e, cut) = (cut.stuck.fault ∙ cut.run.calm, not_answered answers line cut.stuck.late others)
+
 -- What a session left, of which these are the outcomes, begun at these numbers.
 pub record IsOut (hash : Hash) (table : TableId) (low floor : ℕ) (s : Session) (out : List Outcome) : Type 0 where
   pub pass : IsPassOf table s.pass
@@ -85,6 +98,7 @@ pub record IsOut (hash : Hash) (table : TableId) (low floor : ℕ) (s : Session)
   pub own : (k : ℕ) → times k s.pass.view.own ≡ times_in k out
   pub texts : s.texts.items ≡ texts_of out
   pub fits : StopFits s.why out
+  pub told : ToldBy s.why s.pass out
   pub known : All (λ o. All (λ a. a.number ≤ s.pass.view.least.durable) (reply_in o)) out
   pub reached : floor_after floor (replies_in out) ≤ s.pass.view.least.linked
   pub alone : RunsAlone low floor s.pass.view.leaves s.pass out
@@ -113,6 +127,7 @@ out_is hash table low floor before after done e =
       own = ended_own hash st after.pass before.lines.items done.answers after.why done.ran;
       texts = done.texts ∙ ap (map answer_line) (sym (first_of_outcomes done.answers stop));
       fits = fits_outcomes hash st after.pass before.lines.items done.answers after.why done.ran;
+      told = ended_told hash st after.pass before.lines.items done.answers after.why done.ran;
       known = each_of_outcomes (λ a. a.number ≤ after.pass.view.least.durable) done.answers stop (ended_known hash st after.pass before.lines.items done.answers after.why done.ran);
       reached =
           let r : floor_after st.floor done.answers ≤ after.pass.view.least.linked = ended_reached hash st after.pass before.lines.items done.answers after.why done.ran in

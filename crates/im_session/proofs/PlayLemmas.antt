@@ -54,7 +54,7 @@ sum_outs f (first ∷ names) (out ∷ outs) many apart =
     let rest = sum_outs f names outs (omega (arith, many)) (λ i j d lt less. apart (suc i) (suc j) d (omega (arith, lt)) (omega (arith, less))) in
     omega (arith, far, rest, ap (sum_by f) here, sum_by-cons (λ m. sum_by f (each_of (first ∷ names) (out ∷ outs) m)) first names, sum_by-cons (sum_by f) out outs)
 
-length_same : {X Y Z : Type 0} (f : X → Z) (g : Y → Z) (xs : List X) (ys : List Y) → map f xs ≡ map g ys → length xs ≡ length ys
+pub length_same : {X Y Z : Type 0} (f : X → Z) (g : Y → Z) (xs : List X) (ys : List Y) → map f xs ≡ map g ys → length xs ≡ length ys
 length_same f g xs ys e = sym (length-map xs f) ∙ (ap length e ∙ length-map ys g)
 
 -- the sessions with other names have no outcomes
@@ -129,6 +129,7 @@ pub record WasPlayed (hash : Hash) (table : TableId) (names : List (List ℕ)) (
   pub gathered : AreGathered table mid new after ended
   pub grown : HasGrown old mid
   pub own : mid.view.own ≡ old.view.own
+  pub calm : mid.view.faults ≡ old.view.faults
 
 module _ (hash : Hash) (table : TableId) (links : Bool) (names : List (List ℕ)) (lines : List Line) (order : List ℕ) (before after : List Session) (ended : List Ended) (old mid new : KnownPass) where
   -- of each session's lists those that the one list may become
@@ -139,10 +140,10 @@ module _ (hash : Hash) (table : TableId) (links : Bool) (names : List (List ℕ)
     history = m.history;
   }
 
-  abbrev by_name : WasPlayed hash table names lines order before after ended old mid new → Each
+  abbrev pub by_name : WasPlayed hash table names lines order before after ended old mid new → Each
   by_name p = each_of names p.outs.outs
 
-  same_lines : (p : WasPlayed hash table names lines order before after ended old mid new) → map (map line_in) p.outs.outs ≡ map (λ n. lines_with n lines) names
+  pub same_lines : (p : WasPlayed hash table names lines order before after ended old mid new) → map (map line_in) p.outs.outs ≡ map (λ n. lines_with n lines) names
   same_lines p = p.outs.lines_are ∙ p.dealt.each
 
   pub matches_of : (p : WasPlayed hash table names lines order before after ended old mid new) → Matches lines (by_name p)

@@ -9,7 +9,7 @@ use Rattle.im_model.specs.declared.transactions.Transaction.{Transaction}
 use Rattle.im_report.proofs.OutcomeLemmas.{all_in, times_all}
 use Rattle.im_report.proofs.RangeLemmas.{times_all_of, times_length}
 use Rattle.im_report.specs.Outcomes.{Outcome, numbers_in}
-use Rattle.im_report.specs.Sessions.{ArePhases, IsJustOver, SessionsReport, floors_of, times_placed}
+use Rattle.im_report.specs.Sessions.{AreOfOne, ArePhases, IsJustOver, SessionsReport, floors_of, times_placed}
 use Rattle.im_report.specs.Sessions as told
 use Rattle.im_script.specs.declared.commands.Line.{Line}
 use Rattle.im_session.specs.Lines.{MayBecome}
@@ -93,7 +93,7 @@ just_over first now phases found items durable linked none raised m goes placed 
 pub report_of : (hash : Hash) (links : Bool) (first now : KnownPass) (script : List (List Line)) (phases : List (List Outcome)) (found items : List LogItem)
     → AreSoFar hash links first now script phases → first.view.least.durable ≡ length found → first.view.least.linked ≡ length found → first.view.own ≡ [] → first.view.leaves ≡ 0
     → All (λ x. x.found ≡ true) found → GoesOn found items → MayBecome now items → ((k : ℕ) → times k now.view.own ≡ times k (placed_by items))
-    → (links ≡ false → now.view.least.linked ≡ length found + now.view.leaves)
+    → (links ≡ false → AreOfOne phases → now.view.least.linked ≡ length found + now.view.leaves)
     → SessionsReport hash links (history_of found) (history_of items) phases
 report_of hash links first now script phases found items a durable linked none unlinked marked goes m owned raised =
     let h = history_of items in
@@ -109,5 +109,5 @@ report_of hash links first now script phases found items a durable linked none u
       within = λ i d lt j e less. omega (arith, a.most i d lt j e less, m.enough, history_length items);
       placed = placed;
       ran = a.ran;
-      exact = λ off one. just_over first now phases found items durable linked unlinked (raised off) m goes (λ k. sym (times_all k phases) ∙ placed k) (a.alone off one);
+      exact = λ off one. just_over first now phases found items durable linked unlinked (raised off one) m goes (λ k. sym (times_all k phases) ∙ placed k) (a.alone off one);
     }

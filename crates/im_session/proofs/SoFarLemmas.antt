@@ -111,7 +111,7 @@ numbers_most hash h n (o ∷ outcomes) known some most =
     one (inr (line, late, is, tx)) has le = absurd (true≢false (sym (subst (λ (p : Outcome). IsSome p.reply) is has)))
 
 -- of the phases so far
-numbers_known : (hash : Hash) (links : Bool) (first now : KnownPass) (script : List (List Line)) (phases : List (List Outcome)) → AreSoFar hash links first now script phases → All AreAnswered phases
+pub numbers_known : (hash : Hash) (links : Bool) (first now : KnownPass) (script : List (List Line)) (phases : List (List Outcome)) → AreSoFar hash links first now script phases → All AreAnswered phases
     → (items : List LogItem) → MayBecome now items → All (λ n. n ≤ now.view.least.durable) (flat_map numbers_in (flat_map (λ outcomes. outcomes) phases))
 numbers_known hash links first now script phases a whole items m =
     let known = known_phases hash first.view.least.durable first.view.least.linked (history_of items) phases (a.each items m) in

@@ -65,3 +65,24 @@ order_none number order left is = ap (λ (t : Option (List ℕ)). text_before t 
 
 pub stop_none : (number : ℕ) (order : List ℕ) (left : List (List (List ℕ))) → next_text number left ≡ None → stop_in_order (number ∷ order) left ≡ Some number
 stop_none number order left is = ap (λ (t : Option (List ℕ)). stop_or t number (stop_in_order order (without_first number left))) is
+
+-- one line more has its text: what is left is left behind it
+pub front_more : (order next : List ℕ) (lists : List (List (List ℕ))) (count number : ℕ) (text : List ℕ) → drop count order ≡ number ∷ drop (count + 1) order → number < length next
+    → next_text number (behind_each next lists) ≡ Some text
+    → (texts_in_order (drop count order) (behind_each next lists) ≡ text ∷ texts_in_order (drop (count + 1) order) (behind_each (set next number (get_or next number 0 + 1)) lists))
+    × (stop_in_order (drop count order) (behind_each next lists) ≡ stop_in_order (drop (count + 1) order) (behind_each (set next number (get_or next number 0 + 1)) lists))
+front_more order next lists count number text here room is =
+    let rest : List ℕ = drop (count + 1) order in
+    let left : List (List (List ℕ)) = behind_each next lists in
+    let after = behind_next next lists number room in (
+      ap (λ (o : List ℕ). texts_in_order o left) here ∙ (order_some number rest left text is ∙ ap (λ (l : List (List (List ℕ))). text ∷ texts_in_order rest l) after),
+      ap (λ (o : List ℕ). stop_in_order o left) here ∙ (stop_some number rest left text is ∙ ap (λ (l : List (List (List ℕ))). stop_in_order rest l) after),
+    )
+
+-- or it is the first without one
+pub front_stop : (order next : List ℕ) (lists : List (List (List ℕ))) (count number : ℕ) → drop count order ≡ number ∷ drop (count + 1) order → next_text number (behind_each next lists) ≡ None
+    → (texts_in_order (drop count order) (behind_each next lists) ≡ []) × (stop_in_order (drop count order) (behind_each next lists) ≡ Some number)
+front_stop order next lists count number here is =
+    let rest : List ℕ = drop (count + 1) order in
+    let left : List (List (List ℕ)) = behind_each next lists in
+    (ap (λ (o : List ℕ). texts_in_order o left) here ∙ order_none number rest left is, ap (λ (o : List ℕ). stop_in_order o left) here ∙ stop_none number rest left is)

@@ -1,5 +1,5 @@
 -- A pass that hands passes out, and takes them in again.
-use Rattle.std.specs.Prelude.{◌≡◌, ◌+◌, ◌≤◌, ◌++◌, ℕ, List, map, All}
+use Rattle.std.specs.Prelude.{◌≡◌, ◌+◌, ◌≤◌, ℕ, List, map, All}
 use Rattle.std.specs.List.{sum_by}
 use mathlib.Core.List.{IsPrefix}
 use Rattle.im_session.specs.declared.sessions.Ended.{Ended}
@@ -32,6 +32,10 @@ leaves_of s = s.pass.view.leaves
 abbrev pub weight_of : Session → ℕ
 weight_of s = s.pass.view.weight
 
+-- how many failures a session's pass told
+abbrev pub faults_of : Session → ℕ
+faults_of s = s.pass.view.faults
+
 -- behind taking in the passes of these sessions, of which this is left
 pub record AreGathered (table : TableId) (old new : KnownPass) (sessions : List Session) (ended : List Ended) : Type 0 where
   pub pass : IsPassOf table new
@@ -44,6 +48,8 @@ pub record AreGathered (table : TableId) (old new : KnownPass) (sessions : List 
   pub seen : All (λ s. IsPrefix s.pass.view.seen new.view.seen) sessions
   pub all_durable : All (λ s. s.pass.view.least.durable ≤ new.view.least.durable) sessions
   pub all_linked : All (λ s. s.pass.view.least.linked ≤ new.view.least.linked) sessions
+  pub all_failed : All (λ s. s.pass.view.least.failed ≤ new.view.least.failed) sessions
   pub own : (k : ℕ) → times k new.view.own ≡ times k old.view.own + sum_by (own_of k) sessions
   pub weight : new.view.weight ≡ old.view.weight + sum_by weight_of sessions
   pub leaves : new.view.leaves ≡ old.view.leaves + sum_by leaves_of sessions
+  pub faults : new.view.faults ≡ old.view.faults + sum_by faults_of sessions

@@ -6,5 +6,4 @@ pub mod Dealing
 pub mod Gathered
 pub mod Phases
 pub mod Written
-pub mod Calls
 pub mod Served

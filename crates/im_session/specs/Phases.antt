@@ -1,5 +1,5 @@
 -- What a phase comes to, between two moments of the pass that takes all others in; and what phases come to, one after the other.
-use Rattle.std.specs.Prelude.{◌≡◌, ◌⊎◌, ◌<◌, ◌≤◌, ◌+◌, ◌-◌, ◌++◌, ℕ, List, [], ◌∷◌, length, take, drop, map, max, false, Bool, All, IsTrue, Option, Some, None, IfSome, slice_index_or}
+use Rattle.std.specs.Prelude.{◌≡◌, ◌<◌, ◌≤◌, ◌+◌, ℕ, List, [], ◌∷◌, length, drop, map, false, Bool, All, Option, Some, None, slice_index_or}
 use Rattle.std.specs.List.{flat_map, sum_by}
 use mathlib.Core.List.{IsPrefix}
 use Rattle.im_digest.specs.Digests.{Hash}
@@ -11,6 +11,7 @@ use Rattle.im_script.specs.declared.commands.Line.{Line}
 use Rattle.im_session.specs.Lines.{IsWhy, MayBecome}
 use Rattle.im_session.specs.Runs.{IsDone, Start}
 use Rattle.im_session.specs.declared.errors.LineError.{LineError}
+use Rattle.im_session.specs.declared.errors.LineError.TheVariants.{DiskFault}
 use Rattle.im_session.specs.declared.sessions.Session.{Session}
 use Rattle.im_table.specs.Histories.{history_of}
 use Rattle.im_table.specs.Known.{KnownPass, TableId}
@@ -38,6 +39,13 @@ pub record StopsAt (outcomes : List Outcome) (why : LineError) : Type 0 where
 abbrev pub EndsPhase : List Outcome → Option LineError → Type 0
 EndsPhase outcomes None = AreAnswered outcomes
 EndsPhase outcomes (Some why) = StopsAt outcomes why
+
+-- What a pass knows of faults behind a phase, and by why the phase stopped, if it did: of one where the disk failed at the first line without a reply. It told none where
+-- all lines were answered; nor where all are of one session, and it wasn't the disk that failed there.
+pub record KnowsFaults (old new : KnownPass) (outcomes : List Outcome) (why : Option LineError) : Type 0 where
+  pub knows : why ≡ Some DiskFault → 1 ≤ new.view.least.failed
+  pub calm : AreAnswered outcomes → new.view.faults ≡ old.view.faults
+  pub alone : AreOfOne (outcomes ∷ []) → (why ≡ Some DiskFault → ⊥) → new.view.faults ≡ old.view.faults
 
 -- how often a number is that of a transaction placed for a line of these
 abbrev pub times_in : ℕ → List Outcome → ℕ

@@ -88,6 +88,7 @@ pub record IsHelper (table : TableId) (p : KnownPass) : Type 0 where
   pub pass : IsPassOf table p
   pub weight : p.view.weight ≡ 1
   pub none : p.view.own ≡ []
+  pub calm : p.view.faults ≡ 0
 
 -- one that doesn't link either
 pub record IsIdle (table : TableId) (p : KnownPass) : Type 0 where

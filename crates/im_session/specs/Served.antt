@@ -1,20 +1,19 @@
 -- What a script made of a store, and of a disk.
-use Rattle.std.specs.Prelude.{◌≡◌, ◌⊎◌, ◌<◌, ◌≤◌, ◌+◌, ◌-◌, ◌++◌, ℕ, ℤ, List, [], ◌∷◌, length, take, drop, map, Bool, All, Option, Some, None, IfSome, Result, Ok, Err}
-use Rattle.std.specs.List.{flat_map}
+use Rattle.std.specs.Prelude.{◌≡◌, ◌⊎◌, ◌<◌, ◌≤◌, ◌+◌, ◌++◌, ℕ, ℤ, List, [], ◌∷◌, length, take, drop, map, Bool, All, Option, Some, None, IfSome, Result, Ok, Err}
 use Rattle.std.specs.Io.KnownBytes.{Appends}
 use Rattle.im_digest.specs.Digests.{Hash}
 use Rattle.im_accept.specs.Taken.{AreReadBack}
-use Rattle.im_disk.specs.Disk.{Told}
+use Rattle.im_disk.specs.Disk.{Told, seen}
 use Rattle.im_disk.specs.Moments.{Leaves, LeavesNow}
 use Rattle.im_edge.specs.Clocks.{AddsTimes}
 use Rattle.im_edge.specs.Counts.{Rose}
-use Rattle.im_format.specs.Standing.{StandsFrom}
+use Rattle.im_format.specs.Standing.{Stands, StandsFrom}
 use Rattle.im_model.specs.declared.transactions.Transaction.{Transaction}
 use Rattle.im_report.specs.Outcomes.{Outcome}
 use Rattle.im_report.specs.Sessions.{AreAnswered, AreOfOne, SessionsReport, lines_in, phase_text, phases_text, replies_in}
 use Rattle.im_script.specs.declared.commands.Line.{Line}
+use Rattle.im_seated_journal.specs.Calls.{MakesBatches, StandsPut}
 use Rattle.im_seated_journal.specs.Seats.{RoseBy}
-use Rattle.im_session.specs.Calls.{MakesBatches}
 use Rattle.im_session.specs.Phases.{AreSoFar, IsPlayed, StopsAt}
 use Rattle.im_session.specs.declared.errors.LineError.{LineError}
 use Rattle.im_session.specs.declared.errors.LineError.TheVariants as line
@@ -37,10 +36,14 @@ AskedFor txs before now = AddsTimes before now (map (λ (tx : Transaction). tx.t
 abbrev pub AddsLess : List ℕ → Option (List ℕ) → Option (List ℕ) → Type 0
 AddsLess text before after = (n : ℕ) × (n < length text) × Appends before after (take n text)
 
+-- the sink failed once
+abbrev pub FailedOnce : ℕ → ℕ → Type 0
+FailedOnce before now = Rose before now × (now ≤ before + 1)
+
 -- the text was written whole, and the sink didn't fail; or a front part of it, not all of it, and the sink failed
 abbrev pub Writes : List ℕ → Option (List ℕ) → Option (List ℕ) → ℕ → ℕ → Type 0
 Writes text before now faults_before faults_now =
-    (Appends before now text × (faults_now ≡ faults_before)) ⊎ (AddsLess text before now × Rose faults_before faults_now)
+    (Appends before now text × (faults_now ≡ faults_before)) ⊎ (AddsLess text before now × FailedOnce faults_before faults_now)
 
 -- How far a phase, of these outcomes, was written, by how the script ended there.
 abbrev pub WritesPhase : List Outcome → Option (List ℕ) → Option (List ℕ) → ℕ → ℕ → Result Unit Stopped → Type 0
@@ -49,12 +52,25 @@ WritesPhase outcomes before now faults_before faults_now (Ok done) =
 WritesPhase outcomes before now faults_before faults_now (Err (stops.Line why)) =
     StopsAt outcomes why × Writes (phase_text outcomes) before now faults_before faults_now
 WritesPhase outcomes before now faults_before faults_now (Err stops.Write) =
-    AreAnswered outcomes × AddsLess (phase_text outcomes) before now × Rose faults_before faults_now
+    AreAnswered outcomes × AddsLess (phase_text outcomes) before now × FailedOnce faults_before faults_now
+
+-- how a script ended by why its phase stopped, if it did
+abbrev pub EndsBy : Option LineError → Result Unit Stopped → Type 0
+EndsBy None end = (why : LineError) → end ≡ Err (stops.Line why) → ⊥
+EndsBy (Some why) end = end ≡ Err (stops.Line why)
+
+-- What a pass knows of faults behind phases, by how the script ended there: of one where the disk failed at the line that stopped it. It told none where all lines were
+-- answered; nor where all are of one session, and it wasn't the disk that stopped it.
+pub record TellsFaults (old new : KnownPass) (phases : List (List Outcome)) (end : Result Unit Stopped) : Type 0 where
+  pub knows : end ≡ Err (stops.Line line.DiskFault) → 1 ≤ new.view.least.failed
+  pub calm : All AreAnswered phases → new.view.faults ≡ old.view.faults
+  pub alone : AreOfOne phases → (end ≡ Err (stops.Line line.DiskFault) → ⊥) → new.view.faults ≡ old.view.faults
 
 -- one phase was played, and written as far as it says
 pub record RunsPhase (hash : Hash) (links : Bool) (old new : KnownPass) (lines : List Line) (before now : Option (List ℕ)) (faults_before faults_now : ℕ) (end : Result Unit Stopped) : Type 0 where
   pub outcomes : List Outcome
   pub played : IsPlayed hash links old new lines outcomes
+  pub faults : TellsFaults old new (outcomes ∷ []) end
   pub wrote : WritesPhase outcomes before now faults_before faults_now end
 
 -- How far phases were written, the last one of them by how the script ended: those before it were written whole, as soon as they were joined.
@@ -73,11 +89,13 @@ pub record RunsPhases (hash : Hash) (links : Bool) (old new : KnownPass) (script
   pub all : end ≡ Ok tt → unrun ≡ []
   pub phases : List (List Outcome)
   pub so_far : AreSoFar hash links old new ran phases
+  pub faults : TellsFaults old new phases end
   pub wrote : WritesPhases phases before now faults_before faults_now end
 
 -- What a script came to, as far as its phases were run: all of them where it ended well. The phases' report is that of one history, from what was found to
 -- what was placed, and each message in it is read as the one that was asked for. Each image of the disk now stands for a front part of that history, which holds
--- the number of each reply; and since the opening's first sync each image of each moment stood for one that holds what was found. The clock was asked
+-- the number of each reply; and since the opening's first sync each image of each moment stood for one that holds what was found. Where each line that was run
+-- was answered, each image now stands for the whole history, and so does what reads give, the values put by the rule. The clock was asked
 -- once for each transaction that was placed, in order, and for nothing else. The disk got the calls of batches of these transactions, in order, and no other
 -- call that changes it, and has failed at least once where a line tells a fault of it.
 pub record Serves {D : Type 0} (told : D → Option Told) (faults : D → ℕ) (links : Bool) (n : Naming) (script : List (List Line)) (written_before written_now : Option (List ℕ)) (sink_before sink_now : ℕ)
@@ -98,7 +116,9 @@ pub record Serves {D : Type 0} (told : D → Option Told) (faults : D → ℕ) (
   pub same : constant ≡ n.time
   pub timed : All (HasTime n.time) (drop (length n.found) history)
   pub asked : AskedFor (drop (length n.found) history) n.given given
-  pub calls : MakesBatches n.digest n.logs (length n.found) history n.synced (told disk)
+  pub whole : ((why : LineError) → end ≡ Err (stops.Line why) → ⊥) → LeavesNow (λ image. Stands n.digest image history) (told disk)
+  pub here : ((why : LineError) → end ≡ Err (stops.Line why) → ⊥) → IfSome (told disk) (λ t. StandsPut n.digest n.logs (length n.found) history (seen t))
+  pub calls : MakesBatches n.digest n.logs (length n.found) durable history n.synced (told disk)
   pub fault : end ≡ Err (stops.Line line.DiskFault) → RoseBy n.faults (faults disk) 1
   pub unharmed : ((why : LineError) → end ≡ Err (stops.Line why) → ⊥) → faults disk ≡ n.faults
   pub unharmed_alone : AreOfOne phases → (end ≡ Err (stops.Line line.DiskFault) → ⊥) → faults disk ≡ n.faults

@@ -4,7 +4,7 @@ ghost use Rattle.std.specs.List.{All, flat_map};
 ghost use Rattle.im_report.specs.Outcomes.{Outcome};
 ghost use Rattle.im_report.specs.Sessions.{phase_text};
 ghost use Rattle.im_session.specs.Dealing.{AreDealt, AreNamed};
-ghost use Rattle.im_session.specs.Phases.{EndsPhase, IsPlayed};
+ghost use Rattle.im_session.specs.Phases.{EndsPhase, IsPlayed, KnowsFaults};
 ghost use Rattle.im_session.specs.Gathered.{AreGathered, AreHanded, IsWholePass};
 ghost use Rattle.im_session.specs.Runs.{IsReady};
 ghost use Rattle.im_session.specs.Written.{first_texts, stop_of};
@@ -158,7 +158,8 @@ pub(crate) fn play<
     requires few { length names.now ≤ 8 }
     ensures pass { IsWholePass N.table main.new }
     ensures played { IfOk result (λ played. (outcomes : List Outcome) × IsPlayed N.digest links main.old main.new phase outcomes
-        × (flat_map (λ text. text) (first_texts played.order.items played.ended.items) ≡ phase_text outcomes) × EndsPhase outcomes (stop_of played.order.items played.ended.items)) }
+        × (flat_map (λ text. text) (first_texts played.order.items played.ended.items) ≡ phase_text outcomes) × EndsPhase outcomes (stop_of played.order.items played.ended.items)
+        × KnowsFaults main.old main.new outcomes (stop_of played.order.items played.ended.items)) }
     ensures order { IfOk result (λ played. All (λ number. number < length played.ended.items) played.order.items × (length played.ended.items ≤ 8)) }
     ensures nothing { OnErr result (main.new ≡ main.old) }
 {

@@ -6,8 +6,9 @@ ghost use Rattle.im_session.specs.Dealing.{AreNamed};
 ghost use Rattle.im_session.specs.Gathered.{IsWholePass};
 ghost use Rattle.im_report.specs.Sessions.{phase_text};
 ghost use Rattle.im_session.specs.Phases.{EndsPhase};
-ghost use Rattle.im_session.specs.Served.{RunsPhase, RunsPhases, Serves, WritesPhase};
+ghost use Rattle.im_session.specs.Served.{EndsBy, RunsPhase, RunsPhases, Serves, WritesPhase};
 ghost use Rattle.im_session.specs.Written.{first_texts, stop_of};
+ghost use Rattle.im_store.specs.Names.{naming_of};
 
 use crate::errors::LineError;
 use crate::play::{Played, play};
@@ -51,19 +52,22 @@ pub struct Served<D, C> {
 // Writes what a phase was answered, up to the first line without a reply, which ends the script.
 fn tell<K: Sink>(sink: &mut K, played: Played) -> Result<(), Stopped>
     requires few { All (λ number. number < length played.ended.items) played.order.items × (length played.ended.items ≤ 8) }
-    ensures { (outcomes : List Outcome) → flat_map (λ text. text) (first_texts played.order.items played.ended.items) ≡ phase_text outcomes
+    ensures wrote { (outcomes : List Outcome) → flat_map (λ text. text) (first_texts played.order.items played.ended.items) ≡ phase_text outcomes
         → EndsPhase outcomes (stop_of played.order.items played.ended.items)
         → WritesPhase outcomes (K.written sink.old) (K.written sink.new) (K.faults sink.old) (K.faults sink.new) result }
+    ensures by { EndsBy (stop_of played.order.items played.ended.items) result }
 {
     let Played { order, ended } = played;
     let Front { count, why } = front_of(&order, &ended);
     let wrote = write_front(sink, &order[..count], &ended);
     drop(order);
     drop(ended);
-    match (why, wrote) {
-        (Some(why), _) => Err(Stopped::Line(why)),
-        (None, Err(WriteFault)) => Err(Stopped::Write),
-        (None, Ok(())) => Ok(()),
+    match why {
+        Some(why) => Err(Stopped::Line(why)),
+        None => match wrote {
+            Ok(()) => Ok(()),
+            Err(WriteFault) => Err(Stopped::Write),
+        },
     }
 }
 
@@ -165,14 +169,14 @@ pub fn serve<
     links: bool,
 ) -> Served<D, C>
     requires tip { (opened.table ≡ N.table) × (opened.found ≡ N.found) × (opened.logs ≡ N.logs) }
-    requires hash { opened.digest ≡ N.digest }
-    requires disk { (opened.synced ≡ N.synced) × (opened.faults ≡ N.faults) }
-    requires clock { (opened.time ≡ N.time) × (opened.given ≡ N.given) }
+    requires hash { H.digest opened.hash ≡ N.digest }
+    requires disk { (D.told opened.disk ≡ N.synced) × (D.faults opened.disk ≡ N.faults) }
+    requires clock { (C.constant opened.clock ≡ N.time) × (C.given opened.clock ≡ N.given) }
     requires marked { All (λ item. item.found ≡ true) opened.found }
     requires passes { (passes.items ≡ []) × (1 ≤ passes.capacity) }
     requires named { script.names.items ≡ names_of [] (lines_of script.phases.items) }
     requires few { length script.names.items ≤ 8 }
-    ensures served { Serves D.told D.faults links opened script.phases.items (K.written sink.old) (K.written sink.new) (K.faults sink.old) (K.faults sink.new) result.disk (C.constant result.clock) (C.given result.clock) result.end }
+    ensures served { Serves D.told D.faults links (naming_of H.digest D.told D.faults C.constant C.given opened) script.phases.items (K.written sink.old) (K.written sink.new) (K.faults sink.old) (K.faults sink.new) result.disk (C.constant result.clock) (C.given result.clock) result.end }
 {
     let (store, mut main) = opened.named::<N>();
     let end = run_phases(rt, alloc, gate, sink, &store, &mut main, script, links);

@@ -1,7 +1,7 @@
-use Rattle.std.proofs.Common.{◌≡◌, ◌++◌, List, map}
+use Rattle.std.proofs.Common.{◌≡◌, ◌++◌}
 use mathlib.Core.List.{IsPrefix}
-use Rattle.im_report.specs.Report.{Answered, answer_line}
-use Rattle.im_session.specs.Runs.{IsRun, start_of}
+use Rattle.im_session.proofs.LineLemmas.{AreRun}
+use Rattle.im_session.specs.Runs.{start_of}
 use Rattle.im_table.specs.Passes.{IsPassOf}
 use Rattle.im_session.proofs.lines.run_lines.Given as goal
 
@@ -12,8 +12,7 @@ invariant-loop-line g l = record {
   all : l.fn.lines.items ≡ l.yielded ++ l.line-iterator.rest.items;
   pass : IsPassOf g.N.TipName.table l.session.pass;
   weight : l.session.pass.view.weight ≡ 1;
-  number : l.session.number ≡ l.fn.session.number;
-  seen : IsPrefix l.fn.session.pass.view.seen l.session.pass.view.seen;
-  run : (answers : List Answered) × (l.session.texts.items ≡ map answer_line answers) × (map (λ a. a.line) answers ≡ l.yielded)
-      × IsRun g.N.TipName.digest (start_of l.fn.session) l.session.pass answers;
+  number : l.session.number ≡ l.initial.session.number;
+  seen : IsPrefix l.initial.session.pass.view.seen l.session.pass.view.seen;
+  run : AreRun g.N.TipName.digest (start_of l.initial.session) l.session.pass l.session.texts.items l.yielded;
 }

@@ -1,4 +1,4 @@
-use Rattle.std.proofs.Common.{◌≡◌, ◌+◌, ◌++◌, length}
+use Rattle.std.proofs.Common.{◌≡◌, ◌≤◌, ◌++◌, length}
 use Rattle.im_session.specs.Gathered.{AreGathered}
 use Rattle.im_table.specs.Passes.{IsPassOf}
 use Rattle.im_session.proofs.play.gather.Given as goal
@@ -10,5 +10,6 @@ invariant-loop-session g l = record {
   all : l.fn.sessions.items ≡ l.yielded ++ l.session-iterator.rest.items;
   main : IsPassOf g.N.TipName.table l.main;
   number : l.number ≡ length l.yielded;
-  gathered : AreGathered g.N.TipName.table l.fn.main l.main l.yielded l.ended.items;
+  gathered : AreGathered g.N.TipName.table l.initial.main l.main l.yielded l.ended.items;
+  room : length l.fn.sessions.items ≤ l.ended.capacity;
 }

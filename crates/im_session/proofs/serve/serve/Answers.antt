@@ -1,0 +1,36 @@
+use Rattle.std.proofs.Common.{rules, ◌≡◌, ◌∷◌, [], ℤ, List, Option, subst, sym}
+use Rattle.im_session.proofs.ServeLemmas.{serves_of}
+use Rattle.im_session.specs.Served.{Serves}
+use Rattle.im_store.specs.Closing.{ClosesStore}
+use Rattle.im_store.specs.Names.{Naming, naming_of}
+use Rattle.im_table.specs.Known.{KnownPass}
+use Rattle.im_session.proofs.serve.serve.Goals as goal
+
+pub returns : goal.returns
+returns g c =
+    let n : Naming = record {
+      table = g.N.TipName.table;
+      found = g.N.TipName.found;
+      logs = g.N.TipName.logs;
+      digest = g.N.TipName.digest;
+      synced = g.N.TipName.synced;
+      faults = g.N.TipName.faults;
+      time = g.N.TipName.time;
+      given = g.N.TipName.given;
+    } in
+    let named : naming_of g.H.Hash32.digest g.D.Disk.told g.D.Disk.faults g.C.Clock.constant g.C.Clock.given c.args.opened ≡ n = cc (c.requires.tip, c.requires.hash, c.requires.disk, c.requires.clock) in
+    let first : KnownPass = c.named-store.result.1 in
+    let now : KnownPass = c.run_phases-end.new.main in
+    let disk = c.close-disk.result.0 in
+    let clock = c.close-disk.result.1 in
+    let passes : c.push_reserved.new.self.items ≡ now ∷ [] = search rules in
+    let closes = subst (λ (ps : List KnownPass). ClosesStore g.D.Disk.told g.D.Disk.faults n.digest n.logs n.found n.synced n.faults n.time n.given ps disk (g.C.Clock.constant clock) (g.C.Clock.given clock)) passes
+    c.close-disk.ensures in
+    let store = c.named-store.ensures in
+    let serves = serves_of g.D.Disk.told g.D.Disk.faults c.args.links n first now c.args.script.phases.items (g.K.Sink.written c.args.sink.now) (g.K.Sink.written c.run_phases-end.new.sink)
+    (g.K.Sink.faults c.args.sink.now) (g.K.Sink.faults c.run_phases-end.new.sink) disk (g.C.Clock.constant clock) (g.C.Clock.given clock) c.run_phases-end.result c.run_phases-end.ensures.ran closes
+    store.durable store.known.0 store.none.0 store.none.1 store.none.2 c.run_phases-end.ensures.pass.1 (search rules) in
+    record {
+      served = subst (λ (m : Naming). Serves g.D.Disk.told g.D.Disk.faults c.args.links m c.args.script.phases.items (g.K.Sink.written c.args.sink.now) (g.K.Sink.written c.run_phases-end.new.sink)
+          (g.K.Sink.faults c.args.sink.now) (g.K.Sink.faults c.run_phases-end.new.sink) disk (g.C.Clock.constant clock) (g.C.Clock.given clock) c.run_phases-end.result) (sym named) serves;
+    }
