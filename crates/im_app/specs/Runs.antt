@@ -1,5 +1,5 @@
 -- What a run did.
-use Rattle.std.specs.Prelude.{◌≡◌, ◌⊎◌, ◌≤◌, ◌++◌, ℤ, ℕ, List, [], length, take, drop, map, Bool, true, false, All, Option, Some, IfSome, Result, Ok, Err}
+use Rattle.std.specs.Prelude.{◌≡◌, ◌⊎◌, ◌≤◌, ◌++◌, ℤ, ℕ, List, [], length, take, drop, map, Bool, true, false, All, Option, Some, IfSome, Ok, Err}
 use Rattle.im_digest.specs.Digests.{Hash}
 use Rattle.im_accept.specs.Taken.{AreAcceptedAnswers, line_text}
 use Rattle.im_disk.specs.Disk.{Files, Told, after, seen}
@@ -15,11 +15,10 @@ use Rattle.im_report.specs.Outcomes.{Outcome}
 use Rattle.im_report.specs.Sessions.{SessionsReport, first_replies, lines_in, phase_text, replies_in}
 use Rattle.im_script.specs.Script.{IsScript, lines_of}
 use Rattle.im_script.specs.declared.commands.Line.{Line}
-use Rattle.im_session.specs.Calls.{MakesBatches, StandsPut}
+use Rattle.im_seated_journal.specs.Calls.{MakesBatches, StandsPut}
 use Rattle.im_session.specs.Served.{AskedFor, HasTime, WritesPhases}
 use Rattle.im_session.specs.declared.errors.LineError.{LineError}
 use Rattle.im_session.specs.declared.errors.LineError.TheVariants as line
-use Rattle.im_session.specs.declared.serve.Stopped.{Stopped}
 use Rattle.im_session.specs.declared.serve.Stopped.TheVariants as stops
 use Rattle.im_text.specs.Lines.{AreTexts}
 use Rattle.im_words.specs.declared.Link.{Link}
@@ -41,11 +40,11 @@ has_linker Manual = false
 
 -- The changing calls that a run made, in order, and no other. Where the disk told something before, opening made a sync,
 -- and closed the gate behind the batches that were found where it was missing or cut off: a write and a sync more. From
--- there on those of the batches of the new transactions were made, one or more transactions in each, the last one as far as they
--- came, and the one that failed, if one did.
-pub record MakesRun (hash : Hash) (logs n : ℕ) (history : List Transaction) (before now : Option Told) : Type 0 where
+-- there on those of the batches of the new transactions that are durable were made, one or more transactions in each, and behind them those of a
+-- last batch as far as they came, and the one that failed, if one did.
+pub record MakesRun (hash : Hash) (logs n durable : ℕ) (history : List Transaction) (before now : Option Told) : Type 0 where
   pub opened : Option Told
-  pub sessions : MakesBatches hash logs n history opened now
+  pub sessions : MakesBatches hash logs n durable history opened now
   pub opening : IfSome before (λ t. IsOpenedBy (gate_of (length sessions.first)) t opened)
 
 -- What a run of a script came to, as far as its phases were run, at the clock's time where it tells one: one history, which begins with the one
@@ -78,7 +77,7 @@ pub record IsReport (hash : Hash) (constant : Option ℤ) (logs : ℕ) (link : L
   pub told_durable : All (λ outcomes. All (λ a. a.number ≤ durable) (replies_in outcomes)) phases
   pub images : LeavesNow (StandsFrom hash durable history) now
   pub moments : IfSome before (λ t. Leaves (StandsFrom hash (length found) history) (Some (after Synced t)) now)
-  pub calls : MakesRun hash logs (length found) history before now
+  pub calls : MakesRun hash logs (length found) durable history before now
 
 -- All phases were run, all lines answered, and their replies written, and nothing else. Each image stands for the whole history, and so
 -- does what reads give, where the values of each new transaction are put over so many value logs.

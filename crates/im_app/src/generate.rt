@@ -12,8 +12,8 @@ ghost use Rattle.im_verify.specs.Judged.{IsVerified, NoneForked, NoneRefused, ke
 ghost use Rattle.im_app.specs.Generated.{IsGenerated, IsReported, WritesGenerated, WritesGeneratedPart, last_alh};
 ghost use Rattle.im_app.specs.Statuses.{EndsGenerated};
 
-use crate::run::{Ran, run};
-use crate::status::Status;
+use crate::run::run;
+use crate::status::{Done, Status};
 use crate::verdict::verdict;
 use im_digest::{D32, Hash32};
 use im_disk::memory::MemDisk;
@@ -69,7 +69,7 @@ fn reported<H: Hash32 + Sync, R: Threads + Wait + Sync>(
     let mut source = Reading::new(script);
     let mut sink = Writing::new(Vec::new(alloc));
     let clock = FixedClock { time: 0 };
-    let Ran { status, disk, .. } = run(
+    let Done { status, disk, .. } = run(
         rt,
         alloc,
         hash,
@@ -112,7 +112,6 @@ fn accepted<H: Hash32>(alloc: Global, hash: &H, report: &[u8]) -> Result<u64, Un
 
 // The last of these Alh, that of the empty string where there is none.
 fn alh_of<H: Hash32>(hash: &H, alhs: &[D32]) -> D32
-    requires { (history : List Transaction) × (alhs.now ≡ alhs_of (H.digest hash.now) history) }
     ensures { (history : List Transaction) → alhs.now ≡ alhs_of (H.digest hash.now) history → result ≡ last_alh (H.digest hash.now) history }
 {
     match alhs.last() {
@@ -134,7 +133,8 @@ fn left_on<H: Hash32>(alloc: Global, hash: &H, disk: MemDisk) -> Result<Left, Un
         → IfOk result (λ left. (left.count ≡ length history) × (left.alh ≡ last_alh (H.digest hash.now) history)) }
 {
     match recover(alloc, hash, disk) {
-        Ok(Recovered { journal, found }) => {
+        Ok(recovered) => {
+            let Recovered { journal, found } = recovered;
             drop(journal);
             let count = found.alhs.len() as u64;
             let alh = alh_of(hash, &found.alhs);

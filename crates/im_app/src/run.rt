@@ -17,11 +17,12 @@ ghost use Rattle.im_app.specs.Statuses.{EndsGiven, EndsReading, EndsRun, EndsWri
 ghost use Rattle.im_opening.specs.Cut.{SyncsAtMost};
 ghost use Rattle.im_script.specs.Script.{lines_of, names_of};
 ghost use Rattle.im_session.specs.Served.{Serves};
+ghost use Rattle.im_store.specs.Names.{naming_of};
 ghost use Rattle.im_session.specs.declared.errors.LineError.{LineError as Why};
 ghost use Rattle.im_session.specs.declared.serve.Stopped.{Stopped as TheStopped};
 ghost use Rattle.im_script.specs.declared.commands.Line.{Line as TheLine};
 
-use crate::status::Status;
+use crate::status::{Done, Status};
 use im_digest::Hash32;
 use im_disk::disk::Disk;
 use im_edge::clock::Clock;
@@ -42,14 +43,6 @@ use std::alloc::Global;
 use std::marker::Brand;
 use std::sync::Wait;
 use std::thread::Threads;
-
-/// How a run ended, and its disk and clock.
-#[derive(Drop)]
-pub(crate) struct Ran<D: Drop, C: Drop> {
-    pub(crate) status: Status,
-    pub(crate) disk: D,
-    pub(crate) clock: C,
-}
 
 // Reads a script from a source, to its end.
 fn read_phases<S: Source>(alloc: Global, source: &mut S) -> Result<Script, Status>
@@ -118,18 +111,18 @@ fn serve_script<
     passes: Vec<Pass>,
     script: Script,
     links: bool,
-) -> Ran<D, C>
+) -> Done<D, C>
     requires marked { All (λ item. item.found ≡ true) opened.found }
     requires passes { (passes.items ≡ []) × (1 ≤ passes.capacity) }
     requires named { script.names.items ≡ names_of [] (lines_of script.phases.items) }
     requires few { length script.names.items ≤ 8 }
     ensures served { (end : Result Unit TheStopped) × (result.status ≡ status_behind end)
-        × Serves D.told D.faults links opened script.phases.items (K.written sink.old) (K.written sink.new) (K.faults sink.old) (K.faults sink.new) result.disk (C.constant result.clock) (C.given result.clock) end }
+        × Serves D.told D.faults links (naming_of H.digest D.told D.faults C.constant C.given opened) script.phases.items (K.written sink.old) (K.written sink.new) (K.faults sink.old) (K.faults sink.new) result.disk (C.constant result.clock) (C.given result.clock) end }
 {
     let Served { disk, clock, end } = serve::<H, K, D, C, G, Brand, R>(
         rt, alloc, gate, sink, opened, passes, script, links,
     );
-    Ran {
+    Done {
         status: status_after(end),
         disk,
         clock,
@@ -155,7 +148,7 @@ fn run_script<
     logs: u8,
     link: Link,
     script: Script,
-) -> Ran<D, C>
+) -> Done<D, C>
     requires logs { (1 ≤ logs) × (logs ≤ 4) }
     requires named { script.names.items ≡ names_of [] (lines_of script.phases.items) }
     requires few { length script.names.items ≤ 8 }
@@ -188,7 +181,7 @@ fn run_script<
 {
     let Ok(passes) = Vec::with_capacity(alloc, 1) else {
         drop(script);
-        return Ran {
+        return Done {
             status: Status::Memory,
             disk,
             clock,
@@ -199,7 +192,7 @@ fn run_script<
         Err(failed) => {
             drop(script);
             let OpenFailed { why, disk, clock } = failed;
-            Ran {
+            Done {
                 status: status_of(why),
                 disk,
                 clock,
@@ -237,7 +230,7 @@ pub(crate) fn run<
     clock: C,
     logs: u8,
     link: Link,
-) -> Ran<D, C>
+) -> Done<D, C>
     requires logs { (1 ≤ logs) × (logs ≤ 4) }
     ensures report { result.status ≡ Status.Ok
         → WritesReport (H.digest hash.now) (C.constant clock) logs link (S.left source.old) (D.told disk) (D.told result.disk) (C.given clock) (C.given result.clock) (K.written sink.old) (K.written sink.new) (K.faults sink.old) (K.faults sink.new) }
@@ -289,7 +282,7 @@ pub(crate) fn run<
 {
     match read_phases(alloc, source) {
         Ok(script) => run_script(rt, alloc, hash, gate, sink, disk, clock, logs, link, script),
-        Err(status) => Ran {
+        Err(status) => Done {
             status,
             disk,
             clock,

@@ -28,7 +28,7 @@ ghost use Rattle.im_app.specs.Runs.{GivesScript, HasOneSession, IsGiven, KeepsFo
 ghost use Rattle.im_app.specs.Statuses.{EndsGenerated, EndsGiven, EndsReading, EndsRun, EndsShow, EndsVerify, status_for};
 
 use crate::generate::generate;
-use crate::run::{Ran, run};
+use crate::run::run;
 use crate::shown::shown;
 use crate::status::{Done, Status};
 use crate::verdict::verdict;
@@ -261,16 +261,7 @@ pub fn top<
 {
     match read_words(alloc, words) {
         Ok(Request::Run { logs, link }) => {
-            let Ran {
-                status,
-                disk,
-                clock,
-            } = run(rt, alloc, hash, gate, source, sink, disk, clock, logs, link);
-            Done {
-                status,
-                disk,
-                clock,
-            }
+            run(rt, alloc, hash, gate, source, sink, disk, clock, logs, link)
         }
         Ok(Request::Verify) => {
             let status = verdict(alloc, hash, source, sink, keeper);

@@ -6,9 +6,9 @@ ghosts-serve g a = record {
   table = a.opened.table;
   found = a.opened.found;
   logs = a.opened.logs;
-  digest = a.opened.digest;
-  synced = a.opened.synced;
-  faults = a.opened.faults;
-  time = a.opened.time;
-  given = a.opened.given;
+  digest = g.H.Hash32.digest a.opened.hash;
+  synced = g.D.Disk.told a.opened.disk;
+  faults = g.D.Disk.faults a.opened.disk;
+  time = g.C.Clock.constant a.opened.clock;
+  given = g.C.Clock.given a.opened.clock;
 }
