@@ -237,9 +237,9 @@ fn leaves<N: TipName, R: Wait>(
     gate: u8,
 ) -> Result<bool, Fail>
     requires tip { (opened.table ≡ N.table) × (opened.found ≡ N.found) × (opened.logs ≡ N.logs) }
-    requires hash { opened.digest ≡ N.digest }
-    requires disk { (opened.synced ≡ N.synced) × (opened.faults ≡ N.faults) }
-    requires clock { (opened.time ≡ N.time) × (opened.given ≡ N.given) }
+    requires hash { sum_digest ≡ N.digest }
+    requires disk { (Some (told_by opened.disk) ≡ N.synced) × (opened.disk.faults ≡ N.faults) }
+    requires clock { (Some opened.clock.time ≡ N.time) × (None ≡ N.given) }
 {
     let (store, mut pass) = opened.named::<N>();
     let is_told = match store.commit(rt, alloc, &mut pass, set) {
@@ -257,80 +257,34 @@ fn leaves<N: TipName, R: Wait>(
 // one whose gate isn't made durable, and one that is.
 const GATES: [(u64, u64, u8); 3] = [(8, 5, 0), (9, 6, 1), (0, 6, 1)];
 
-fn run_leaves<R: Wait>(rt: &R, alloc: Global, fails: u64, calls: u64, gate: u8) -> Result<bool, Fail> {
+fn run_leaves<R: Wait>(
+    rt: &R,
+    alloc: Global,
+    fails: u64,
+    calls: u64,
+    gate: u8,
+) -> Result<bool, Fail> {
     let set = setting(alloc, b"k", b"abc", Vec::new(alloc))?;
-    leaves::<Brand, R>(rt, alloc, opened(alloc, &Sum, &[fails])?, set, fails > 0, calls, gate)
-}
-
-#[test]
-fn a_commit_leaves_its_octets_and_a_gate_that_fails_is_a_fault(rt: HostRuntime) -> Result<(), Fail> {
-    for (fails, calls, gate) in GATES {
-        assert!(rt; run_leaves(&rt, rt.alloc(), fails, calls, gate)?, "call {fails}");
-    }
-    Ok(())
-}
-
-// A commit by a thread that owns its pass: the pass, and the number of its receipt, or 0.
-fn commit_one<N: TipName, R: Wait>(
-    rt: &R,
-    alloc: Global,
-    store: &Shared<'_, N>,
-    mut pass: Pass,
-    what: Prepared,
-) -> (Pass, u64)
-    requires { IsPassOf N.table pass }
-    ensures { IsPassOf N.table result.0 }
-{
-    let id = number_of(store.commit(rt, alloc, &mut pass, what));
-    (pass, id)
-}
-
-// Two threads commit the same key, which must be missing: one is placed, and the other is refused behind it.
-fn two_threads<N: TipName + Send + Sync, R: Threads + Wait + Sync>(
-    rt: &R,
-    alloc: Global,
-    opened: Open<'_>,
-    one: Prepared,
-    two: Prepared,
-) -> bool
-    requires tip { (opened.table ≡ N.table) × (opened.found ≡ N.found) × (opened.logs ≡ N.logs) }
-    requires hash { sum_digest ≡ N.digest }
-    requires disk { (Some (told_by opened.disk) ≡ N.synced) × (opened.disk.faults ≡ N.faults) }
-    requires clock { (Some opened.clock.time ≡ N.time) × (None ≡ N.given) }
-{
-    let (store, mut main) = opened.named::<N>();
-    let first = store.pass(&mut main);
-    let second = store.pass(&mut main);
-    let shared = &store;
-    let ((first, a), (second, b)) = join(
+    leaves::<Brand, R>(
         rt,
-        move || -> (Pass, u64)
-            requires { IsPassOf N.table first }
-            ensures { IsPassOf N.table result.0 }
-        { commit_one(rt, alloc, shared, first, one) },
-        move || -> (Pass, u64)
-            requires { IsPassOf N.table second }
-            ensures { IsPassOf N.table result.0 }
-        { commit_one(rt, alloc, shared, second, two) },
-    );
-    let all = store.tip(&mut main) == 1;
-    store.end(&mut main, first);
-    store.end(&mut main, second);
-    let (_, faults) = closed(alloc, store, main);
-    let one_of_two = if a == 0 { b == 1 } else { a == 1 && b == 0 };
-    all && one_of_two && faults == 0
-}
-
-fn run_two<R: Threads + Wait + Sync>(rt: &R, alloc: Global) -> Result<bool, Fail> {
-    let key = Octets::from_slice(alloc, b"k")?;
-    let one = setting(alloc, b"k", b"v", vec![in alloc; Pre::Missing { key }]?)?;
-    let key = Octets::from_slice(alloc, b"k")?;
-    let two = setting(alloc, b"k", b"w", vec![in alloc; Pre::Missing { key }]?)?;
-    Ok(two_threads::<Brand, R>(rt, alloc, opened(alloc, &Sum, &[])?, one, two))
+        alloc,
+        opened(alloc, &Sum, &[fails])?,
+        set,
+        fails > 0,
+        calls,
+        gate,
+    )
 }
 
 #[test]
-fn of_two_threads_that_ask_for_a_missing_key_one_has_it(rt: HostRuntime) -> Result<(), Fail> {
-    assert!(rt; run_two(&rt, rt.alloc())?);
+fn a_commit_leaves_its_octets_and_a_gate_that_fails_is_a_fault(
+    rt: HostRuntime,
+) -> Result<(), Fail> {
+    for (fails, calls, gate) in GATES {
+        assert!(rt;
+            run_leaves(&rt, rt.alloc(), fails, calls, gate)?,
+            "call {fails}"
+        );
+    }
     Ok(())
 }
