@@ -70,7 +70,7 @@ answer-same x y line few_x few_y e =
     let c : List ℕ → Answered = λ r. record { line = y.line; number = y.number; reply = r } in
     ap a line ∙ ap b number ∙ ap c parts.1
 
-answers-same : (xs ys : List Answered) → map (λ a. a.line) xs ≡ map (λ a. a.line) ys → map line_text xs ≡ map line_text ys
+pub answers-same : (xs ys : List Answered) → map (λ a. a.line) xs ≡ map (λ a. a.line) ys → map line_text xs ≡ map line_text ys
     → All (λ a. a.number ≤ 1048576) xs → All (λ a. a.number ≤ 1048576) ys → xs ≡ ys
 answers-same [] [] lines texts few_x few_y = refl
 answers-same [] (y ∷ ys) lines texts few_x few_y = absurd cc

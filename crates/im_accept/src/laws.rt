@@ -1,13 +1,13 @@
 //! What holds of the definitions. Each function does nothing, and its contract is the law.
 
-ghost use Rattle.std.specs.Prelude.{◌≡◌, ℕ, All, Bool, List, map, true};
+ghost use Rattle.std.specs.Prelude.{◌≡◌, ◌++◌, ℕ, All, Bool, List, map, true};
 ghost use Rattle.im_text.specs.Lines.{AreTexts};
 ghost use Rattle.im_digest.specs.Digests.{Hash};
 ghost use Rattle.im_model.specs.declared.transactions.Transaction.{Transaction};
 ghost use Rattle.im_report.specs.Further.{written_replies};
 ghost use Rattle.im_report.specs.Outcomes.{Outcome, line_in};
 ghost use Rattle.im_report.specs.Report.{Report};
-ghost use Rattle.im_report.specs.Sessions.{SessionsReport, first_replies, phase_text, phases_text, replies_in};
+ghost use Rattle.im_report.specs.Sessions.{SessionsReport, first_replies, lines_in, phase_text, phases_text, replies_in};
 ghost use Rattle.im_script.specs.Script.{IsScript, lines_of};
 ghost use Rattle.im_script.specs.declared.commands.Line.{Line};
 ghost use Rattle.im_wire.specs.Lines.{is_open};
@@ -50,10 +50,14 @@ pub fn a_client_takes_each_message_of_sessions()
 {}
 
 /// What is written of a phase, cut at each LF, is the answered lines before the first one without a reply; and what is written of all
-/// phases is those of each, phase behind phase.
+/// phases is those of each, phase behind phase. Of one script the same octets are written for one list of answered lines: numbers and
+/// replies are read off them.
 pub fn phases_are_cut_into_their_lines()
     ensures each { (hash : Hash) (linker : Bool) (h0 h : List Transaction) (phases : List (List Outcome)) → SessionsReport hash linker h0 h phases
         → All (λ outcomes. HaveSessions (map line_in outcomes)) phases → All (λ outcomes. AreTexts (phase_text outcomes) (map line_text (first_replies outcomes))) phases }
     ensures all { (hash : Hash) (linker : Bool) (h0 h : List Transaction) (phases : List (List Outcome)) → SessionsReport hash linker h0 h phases
         → All (λ outcomes. HaveSessions (map line_in outcomes)) phases → AreTexts (phases_text phases) (map line_text (written_replies phases)) }
+    ensures one { (hash : Hash) (linker : Bool) (h0 h g0 g : List Transaction) (phases others : List (List Outcome)) (unrun left : List (List Line)) → SessionsReport hash linker h0 h phases
+        → SessionsReport hash linker g0 g others → All (λ outcomes. HaveSessions (map line_in outcomes)) phases → All (λ outcomes. HaveSessions (map line_in outcomes)) others
+        → lines_in phases ++ unrun ≡ lines_in others ++ left → phases_text phases ≡ phases_text others → written_replies phases ≡ written_replies others }
 {}

@@ -1,20 +1,21 @@
--- Each transaction that no written reply tells has the entries of a line of its own.
-use Rattle.std.proofs.Common.{◌≡◌, ◌≢◌, inl, inr, ℕ, zero, suc, ◌+◌, ◌≤◌, ◌++◌, List, [], ◌∷◌, length, map, Bool, true, false, if◌then◌else◌, Option, Some, None, slice_get, get_or, refl, ap, sym, ◌∙◌, subst, arith, append_assoc, length-append}
+-- Each transaction that the first replies don't tell has the entries of a line of its own.
+use Rattle.std.proofs.Common.{◌≡◌, ◌≢◌, inl, inr, ℕ, zero, suc, ◌+◌, ◌≤◌, ◌++◌, List, [], ◌∷◌, length, map, take, drop, Bool, true, false, if◌then◌else◌, Option, Some, None, slice_get, get_or, refl, ap, sym, ◌∙◌, subst, arith, append_assoc, length-append}
 use Rattle.std.specs.Prelude.{All, AllPairs, IfSome}
 use Rattle.std.specs.List.{flat_map}
-use Rattle.std.proofs.lemmas.List.{length-map, map-append}
+use Rattle.std.proofs.lemmas.List.{length-map, map-append, take-append-drop}
 use Rattle.std.proofs.lemmas.List.Elements.{All-append}
 use Rattle.im_digest.specs.Digests.{Hash}
 use Rattle.im_model.specs.declared.transactions.Transaction.{Transaction}
 use Rattle.im_octet.proofs.Common.{all-right}
 use Rattle.im_report.proofs.FrontLemmas.{AsksFor, placed_asks}
-use Rattle.im_report.proofs.KnownLemmas.{IsKnown, known_phases}
-use Rattle.im_report.proofs.OutcomeLemmas.{all_in, first_all, flat_all, lines_all, lines_answered, numbers_answered, times_all, times_both}
+use Rattle.im_report.proofs.KnownLemmas.{IsKnown}
+use Rattle.im_report.proofs.OutcomeLemmas.{all_in, first_all, lines_all, lines_answered, numbers_answered, times_all, times_both}
+use Rattle.im_report.proofs.RangeLemmas.{numbers_of}
 use Rattle.im_report.proofs.SingleLemmas.{pairs_both}
-use Rattle.im_report.specs.Further.{AreFurther, IsOfLine, number_of_reply, written_replies}
+use Rattle.im_report.specs.Further.{IsOfLine, number_of_reply, written_replies}
 use Rattle.im_report.specs.Outcomes.{Outcome, answered, halted, line_in, numbers_in}
 use Rattle.im_report.specs.Report.{Answered, is_placed}
-use Rattle.im_report.specs.Sessions.{SessionsReport, first_replies, lines_in, times}
+use Rattle.im_report.specs.Sessions.{AreAllButLast, first_replies, lines_in, times, times_placed}
 use Rattle.im_script.specs.Script.{lines_of}
 use Rattle.im_script.specs.declared.commands.Line.{Line}
 
@@ -75,13 +76,13 @@ line_there [] rest line = refl
 line_there (l ∷ front) rest line = line_there front rest line
 
 -- each is of a line behind those that were written
-pairs_of_line : (h : List Transaction) (phases : List (List Outcome)) (front rest : List Line) (line : Line) (ns : List ℕ) → lines_of (lines_in phases) ≡ front ++ line ∷ rest
-    → length (written_replies phases) ≤ length front → All (AsksFor h line.command) ns → All (IsOfLine h phases) (map (λ n. (n, length front)) ns)
-pairs_of_line h phases front rest line [] e behind asks = λ i d lt. absurd (omega arith)
-pairs_of_line h phases front rest line (n ∷ ns) e behind asks =
-    cons (asks 0 n (omega arith)) (pairs_of_line h phases front rest line ns e behind (λ i d lt. asks (suc i) d (omega (arith, lt))))
+pairs_of_line : (h : List Transaction) (phases : List (List Outcome)) (count : ℕ) (front rest : List Line) (line : Line) (ns : List ℕ) → lines_of (lines_in phases) ≡ front ++ line ∷ rest
+    → count ≤ length front → All (AsksFor h line.command) ns → All (IsOfLine h phases count) (map (λ n. (n, length front)) ns)
+pairs_of_line h phases count front rest line [] e behind asks = λ i d lt. absurd (omega arith)
+pairs_of_line h phases count front rest line (n ∷ ns) e behind asks =
+    cons (asks 0 n (omega arith)) (pairs_of_line h phases count front rest line ns e behind (λ i d lt. asks (suc i) d (omega (arith, lt))))
   where
-    cons : AsksFor h line.command n → All (IsOfLine h phases) (map (λ m. (m, length front)) ns) → All (IsOfLine h phases) ((n, length front) ∷ map (λ m. (m, length front)) ns)
+    cons : AsksFor h line.command n → All (IsOfLine h phases count) (map (λ m. (m, length front)) ns) → All (IsOfLine h phases count) ((n, length front) ∷ map (λ m. (m, length front)) ns)
     cons one more zero d lt = record {
       behind = behind;
       line = line;
@@ -93,18 +94,18 @@ pairs_of_line h phases front rest line (n ∷ ns) e behind asks =
     }
     cons one more (suc i) d lt = more i d (omega (arith, lt))
 
-further_each : (hash : Hash) (h : List Transaction) (phases : List (List Outcome)) (front : List Line) (outcomes : List Outcome) → lines_of (lines_in phases) ≡ front ++ map line_in outcomes
-    → length (written_replies phases) ≤ length front → All (IsKnown hash h) outcomes → All (IsOfLine h phases) (further_from (length front) outcomes)
-further_each hash h phases front [] e behind known = λ i d lt. absurd (omega arith)
-further_each hash h phases front (o ∷ outcomes) e behind known =
+pub further_each : (hash : Hash) (h : List Transaction) (phases : List (List Outcome)) (count : ℕ) (front : List Line) (outcomes : List Outcome) → lines_of (lines_in phases) ≡ front ++ map line_in outcomes
+    → count ≤ length front → All (IsKnown hash h) outcomes → All (IsOfLine h phases count) (further_from (length front) outcomes)
+further_each hash h phases count front [] e behind known = λ i d lt. absurd (omega arith)
+further_each hash h phases count front (o ∷ outcomes) e behind known =
     let one = known_one hash h o (known 0 o (omega arith)) in
     let size : length (front ++ o.line ∷ []) ≡ length front + 1 = length-append front (o.line ∷ []) in
     let moved : lines_of (lines_in phases) ≡ (front ++ o.line ∷ []) ++ map line_in outcomes = e ∙ sym (append_assoc front (o.line ∷ []) (map line_in outcomes)) in
-    let later : All (IsOfLine h phases) (further_from (length (front ++ o.line ∷ [])) outcomes) =
-    further_each hash h phases (front ++ o.line ∷ []) outcomes moved (omega (arith, size, behind)) (λ i d lt. known (suc i) d (omega (arith, lt))) in
-    All-append (IsOfLine h phases) (map (λ (n : ℕ). (n, length front)) (numbers_in o)) (further_from (length front + 1) outcomes)
-    (pairs_of_line h phases front (map line_in outcomes) o.line (numbers_in o) e behind one.1)
-    (subst (λ (p : ℕ). All (IsOfLine h phases) (further_from p outcomes)) size later)
+    let later : All (IsOfLine h phases count) (further_from (length (front ++ o.line ∷ [])) outcomes) =
+    further_each hash h phases count (front ++ o.line ∷ []) outcomes moved (omega (arith, size, behind)) (λ i d lt. known (suc i) d (omega (arith, lt))) in
+    All-append (IsOfLine h phases count) (map (λ (n : ℕ). (n, length front)) (numbers_in o)) (further_from (length front + 1) outcomes)
+    (pairs_of_line h phases count front (map line_in outcomes) o.line (numbers_in o) e behind one.1)
+    (subst (λ (p : ℕ). All (IsOfLine h phases count) (further_from p outcomes)) size later)
 
 -- their lines differ
 pairs_at : (place : ℕ) (ns : List ℕ) → All (λ (p : ℕ × ℕ). p.1 ≡ place) (map (λ (n : ℕ). (n, place)) ns)
@@ -123,7 +124,7 @@ further_above place (o ∷ outcomes) =
     (λ i d lt. (let e = pairs_at place (numbers_in o) i d lt in omega (arith, e)))
     (λ i d lt. (let le = more i d lt in omega (arith, le)))
 
-further_apart : (hash : Hash) (h : List Transaction) (place : ℕ) (outcomes : List Outcome) → All (IsKnown hash h) outcomes → AllPairs (λ p q. p.1 ≢ q.1) (further_from place outcomes)
+pub further_apart : (hash : Hash) (h : List Transaction) (place : ℕ) (outcomes : List Outcome) → All (IsKnown hash h) outcomes → AllPairs (λ p q. p.1 ≢ q.1) (further_from place outcomes)
 further_apart hash h place [] known = λ i j d lt less. absurd (omega (arith, less))
 further_apart hash h place (o ∷ outcomes) known =
     let pair : ℕ → ℕ × ℕ = λ n. (n, place) in
@@ -137,26 +138,35 @@ further_apart hash h place (o ∷ outcomes) known =
     let is : x.1 ≡ (get_or here i d).1 = ap (λ (p : ℕ × ℕ). p.1) e in
     let up : place + 1 ≤ (get_or (further_from (place + 1) outcomes) j f).1 = above j f less in omega (arith, at, is, up, q)))
 
-pub are_further : (hash : Hash) (linker : Bool) (h0 h : List Transaction) (phases : List (List Outcome)) → SessionsReport hash linker h0 h phases → AreFurther h0 h phases
-are_further hash linker h0 h phases r =
-    let all : List Outcome = all_in phases in
-    let known : All (IsKnown hash h) all = flat_all (IsKnown hash h) (λ (os : List Outcome). os) phases (known_phases hash (length h0) (length h0) h phases r.each) in
+-- the lines of a run's outcomes, where the first were answered
+pub split_lines : (phases : List (List Outcome)) (told : List Answered) (back : List Outcome) → all_in phases ≡ map answered told ++ back
+    → lines_of (lines_in phases) ≡ map (λ (a : Answered). a.line) told ++ map line_in back
+split_lines phases told back are =
+    lines_all phases ∙ (ap (map line_in) are ∙ (map-append line_in (map answered told) back ∙ ap (λ (l : List Line). l ++ map line_in back) (lines_answered told)))
+
+-- and their numbers
+pub split_numbers : (phases : List (List Outcome)) (told : List Answered) (back : List Outcome) (place : ℕ) → all_in phases ≡ map answered told ++ back
+    → (k : ℕ) → times k (flat_map number_of_reply told) + times k (numbers_of (further_from place back)) ≡ times_placed k phases
+split_numbers phases told back place are k =
+    let numbers : flat_map numbers_in (all_in phases) ≡ flat_map number_of_reply told ++ numbers_of (further_from place back) =
+    ap (flat_map numbers_in) are ∙ (numbers_answered told back ∙ ap (λ (l : List ℕ). flat_map number_of_reply told ++ l) (sym (further_numbers place back))) in
+    sym (times_both k (flat_map number_of_reply told) (numbers_of (further_from place back))) ∙ (ap (times k) (sym numbers) ∙ sym (times_all k phases))
+
+-- the first replies, so many, and what is behind their lines
+pub split_at : (hash : Hash) (h : List Transaction) (phases : List (List Outcome)) (count : ℕ) → AreAllButLast phases → All (IsKnown hash h) (all_in phases)
+    → (back : List Outcome) × (all_in phases ≡ map answered (take count (written_replies phases)) ++ back)
+split_at hash h phases count ran known =
     let written : List Answered = written_replies phases in
-    let same : written ≡ first_replies all = first_all phases r.ran in
-    let parts = parted hash h all known in
-    let back : List Outcome = parts.0 in
-    let are : all ≡ map answered written ++ back = parts.1 ∙ ap (λ (l : List Answered). map answered l ++ back) (sym same) in
-    let front : List Line = map (λ (a : Answered). a.line) written in
-    let size : length front ≡ length written = length-map written (λ (a : Answered). a.line) in
-    let lines : lines_of (lines_in phases) ≡ front ++ map line_in back =
-    lines_all phases ∙ (ap (map line_in) are ∙ (map-append line_in (map answered written) back ∙ ap (λ (l : List Line). l ++ map line_in back) (lines_answered written))) in
-    let behind : All (IsKnown hash h) back = all-right (IsKnown hash h) (map answered written) back (subst (All (IsKnown hash h)) are known) in
-    let pairs : List (ℕ × ℕ) = further_from (length front) back in
-    let numbers : flat_map numbers_in all ≡ flat_map number_of_reply written ++ map (λ (p : ℕ × ℕ). p.0) pairs =
-    ap (flat_map numbers_in) are ∙ (numbers_answered written back ∙ ap (λ (l : List ℕ). flat_map number_of_reply written ++ l) (sym (further_numbers (length front) back))) in
-    record {
-      pairs = pairs;
-      each = further_each hash h phases front back lines (omega (arith, size)) behind;
-      apart = further_apart hash h (length front) back behind;
-      all = λ k. sym (times_both k (flat_map number_of_reply written) (map (λ (p : ℕ × ℕ). p.0) pairs)) ∙ (ap (times k) (sym numbers) ∙ (sym (times_all k phases) ∙ r.placed k));
-    }
+    let parts = parted hash h (all_in phases) known in
+    let whole : all_in phases ≡ map answered written ++ parts.0 = parts.1 ∙ ap (λ (l : List Answered). map answered l ++ parts.0) (sym (first_all phases ran)) in
+    let halves : map answered written ≡ map answered (take count written) ++ map answered (drop count written) =
+    ap (map answered) (sym (take-append-drop count written)) ∙ map-append answered (take count written) (drop count written) in
+    (map answered (drop count written) ++ parts.0,
+    whole ∙ (ap (λ (l : List Outcome). l ++ parts.0) halves ∙ append_assoc (map answered (take count written)) (map answered (drop count written)) parts.0))
+
+-- the lines of the replies that are written are the first ones
+pub written_lines : (hash : Hash) (h : List Transaction) (phases : List (List Outcome)) → AreAllButLast phases → All (IsKnown hash h) (all_in phases)
+    → (rest : List Line) × (lines_of (lines_in phases) ≡ map (λ (a : Answered). a.line) (written_replies phases) ++ rest)
+written_lines hash h phases ran known =
+    let parts = parted hash h (all_in phases) known in
+    (map line_in parts.0, split_lines phases (written_replies phases) parts.0 (parts.1 ∙ ap (λ (l : List Answered). map answered l ++ parts.0) (sym (first_all phases ran))))

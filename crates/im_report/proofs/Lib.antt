@@ -5,4 +5,5 @@ pub mod OutcomeLemmas
 pub mod SingleLemmas
 pub mod AloneLemmas
 pub mod FurtherLemmas
+pub mod KeptLemmas
 pub mod KnownLemmas

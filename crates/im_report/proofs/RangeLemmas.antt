@@ -1,5 +1,5 @@
--- Rising numbers that are those of a range, each as often, are that range.
-use Rattle.std.proofs.Common.{◌≡◌, ◌≢◌, ◌⊎◌, inl, inr, ℕ, zero, suc, ◌+◌, ◌-◌, ◌<◌, ◌≤◌, ◌==◌, ◌++◌, List, [], ◌∷◌, length, Bool, true, false, cond, refl, ap, ap₂, sym, ◌∙◌, subst, arith, get_or}
+-- How often numbers stand in lists: rising ones that are those of a range, each as often, are that range; and a range and pairs that are cut off.
+use Rattle.std.proofs.Common.{◌≡◌, ◌≢◌, ◌⊎◌, inl, inr, ℕ, zero, suc, ◌+◌, ◌-◌, ◌<◌, ◌≤◌, ◌==◌, ◌++◌, List, [], ◌∷◌, length, map, filter, Bool, true, false, cond, if◌then◌else◌, refl, ap, ap₂, sym, ◌∙◌, subst, arith, get_or}
 use Rattle.std.specs.Prelude.{All, AllPairs}
 use Rattle.std.specs.List.{range_with_len}
 use Rattle.std.proofs.lemmas.Bool.{cases_lt}
@@ -127,3 +127,71 @@ times_length (x ∷ xs) ys same =
     let left = times_without x ys some in
     let rest : length xs ≡ length left.0 = times_length xs left.0 (λ k. (let e = same k in let f = left.2 k in omega (arith, e, f))) in
     omega (arith, rest, left.1)
+
+-- nor in one of which all are below it
+pub times_above : (n : ℕ) (xs : List ℕ) → All (λ x. x < n) xs → times n xs ≡ 0
+times_above n [] all = refl
+times_above n (x ∷ xs) all = go (eqb_tells x n) (times_above n xs (λ i d lt. all (suc i) d (omega (arith, lt))))
+  where
+    go : (((x == n) ≡ true) × (x ≡ n)) ⊎ (((x == n) ≡ false) × (x ≢ n)) → times n xs ≡ 0 → times n (x ∷ xs) ≡ 0
+    go (inl e) rest = absurd (let lt : x < n = all 0 x (omega arith) in omega (arith, lt, e.1))
+    go (inr e) rest =
+        let here : times n (x ∷ xs) ≡ 0 + times n xs = ap (λ (b : Bool). cond b 1 0 + times n xs) e.0 in
+        omega (arith, here, rest)
+
+range_within : (a k count : ℕ) → a + count ≤ k → All (λ x. x < k) (range_with_len a count)
+range_within a k zero le = λ i d less. absurd (omega arith)
+range_within a k (suc count) le = cons (range_within (a + 1) k count (omega (arith, le)))
+  where
+    cons : All (λ x. x < k) (range_with_len (a + 1) count) → All (λ x. x < k) (a ∷ range_with_len (a + 1) count)
+    cons rest zero d less = omega (arith, le)
+    cons rest (suc i) d less = rest i d (omega (arith, less))
+
+-- a number below a range's first, or behind its last
+pub range_none : (k a count : ℕ) → (k < a) ⊎ (a + count ≤ k) → times k (range_with_len a count) ≡ 0
+range_none k a count (inl lt) = times_below k (range_with_len a count) (range_above a k count lt)
+range_none k a count (inr le) = times_above k (range_with_len a count) (range_within a k count le)
+
+-- a number before the end of a range stands in a longer one as often
+pub range_short : (k a n m : ℕ) → n ≤ m → k < a + n → times k (range_with_len a m) ≡ times k (range_with_len a n)
+range_short k a zero m le lt = times_below k (range_with_len a m) (range_above a k m (omega (arith, lt)))
+range_short k a (suc n) zero le lt = absurd (omega (arith, le))
+range_short k a (suc n) (suc m) le lt = let rest = range_short k (a + 1) n m (omega (arith, le)) (omega (arith, lt)) in omega (arith, rest)
+
+-- the numbers of pairs
+abbrev pub numbers_of : List (ℕ × ℕ) → List ℕ
+numbers_of ps = map (λ p. p.0) ps
+
+-- of pairs those whose number passes
+abbrev pub passing : (ℕ → Bool) → List (ℕ × ℕ) → List (ℕ × ℕ)
+passing q ps = filter (λ p. q p.0) ps
+
+-- a number stands as often among those that pass as before, where it passes, and not at all where it doesn't
+pub times_passing : (q : ℕ → Bool) (k : ℕ) (ps : List (ℕ × ℕ)) → times k (numbers_of (passing q ps)) ≡ cond (q k) (times k (numbers_of ps)) 0
+times_passing q k [] = none (q k)
+  where
+    none : (b : Bool) → 0 ≡ cond b 0 0
+    none true = refl
+    none false = refl
+times_passing q k (p ∷ ps) = go (q p.0) refl (eqb_tells p.0 k) (times_passing q k ps)
+  where
+    left : ℕ
+    left = times k (numbers_of (passing q ps))
+
+    all : ℕ
+    all = times k (numbers_of ps)
+
+    other : (n : ℕ) → (p.0 == k) ≡ false → cond (p.0 == k) 1 0 + n ≡ n
+    other n no = let here : cond (p.0 == k) 1 0 + n ≡ 0 + n = ap (λ (b : Bool). cond b 1 0 + n) no in omega (arith, here)
+
+    go : (b : Bool) → q p.0 ≡ b → (((p.0 == k) ≡ true) × (p.0 ≡ k)) ⊎ (((p.0 == k) ≡ false) × (p.0 ≢ k)) → left ≡ cond (q k) all 0
+        → times k (numbers_of (if b then p ∷ passing q ps else passing q ps)) ≡ cond (q k) (cond (p.0 == k) 1 0 + all) 0
+    go true is (inl e) rest =
+        let passes : q k ≡ true = sym (ap q e.1) ∙ is in
+        let same : left ≡ all = rest ∙ ap (λ (b : Bool). cond b all 0) passes in
+        ap (λ (n : ℕ). cond (p.0 == k) 1 0 + n) same ∙ sym (ap (λ (b : Bool). cond b (cond (p.0 == k) 1 0 + all) 0) passes)
+    go true is (inr e) rest = other left e.0 ∙ (rest ∙ sym (ap (λ (n : ℕ). cond (q k) n 0) (other all e.0)))
+    go false is (inl e) rest =
+        let fails : q k ≡ false = sym (ap q e.1) ∙ is in
+        rest ∙ (ap (λ (b : Bool). cond b all 0) fails ∙ sym (ap (λ (b : Bool). cond b (cond (p.0 == k) 1 0 + all) 0) fails))
+    go false is (inr e) rest = rest ∙ sym (ap (λ (n : ℕ). cond (q k) n 0) (other all e.0))

@@ -1,10 +1,10 @@
 //! What holds of the reports of sessions. Each function does nothing, and its contract is the law.
 
-ghost use Rattle.std.specs.Prelude.{◌≡◌, ◌⊎◌, ◌<◌, ◌≤◌, ℕ, Bool, List, length, map, false, true, All};
+ghost use Rattle.std.specs.Prelude.{◌≤◌, ℕ, Bool, List, length, take, false, All};
 ghost use Rattle.im_digest.specs.Digests.{Hash};
 ghost use Rattle.im_model.specs.declared.transactions.Transaction.{Transaction};
 ghost use Rattle.im_report.specs.Alone.{ReportsAlone};
-ghost use Rattle.im_report.specs.Further.{AreFurther};
+ghost use Rattle.im_report.specs.Further.{KeepsReplies, written_replies};
 ghost use Rattle.im_report.specs.Outcomes.{Outcome};
 ghost use Rattle.im_report.specs.Report.{Report};
 ghost use Rattle.im_report.specs.Sessions.{AreAnswered, AreOfOne, SessionsReport, lines_in, phases_text};
@@ -23,7 +23,10 @@ pub fn one_session_answers_all_as_before()
         → Report hash h0 h (lines_of (lines_in phases)) (phases_text phases) }
 {}
 
-/// Each transaction that no written reply tells has the entries of one line without a written reply, a different one for each.
-pub fn each_further_transaction_is_a_line()
-    ensures { (hash : Hash) (linker : Bool) (h0 h : List Transaction) (phases : List (List Outcome)) → SessionsReport hash linker h0 h phases → AreFurther h0 h phases }
+/// A run's history may be cut off anywhere behind what was found and behind the numbers of the first replies, however many these are: what is left, as a
+/// crash may leave it, keeps these replies, and each further transaction of it has the entries of one line behind theirs, a different one for each.
+pub fn what_is_left_keeps_the_replies()
+    ensures { (hash : Hash) (linker : Bool) (h0 h : List Transaction) (phases : List (List Outcome)) → SessionsReport hash linker h0 h phases
+        → (count most : ℕ) → count ≤ length (written_replies phases) → length h0 ≤ most → most ≤ length h → All (λ a. a.number ≤ most) (take count (written_replies phases))
+        → KeepsReplies hash h0 (take most h) phases count }
 {}
