@@ -89,10 +89,11 @@ first-lines : (hash : Hash) (linker : Bool) (h0 h : List Transaction) (phases : 
     → (rest : List Line) × (lines_of (lines_in phases ++ unrun) ≡ map (λ (a : Answered). a.line) (written_replies phases) ++ rest)
 first-lines hash linker h0 h phases unrun r =
     let known = flat_all (IsKnown hash h) (λ (os : List Outcome). os) phases (known_phases hash (length h0) (length h0) h phases r.each) in
-    let first = written_lines hash h phases r.ran known in
-    (first.0 ++ lines_of unrun,
-    flat_map-append (λ (ls : List Line). ls) (lines_in phases) unrun
-    ∙ (ap (λ (ls : List Line). ls ++ lines_of unrun) first.1 ∙ append_assoc (map (λ (a : Answered). a.line) (written_replies phases)) first.0 (lines_of unrun)))
+    let first = written_lines hash h phases r.ran known in (
+      first.0 ++ lines_of unrun,
+      flat_map-append (λ (ls : List Line). ls) (lines_in phases) unrun
+          ∙ (ap (λ (ls : List Line). ls ++ lines_of unrun) first.1 ∙ append_assoc (map (λ (a : Answered). a.line) (written_replies phases)) first.0 (lines_of unrun)),
+    )
 
 -- two lists of one length that begin the same list
 front-same : (xs ys rest more : List Line) → length xs ≡ length ys → xs ++ rest ≡ ys ++ more → xs ≡ ys

@@ -6,7 +6,6 @@ use Rattle.std.proofs.lemmas.List.{length-map, map-append, take-append-drop}
 use Rattle.std.proofs.lemmas.List.Elements.{All-append}
 use Rattle.im_digest.specs.Digests.{Hash}
 use Rattle.im_model.specs.declared.transactions.Transaction.{Transaction}
-use Rattle.im_octet.proofs.Common.{all-right}
 use Rattle.im_report.proofs.FrontLemmas.{AsksFor, placed_asks}
 use Rattle.im_report.proofs.KnownLemmas.{IsKnown}
 use Rattle.im_report.proofs.OutcomeLemmas.{all_in, first_all, lines_all, lines_answered, numbers_answered, times_all, times_both}
@@ -31,7 +30,7 @@ parted hash h (o ∷ outcomes) known = go (known 0 o (omega arith)) (parted hash
         (o ∷ outcomes, subst (λ (p : Outcome). p ∷ outcomes ≡ map answered (first_replies (p ∷ outcomes)) ++ p ∷ outcomes) (sym is) refl)
 
 -- the transactions of these, each with the place of its line, from this one on
-abbrev further_from : ℕ → List Outcome → List (ℕ × ℕ)
+abbrev pub further_from : ℕ → List Outcome → List (ℕ × ℕ)
 further_from place [] = []
 further_from place (o ∷ outcomes) = map (λ n. (n, place)) (numbers_in o) ++ further_from (place + 1) outcomes
 
@@ -160,9 +159,10 @@ split_at hash h phases count ran known =
     let parts = parted hash h (all_in phases) known in
     let whole : all_in phases ≡ map answered written ++ parts.0 = parts.1 ∙ ap (λ (l : List Answered). map answered l ++ parts.0) (sym (first_all phases ran)) in
     let halves : map answered written ≡ map answered (take count written) ++ map answered (drop count written) =
-    ap (map answered) (sym (take-append-drop count written)) ∙ map-append answered (take count written) (drop count written) in
-    (map answered (drop count written) ++ parts.0,
-    whole ∙ (ap (λ (l : List Outcome). l ++ parts.0) halves ∙ append_assoc (map answered (take count written)) (map answered (drop count written)) parts.0))
+    ap (map answered) (sym (take-append-drop count written)) ∙ map-append answered (take count written) (drop count written) in (
+      map answered (drop count written) ++ parts.0,
+      whole ∙ (ap (λ (l : List Outcome). l ++ parts.0) halves ∙ append_assoc (map answered (take count written)) (map answered (drop count written)) parts.0),
+    )
 
 -- the lines of the replies that are written are the first ones
 pub written_lines : (hash : Hash) (h : List Transaction) (phases : List (List Outcome)) → AreAllButLast phases → All (IsKnown hash h) (all_in phases)

@@ -1,5 +1,5 @@
 -- What the first transactions of a history keep of the first replies.
-use Rattle.std.proofs.Common.{◌≡◌, ◌≢◌, ◌⊎◌, inl, inr, ℕ, zero, suc, ◌+◌, ◌-◌, ◌<◌, ◌≤◌, ◌++◌, List, [], ◌∷◌, length, map, take, Bool, true, false, cond, nat_lt, if◌then◌else◌, get_or, ap, sym, ◌∙◌, subst, arith}
+use Rattle.std.proofs.Common.{◌≡◌, ◌≢◌, ◌⊎◌, inl, inr, ℕ, zero, suc, ◌+◌, ◌-◌, ◌<◌, ◌≤◌, ◌++◌, List, [], ◌∷◌, length, map, take, Bool, true, false, cond, nat_lt, if◌then◌else◌, get_or, refl, ap, sym, ◌∙◌, subst, arith}
 use Rattle.std.specs.Prelude.{All}
 use Rattle.std.specs.List.{flat_map, range_with_len}
 use Rattle.std.proofs.lemmas.Bool.{cases_lt, ltb-true, ltb-false}
@@ -112,7 +112,7 @@ written_said hash h phases count ran known =
     let said : All (λ a. IsAnswer hash h a.line.command a.number a.reply) (replies_in (all_in phases)) =
     (let both = answers_known hash h (λ (l : Line). Unit {0}) (all_in phases) known (λ i d lt. tt) in λ i d lt. (both i d lt).0) in
     let are : replies_in (all_in phases) ≡ first ++ replies_in parts.0 = ap replies_in parts.1 ∙ replies_answered first parts.0 in
-    all-left (λ a. IsAnswer hash h a.line.command a.number a.reply) first (replies_in parts.0) (subst (All (λ a. IsAnswer hash h a.line.command a.number a.reply)) are said)
+    all-left (λ (a : Answered). IsAnswer hash h a.line.command a.number a.reply) first (replies_in parts.0) (subst (All (λ (a : Answered). IsAnswer hash h a.line.command a.number a.reply)) are said)
 
 pub keeps_replies : (hash : Hash) (linker : Bool) (h0 h : List Transaction) (phases : List (List Outcome)) → SessionsReport hash linker h0 h phases
     → (count most : ℕ) → count ≤ length (written_replies phases) → length h0 ≤ most → most ≤ length h → All (λ a. a.number ≤ most) (take count (written_replies phases))

@@ -1,5 +1,5 @@
 -- How often numbers stand in lists: rising ones that are those of a range, each as often, are that range; and a range and pairs that are cut off.
-use Rattle.std.proofs.Common.{◌≡◌, ◌≢◌, ◌⊎◌, inl, inr, ℕ, zero, suc, ◌+◌, ◌-◌, ◌<◌, ◌≤◌, ◌==◌, ◌++◌, List, [], ◌∷◌, length, map, filter, Bool, true, false, cond, if◌then◌else◌, refl, ap, ap₂, sym, ◌∙◌, subst, arith, get_or}
+use Rattle.std.proofs.Common.{◌≡◌, ◌≢◌, ◌⊎◌, inl, inr, ℕ, zero, suc, ◌+◌, ◌<◌, ◌≤◌, ◌==◌, ◌++◌, List, [], ◌∷◌, length, map, filter, Bool, true, false, cond, if◌then◌else◌, refl, ap, ap₂, sym, ◌∙◌, subst, arith, get_or}
 use Rattle.std.specs.Prelude.{All, AllPairs}
 use Rattle.std.specs.List.{range_with_len}
 use Rattle.std.proofs.lemmas.Bool.{cases_lt}
@@ -166,32 +166,27 @@ numbers_of ps = map (λ p. p.0) ps
 abbrev pub passing : (ℕ → Bool) → List (ℕ × ℕ) → List (ℕ × ℕ)
 passing q ps = filter (λ p. q p.0) ps
 
+-- another number isn't counted
+times_other : (x k n : ℕ) → (x == k) ≡ false → cond (x == k) 1 0 + n ≡ n
+times_other x k n other = let here : cond (x == k) 1 0 + n ≡ 0 + n = ap (λ (b : Bool). cond b 1 0 + n) other in omega (arith, here)
+
 -- a number stands as often among those that pass as before, where it passes, and not at all where it doesn't
 pub times_passing : (q : ℕ → Bool) (k : ℕ) (ps : List (ℕ × ℕ)) → times k (numbers_of (passing q ps)) ≡ cond (q k) (times k (numbers_of ps)) 0
 times_passing q k [] = none (q k)
   where
-    none : (b : Bool) → 0 ≡ cond b 0 0
+    none : (b : Bool) → times k [] ≡ cond b (times k []) 0
     none true = refl
     none false = refl
 times_passing q k (p ∷ ps) = go (q p.0) refl (eqb_tells p.0 k) (times_passing q k ps)
   where
-    left : ℕ
-    left = times k (numbers_of (passing q ps))
-
-    all : ℕ
-    all = times k (numbers_of ps)
-
-    other : (n : ℕ) → (p.0 == k) ≡ false → cond (p.0 == k) 1 0 + n ≡ n
-    other n no = let here : cond (p.0 == k) 1 0 + n ≡ 0 + n = ap (λ (b : Bool). cond b 1 0 + n) no in omega (arith, here)
-
-    go : (b : Bool) → q p.0 ≡ b → (((p.0 == k) ≡ true) × (p.0 ≡ k)) ⊎ (((p.0 == k) ≡ false) × (p.0 ≢ k)) → left ≡ cond (q k) all 0
-        → times k (numbers_of (if b then p ∷ passing q ps else passing q ps)) ≡ cond (q k) (cond (p.0 == k) 1 0 + all) 0
+    go : (b : Bool) → q p.0 ≡ b → (((p.0 == k) ≡ true) × (p.0 ≡ k)) ⊎ (((p.0 == k) ≡ false) × (p.0 ≢ k)) → times k (numbers_of (passing q ps)) ≡ cond (q k) (times k (numbers_of ps)) 0
+        → times k (numbers_of (if b then p ∷ passing q ps else passing q ps)) ≡ cond (q k) (cond (p.0 == k) 1 0 + times k (numbers_of ps)) 0
     go true is (inl e) rest =
         let passes : q k ≡ true = sym (ap q e.1) ∙ is in
-        let same : left ≡ all = rest ∙ ap (λ (b : Bool). cond b all 0) passes in
-        ap (λ (n : ℕ). cond (p.0 == k) 1 0 + n) same ∙ sym (ap (λ (b : Bool). cond b (cond (p.0 == k) 1 0 + all) 0) passes)
-    go true is (inr e) rest = other left e.0 ∙ (rest ∙ sym (ap (λ (n : ℕ). cond (q k) n 0) (other all e.0)))
+        let same : times k (numbers_of (passing q ps)) ≡ times k (numbers_of ps) = rest ∙ ap (λ (b : Bool). cond b (times k (numbers_of ps)) 0) passes in
+        ap (λ (n : ℕ). cond (p.0 == k) 1 0 + n) same ∙ sym (ap (λ (b : Bool). cond b (cond (p.0 == k) 1 0 + times k (numbers_of ps)) 0) passes)
+    go true is (inr e) rest = times_other p.0 k (times k (numbers_of (passing q ps))) e.0 ∙ (rest ∙ sym (ap (λ (n : ℕ). cond (q k) n 0) (times_other p.0 k (times k (numbers_of ps)) e.0)))
     go false is (inl e) rest =
         let fails : q k ≡ false = sym (ap q e.1) ∙ is in
-        rest ∙ (ap (λ (b : Bool). cond b all 0) fails ∙ sym (ap (λ (b : Bool). cond b (cond (p.0 == k) 1 0 + all) 0) fails))
-    go false is (inr e) rest = rest ∙ sym (ap (λ (n : ℕ). cond (q k) n 0) (other all e.0))
+        rest ∙ (ap (λ (b : Bool). cond b (times k (numbers_of ps)) 0) fails ∙ sym (ap (λ (b : Bool). cond b (cond (p.0 == k) 1 0 + times k (numbers_of ps)) 0) fails))
+    go false is (inr e) rest = rest ∙ sym (ap (λ (n : ℕ). cond (q k) n 0) (times_other p.0 k (times k (numbers_of ps)) e.0))

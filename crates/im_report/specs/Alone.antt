@@ -1,5 +1,5 @@
 -- What a single session comes to where lines alone link, told as of one list of lines.
-use Rattle.std.specs.Prelude.{◌≡◌, ◌⊎◌, ◌+◌, ◌++◌, ℕ, List, [], ◌∷◌, length, take, drop, map}
+use Rattle.std.specs.Prelude.{◌≡◌, ◌⊎◌, ◌++◌, List, [], ◌∷◌, length, take, drop, map}
 use Rattle.std.specs.List.{flat_map}
 use Rattle.im_digest.specs.Digests.{Hash}
 use Rattle.im_draft.specs.Drafts.{entry_of, AreEntries, AreFree}
