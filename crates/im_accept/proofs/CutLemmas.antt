@@ -109,11 +109,11 @@ say-sessions : (names : List (List ℕ)) (texts : List (List ℕ)) (lines : List
 say-sessions names [] lines more h =
     subst (λ (ls : List Line). HaveSessions (ls ++ lines_of more)) (sym h.0) (subst (λ (m : List (List Line)). HaveSessions (lines_of m)) (sym h.1) (λ k d within. absurd (omega arith)))
 say-sessions names (t ∷ texts) lines more (inl h) = say-sessions names texts lines more h.1
-say-sessions names (t ∷ texts) lines more (inr (inl (ends, none, next, others, e, says))) =
+say-sessions names (t ∷ texts) lines more (inr (inl (ends, none, (next, others, e, says)))) =
     subst (λ (ls : List Line). HaveSessions (ls ++ lines_of more)) (sym none) (subst (λ (m : List (List Line)). HaveSessions (lines_of m)) (sym e) (say-sessions names texts next others says))
 say-sessions names (t ∷ texts) lines more (inr (inr (line, rest, e, is, may, says))) =
     subst (λ (ls : List Line). HaveSessions (ls ++ lines_of more)) (sym e) (all-more line (rest ++ lines_of more) is.2 (say-sessions (with_name names line.session) texts rest more says))
 
 pub script-sessions : (octets : List ℕ) (script : List (List Line)) → IsScript octets script → HaveSessions (lines_of script)
-script-sessions octets script (texts, are, first, more, e, says) =
+script-sessions octets script (texts, are, (first, more, e, says)) =
     subst (λ (s : List (List Line)). HaveSessions (lines_of s)) (sym e) (say-sessions [] texts first more says)

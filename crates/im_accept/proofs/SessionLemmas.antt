@@ -97,7 +97,7 @@ first-lines hash linker h0 h phases unrun r =
 
 -- two lists of one length that begin the same list
 front-same : (xs ys rest more : List Line) → length xs ≡ length ys → xs ++ rest ≡ ys ++ more → xs ≡ ys
-front-same xs ys rest more size same = sym (take_at xs rest (length xs) refl) ∙ (ap (take (length xs)) same ∙ take_at ys more (length xs) size)
+front-same xs ys rest more size same = sym (take_at xs rest (length xs) refl) ∙ (ap (take (length xs)) same ∙ take_at ys more (length xs) (sym size))
 
 pub one-writing : (hash : Hash) (linker : Bool) (h0 h g0 g : List Transaction) (phases others : List (List Outcome)) (unrun left : List (List Line)) → SessionsReport hash linker h0 h phases
     → SessionsReport hash linker g0 g others → All (λ outcomes. HaveSessions (map line_in outcomes)) phases → All (λ outcomes. HaveSessions (map line_in outcomes)) others
