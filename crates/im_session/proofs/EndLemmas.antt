@@ -82,7 +82,7 @@ times_unrun k [] = refl
 times_unrun k (l ∷ lines) = omega (arith, times_unrun k lines, sum_by-cons (λ (o : Outcome). times k (numbers_in o)) (not_run l) (map not_run lines))
 
 times_in_append : (k : ℕ) (xs ys : List Outcome) → times_in k (xs ++ ys) ≡ times_in k xs + times_in k ys
-times_in_append k [] ys = refl
+times_in_append k [] ys = omega arith
 times_in_append k (x ∷ xs) ys =
     omega (arith, times_in_append k xs ys, sum_by-cons (λ (o : Outcome). times k (numbers_in o)) x xs, sum_by-cons (λ (o : Outcome). times k (numbers_in o)) x (xs ++ ys))
 

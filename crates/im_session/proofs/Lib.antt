@@ -2,6 +2,7 @@ pub mod GrowLemmas
 pub mod StepLemmas
 pub mod RunLemmas
 pub mod LineLemmas
+pub mod HelperLemmas
 pub mod PhaseLemmas
 pub mod TogetherLemmas
 pub mod EndLemmas

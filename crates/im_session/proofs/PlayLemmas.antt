@@ -191,9 +191,9 @@ module _ (hash : Hash) (table : TableId) (links : Bool) (names : List (List ℕ)
 
   -- where all lines are of one session, and no helper linked, that session alone placed and linked
   alone_by : (p : WasPlayed hash table names lines order before after ended old mid new) (out : List Outcome) → mid.view.leaves ≡ old.view.leaves → OneLeft hash table old.view.least.durable old.view.least.linked after out → RanAlone old new out
-  alone_by p out idle (inl (none, zero)) = (
+  alone_by p out idle (inl (none, linked)) = (
     0,
-    omega (arith, p.gathered.leaves, idle, zero),
+    omega (arith, p.gathered.leaves, idle, linked),
     subst (RunsAlone old.view.least.durable old.view.least.linked 0 new) (sym none)
         (alone_none old.view.least.durable old.view.least.linked new (omega (arith, p.grown.durable, p.gathered.durable)) (omega (arith, p.grown.linked, p.gathered.linked))),
   )
