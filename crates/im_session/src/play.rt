@@ -1,5 +1,5 @@
 // One phase: the lines are dealt, the sessions run, and their passes are taken in again.
-ghost use Rattle.std.specs.Prelude.{◌≡◌, ◌≢◌, ◌≤◌, ◌<◌, ◌+◌, AllPairs, List, [], length, map, IfOk, OnErr};
+ghost use Rattle.std.specs.Prelude.{◌≡◌, ◌≢◌, ◌≤◌, ◌<◌, ◌+◌, AllPairs, List, [], length, map, vec_capacity, IfOk, OnErr};
 ghost use Rattle.std.specs.List.{All, flat_map};
 ghost use Rattle.im_report.specs.Outcomes.{Outcome};
 ghost use Rattle.im_report.specs.Sessions.{phase_text};
@@ -52,7 +52,7 @@ fn room_for(alloc: Global, names: &[Octets], phase: Phase) -> Result<Room, Alloc
     requires few { length names.now ≤ 8 }
     ensures dealt { IfOk result (λ room. AreDealt names.now phase room.order.items room.lines.items) }
     ensures none { IfOk result (λ room. (room.sessions.items ≡ []) × (room.ended.items ≡ [])) }
-    ensures room { IfOk result (λ room. (length names.now ≤ room.sessions.capacity) × (length names.now ≤ room.ended.capacity)) }
+    ensures room { IfOk result (λ room. (length names.now ≤ vec_capacity room.sessions) × (length names.now ≤ vec_capacity room.ended)) }
 {
     let sessions = Vec::with_capacity(alloc, names.len())?;
     let ended = Vec::with_capacity(alloc, names.len())?;
@@ -76,7 +76,7 @@ fn hand_out<H: Hash32, D: Disk, C: Clock, N: TipName>(
 ) -> Vec<Session>
     requires pass { IsPassOf N.table main.old }
     requires room { (length lines.items ≤ 8) × (length lines.items + 1 < main.old.view.weight) }
-    requires none { (sessions.items ≡ []) × (length lines.items ≤ sessions.capacity) }
+    requires none { (sessions.items ≡ []) × (length lines.items ≤ vec_capacity sessions) }
     ensures left { AreHanded N.table main.old main.new (length lines.items) }
     ensures ready { All (IsReady N.table) result.items }
     ensures begins { All (λ s. (s.pass.view.seen ≡ main.old.view.seen) × (s.pass.view.least ≡ main.old.view.least)) result.items }
@@ -107,7 +107,7 @@ fn gather<H: Hash32, D: Disk, C: Clock, N: TipName>(
 ) -> Vec<Ended>
     requires pass { IsPassOf N.table main.old }
     requires passes { All (λ s. IsPassOf N.table s.pass) sessions.items }
-    requires room { (length sessions.items ≤ 8) × (ended.items ≡ []) × (length sessions.items ≤ ended.capacity) }
+    requires room { (length sessions.items ≤ 8) × (ended.items ≡ []) × (length sessions.items ≤ vec_capacity ended) }
     ensures { AreGathered N.table main.old main.new sessions.items result.items }
 {
     let mut number = 0usize;

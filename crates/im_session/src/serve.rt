@@ -1,4 +1,4 @@
-ghost use Rattle.std.specs.Prelude.{◌≡◌, ◌≢◌, ◌<◌, ◌≤◌, AllPairs, List, [], length, true};
+ghost use Rattle.std.specs.Prelude.{◌≡◌, ◌≢◌, ◌<◌, ◌≤◌, AllPairs, List, [], length, true, vec_capacity};
 ghost use Rattle.std.specs.List.{All, flat_map};
 ghost use Rattle.im_report.specs.Outcomes.{Outcome};
 ghost use Rattle.im_script.specs.Script.{lines_of, names_of};
@@ -173,10 +173,10 @@ pub fn serve<
     requires disk { (D.told opened.disk ≡ N.synced) × (D.faults opened.disk ≡ N.faults) }
     requires clock { (C.constant opened.clock ≡ N.time) × (C.given opened.clock ≡ N.given) }
     requires marked { All (λ item. item.found ≡ true) opened.found }
-    requires passes { (passes.items ≡ []) × (1 ≤ passes.capacity) }
+    requires passes { (passes.items ≡ []) × (1 ≤ vec_capacity passes) }
     requires named { script.names.items ≡ names_of [] (lines_of script.phases.items) }
     requires few { length script.names.items ≤ 8 }
-    ensures served { Serves D.told D.faults links (naming_of H.digest D.told D.faults C.constant C.given opened) script.phases.items (K.written sink.old) (K.written sink.new) (K.faults sink.old) (K.faults sink.new) result.disk (C.constant result.clock) (C.given result.clock) result.end }
+    ensures served { Serves D.told D.faults links (naming_of H.digest D.told D.faults C.constant C.given opened.entry) script.phases.items (K.written sink.old) (K.written sink.new) (K.faults sink.old) (K.faults sink.new) result.disk (C.constant result.clock) (C.given result.clock) result.end }
 {
     let (store, mut main) = opened.named::<N>();
     let end = run_phases(rt, alloc, gate, sink, &store, &mut main, script, links);

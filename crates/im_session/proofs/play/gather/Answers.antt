@@ -48,7 +48,7 @@ push_reserved-requires g c =
     let rest : List Session = c.next.new.self.rest.items in
     let all : c.args.sessions.items ≡ c.loop-session.yielded ++ c.in-Some.session ∷ rest = i.all ∙ ap (λ (l : List Session). c.loop-session.yielded ++ l) c.in-Some.ensures.steps.0 in
     let many = gathered_many g.N.TipName.table c.args.main.now c.loop-session.main c.loop-session.yielded c.loop-session.ended.items i.gathered in
-    omega (arith, many, inside c.args.sessions.items c.loop-session.yielded rest c.in-Some.session all, i.room)
+    omega (arith, many, inside c.args.sessions.items c.loop-session.yielded rest c.in-Some.session all, i.room, c.loop-session.ended.ok.0)
 
 -- one more was taken in
 pub loop-session-preserved : goal.loop-session-preserved

@@ -1,4 +1,5 @@
 use Rattle.std.proofs.Common.{◌≡◌, ◌≤◌, ◌++◌, length}
+use Rattle.std.specs.Prelude.{vec_capacity}
 use Rattle.im_session.specs.Gathered.{AreGathered}
 use Rattle.im_table.specs.Passes.{IsPassOf}
 use Rattle.im_session.proofs.play.gather.Given as goal
@@ -11,5 +12,5 @@ invariant-loop-session g l = record {
   main : IsPassOf g.N.TipName.table l.main;
   number : l.number ≡ length l.yielded;
   gathered : AreGathered g.N.TipName.table l.initial.main l.main l.yielded l.ended.items;
-  room : length l.fn.sessions.items ≤ l.ended.capacity;
+  room : length l.fn.sessions.items ≤ vec_capacity l.ended;
 }

@@ -53,7 +53,7 @@ push_reserved-requires g c =
     let all : c.args.lines.items ≡ c.loop-mine.yielded ++ c.in-Some.mine ∷ rest = i.all ∙ ap (λ (l : List (List Line)). c.loop-mine.yielded ++ l) c.in-Some.ensures.steps.0 in
     let many : length c.loop-mine.sessions.items ≡ length c.loop-mine.yielded =
     sym (length-map c.loop-mine.sessions.items (λ (s : Session). s.lines.items)) ∙ ap (λ (ls : List (List Line)). length ls) i.lines in
-    omega (arith, many, inside c.args.lines.items c.loop-mine.yielded rest c.in-Some.mine all, i.room)
+    omega (arith, many, inside c.args.lines.items c.loop-mine.yielded rest c.in-Some.mine all, i.room, c.loop-mine.sessions.ok.0)
 
 -- one more was handed out
 pub loop-mine-preserved : goal.loop-mine-preserved

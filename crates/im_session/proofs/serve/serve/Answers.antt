@@ -1,4 +1,4 @@
-use Rattle.std.proofs.Common.{rules, ◌≡◌, ◌∷◌, [], ℤ, List, Option, subst, sym}
+use Rattle.std.proofs.Common.{rules, ◌≡◌, ◌∷◌, [], ℤ, List, Option, length, ap, subst, sym, arith}
 use Rattle.im_session.proofs.ServeLemmas.{serves_of}
 use Rattle.im_session.specs.Served.{Serves}
 use Rattle.im_store.specs.Closing.{ClosesStore}
@@ -34,3 +34,7 @@ returns g c =
       served = subst (λ (m : Naming). Serves g.D.Disk.told g.D.Disk.faults c.args.links m c.args.script.phases.items (g.K.Sink.written c.args.sink.now) (g.K.Sink.written c.run_phases-end.new.sink)
           (g.K.Sink.faults c.args.sink.now) (g.K.Sink.faults c.run_phases-end.new.sink) disk (g.C.Clock.constant clock) (g.C.Clock.given clock) c.run_phases-end.result) (sym named) serves;
     }
+
+-- there is room for the one pass
+pub push_reserved-requires : goal.push_reserved-requires
+push_reserved-requires g c = omega (arith, ap (λ (ps : List KnownPass). length ps) c.requires.passes.0, c.requires.passes.1, c.args.passes.ok.0)
