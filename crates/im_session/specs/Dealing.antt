@@ -8,7 +8,7 @@ use Rattle.im_script.specs.declared.commands.Line.{Line}
 abbrev pub AreNamed : List (List ℕ) → List Line → Type 0
 AreNamed names lines = All (λ line. has_name names line.session ≡ true) lines
 
--- a name stands at this place, and not before it
+-- a name stands at this place
 pub record IsAt (names : List (List ℕ)) (name : List ℕ) (number : ℕ) : Type 0 where
   pub is : slice_get names number ≡ Some name
 

@@ -1,5 +1,5 @@
 // The replies of a phase are written, in the script's order.
-ghost use Rattle.std.specs.Prelude.{◌≡◌, ◌<◌, ◌≤◌, ◌+◌, ℕ, List, length, take, map, IfNone, IfSome, OnErr, OnOk};
+ghost use Rattle.std.specs.Prelude.{◌≡◌, ◌<◌, ◌≤◌, ◌+◌, ℕ, [], length, take, OnErr, OnOk, slice_index_or};
 ghost use Rattle.std.specs.List.{All, flat_map};
 ghost use Rattle.std.specs.Io.KnownBytes.{Appends};
 ghost use Rattle.im_edge.specs.Counts.{Rose};
@@ -61,8 +61,16 @@ pub(crate) fn write_front<K: Sink>(
     let mut next = [0usize; 8];
     for number in order {
         let at = *number as usize;
-        write_all(sink, ended[at].texts.as_slice()[next[at]].as_slice())?;
+        write_all(sink, text_at(&ended[at], next[at]))?;
         next[at] += 1;
     }
     Ok(())
+}
+
+// The text of a session's reply, by its number from 0.
+fn text_at(ended: &Ended, number: usize) -> &[u8]
+    requires { number < length ended.now.texts }
+    ensures { result.now ≡ slice_index_or ended.now.texts number [] }
+{
+    ended.texts.as_slice()[number].as_slice()
 }
