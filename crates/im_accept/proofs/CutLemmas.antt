@@ -11,7 +11,7 @@ use Rattle.im_text.proofs.WordLemmas.{Lacks-word}
 use Rattle.im_digest.specs.Digests.{Hash}
 use Rattle.im_model.specs.declared.transactions.Transaction.{Transaction}
 use Rattle.im_text.specs.Fields.{is_session_octet, IsSession}
-use Rattle.im_script.specs.Script.{IsScript, Say}
+use Rattle.im_script.specs.Script.{IsScript, Say, lines_of, with_name}
 use Rattle.im_script.specs.declared.commands.Line.{Line}
 use Rattle.im_report.specs.Report.{Answered, Report, reply_line, answer_line}
 use Rattle.im_accept.specs.Taken.{line_text, HaveSessions}
@@ -70,7 +70,7 @@ answer-same x y line few_x few_y e =
     let c : List ℕ → Answered = λ r. record { line = y.line; number = y.number; reply = r } in
     ap a line ∙ ap b number ∙ ap c parts.1
 
-answers-same : (xs ys : List Answered) → map (λ a. a.line) xs ≡ map (λ a. a.line) ys → map line_text xs ≡ map line_text ys
+pub answers-same : (xs ys : List Answered) → map (λ a. a.line) xs ≡ map (λ a. a.line) ys → map line_text xs ≡ map line_text ys
     → All (λ a. a.number ≤ 1048576) xs → All (λ a. a.number ≤ 1048576) ys → xs ≡ ys
 answers-same [] [] lines texts few_x few_y = refl
 answers-same [] (y ∷ ys) lines texts few_x few_y = absurd cc
@@ -105,11 +105,15 @@ all-more line lines name names zero d within = name
 all-more line lines name names (suc k) d within = names k d (omega arith)
 
 -- what texts say has sessions
-say-sessions : (before : List Line) (texts : List (List ℕ)) (lines : List Line) → Say before texts lines → HaveSessions lines
-say-sessions before [] lines h = subst (λ (ls : List Line). HaveSessions ls) (sym h) (λ k d within. absurd (omega arith))
-say-sessions before (t ∷ texts) lines (inl h) = say-sessions before texts lines h.1
-say-sessions before (t ∷ texts) lines (inr (line, rest, e, is, may, more)) =
-    subst (λ (ls : List Line). HaveSessions ls) (sym e) (all-more line rest is.2 (say-sessions (before ++ line ∷ []) texts rest more))
+say-sessions : (names : List (List ℕ)) (texts : List (List ℕ)) (lines : List Line) (more : List (List Line)) → Say names texts lines more → HaveSessions (lines ++ lines_of more)
+say-sessions names [] lines more h =
+    subst (λ (ls : List Line). HaveSessions (ls ++ lines_of more)) (sym h.0) (subst (λ (m : List (List Line)). HaveSessions (lines_of m)) (sym h.1) (λ k d within. absurd (omega arith)))
+say-sessions names (t ∷ texts) lines more (inl h) = say-sessions names texts lines more h.1
+say-sessions names (t ∷ texts) lines more (inr (inl (ends, none, (next, others, e, says)))) =
+    subst (λ (ls : List Line). HaveSessions (ls ++ lines_of more)) (sym none) (subst (λ (m : List (List Line)). HaveSessions (lines_of m)) (sym e) (say-sessions names texts next others says))
+say-sessions names (t ∷ texts) lines more (inr (inr (line, rest, e, is, may, says))) =
+    subst (λ (ls : List Line). HaveSessions (ls ++ lines_of more)) (sym e) (all-more line (rest ++ lines_of more) is.2 (say-sessions (with_name names line.session) texts rest more says))
 
-pub script-sessions : (octets : List ℕ) (lines : List Line) → IsScript octets lines → HaveSessions lines
-script-sessions octets lines h = say-sessions [] h.0 lines h.2
+pub script-sessions : (octets : List ℕ) (script : List (List Line)) → IsScript octets script → HaveSessions (lines_of script)
+script-sessions octets script (texts, are, (first, more, e, says)) =
+    subst (λ (s : List (List Line)). HaveSessions (lines_of s)) (sym e) (say-sessions [] texts first more says)

@@ -6,3 +6,4 @@ pub mod PassLemmas
 pub mod ReplyLemmas
 pub mod ShownLemmas
 pub mod TakenLemmas
+pub mod SessionLemmas

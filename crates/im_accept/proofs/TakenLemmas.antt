@@ -212,14 +212,20 @@ sessions-are answers names k d within =
     let count : length (map (λ (a : Answered). a.line) answers) ≡ length answers = length-map answers (λ (a : Answered). a.line) in
     subst (λ (line : Line). IsSession line.session) (get_or-map (λ (a : Answered). a.line) answers k d d.line within) (names k d.line (omega arith))
 
+-- each of some answers
+pub answers-taken : (hash : Hash) (h : List Transaction) (answers : List Answered) → IsHistory h → All (λ a. IsAnswer hash h a.line.command a.number a.reply) answers → All (λ a. a.number ≤ length h) answers
+    → All (λ a. IsSession a.line.session) answers → AreReadBack hash h answers → AreAcceptedAnswers hash h answers
+answers-taken hash h answers history each within named read =
+    λ k d lt.
+    let a : Answered = get_or answers k d in
+    let few : length h ≤ 1048576 = history.few in
+    let there : a.number ≤ length h = within k d lt in
+    let replies : IsReply (line_text a) a.reply = line-replies a (named k d lt) (omega arith) in
+    (taken-by hash h a.line.session a.line.command a.number a.reply history there replies (each k d lt) (read k d lt), λ closed. inr (a.reply, replies, closed))
+
 -- each of a report
 pub report-taken : (hash : Hash) (h0 h : List Transaction) (lines : List Line) (octets : List ℕ) (report : Report hash h0 h lines octets)
     → HaveSessions lines → AreReadBack hash h report.answers → AreAcceptedAnswers hash h report.answers
 report-taken hash h0 h lines octets report names read =
-    let named : All (λ a. IsSession a.line.session) report.answers = sessions-are report.answers (subst (λ (ls : List Line). HaveSessions ls) (sym report.lines_are) names) in
-    λ k d within.
-    let a : Answered = get_or report.answers k d in
-    let few : length h ≤ 1048576 = report.history.few in
-    let there : a.number ≤ length h = (report.within k d within).1 in
-    let replies : IsReply (line_text a) a.reply = line-replies a (named k d within) (omega arith) in
-    (taken-by hash h a.line.session a.line.command a.number a.reply report.history there replies (report.each k d within) (read k d within), λ closed. inr (a.reply, replies, closed))
+    answers-taken hash h report.answers report.history report.each (λ k d within. (report.within k d within).1)
+    (sessions-are report.answers (subst (λ (ls : List Line). HaveSessions ls) (sym report.lines_are) names)) read

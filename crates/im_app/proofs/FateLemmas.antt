@@ -22,8 +22,8 @@ IsBad script k = (length script ≤ 67108864) × ((n : ℕ) × (k ≡ n + 1) × 
 
 -- what is said of each way to end, where nothing failed
 pub record Ends (hash : Hash) (disk : Option Told) (status : Status) (script : List ℕ) : Type 0 where
-  pub given : status ≡ the.Ok → (lines : List Line) × IsGiven script lines
-  pub opened : (damage : Damage) → status ≡ the.Damaged damage → (lines : List Line) × IsGiven script lines
+  pub given : status ≡ the.Ok → (phases : List (List Line)) × IsGiven script phases
+  pub opened : (damage : Damage) → status ≡ the.Damaged damage → (phases : List (List Line)) × IsGiven script phases
   pub ends : EndsRun status
   pub no_usage : status ≡ the.Usage → ⊥
   pub no_read : status ≡ the.ReadFault → ⊥
@@ -35,7 +35,7 @@ pub record Ends (hash : Hash) (disk : Option Told) (status : Status) (script : L
   pub whole : status ≡ the.Ok → IfSome disk (λ t. (found : List Transaction) × Stands hash (seen t) found)
   pub sound : (damage : Damage) (t : Told) (found : List Transaction) → disk ≡ Some t → Stands hash (seen t) found → status ≡ the.Damaged damage → ⊥
 
-runs-end : (hash : Hash) (disk : Option Told) (status : Status) (script : List ℕ) → Ends hash disk status script → (lines : List Line) → IsGiven script lines
+runs-end : (hash : Hash) (disk : Option Told) (status : Status) (script : List ℕ) → Ends hash disk status script → (phases : List (List Line)) → IsGiven script phases
     → (status ≡ the.Ok) ⊎ ((status ≡ the.Memory) ⊎ IsDamaged hash disk status)
 runs-end hash disk the.Ok script e lines g = inl refl
 runs-end hash disk the.Usage script e lines g = absurd (e.no_usage refl)

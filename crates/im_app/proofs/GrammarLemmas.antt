@@ -1,5 +1,5 @@
 -- The script that `gen` runs is in the grammar, and says its lines.
-use Rattle.std.proofs.Common.{◌≡◌, ◌⊎◌, ◌∙◌, ◌+◌, ◌-◌, ◌*◌, ◌/◌, ◌%◌, ◌^◌, ◌<◌, ◌≤◌, ◌==◌, ◌&&◌, ◌||◌, cond, nat_le, ℕ, zero, suc, Bool, true, false, List, [], ◌∷◌, ◌++◌, length, map, None, codes, refl, sym, ap, subst, inl, inr, arith, append_assoc}
+use Rattle.std.proofs.Common.{◌≡◌, ◌⊎◌, ◌∙◌, ◌+◌, ◌-◌, ◌*◌, ◌/◌, ◌%◌, ◌^◌, ◌<◌, ◌≤◌, ◌==◌, ◌||◌, cond, nat_le, ℕ, zero, suc, Bool, true, false, List, [], ◌∷◌, ◌++◌, length, map, None, codes, refl, sym, ap, subst, inl, inr, arith, append_assoc}
 use Rattle.std.proofs.lemmas.Bool.{and_from, and_parts, false≢true, le-leb, leb-true}
 use Rattle.std.proofs.lemmas.Fmt.{decimal_by_steps}
 use Rattle.std.proofs.lemmas.Grind.{fold-append}
@@ -15,10 +15,9 @@ use Rattle.im_text.specs.Words.{IsNumber, is_word, number_value}
 use Rattle.im_text.proofs.CutLemmas.{Lacks-append}
 use Rattle.im_accept.proofs.DigitLemmas.{decimal-digits, decimal-lacks, decimal-word}
 use Rattle.im_gen.specs.Generator.{advance_text, asked_text, behind_text, generator_after, item_text, key_of, own_text, script_text, source_of}
-use Rattle.im_script.specs.Script.{deletion, AreNumbers, IsCommand, IsScript, IsScriptLine, MayFollow, Say}
+use Rattle.im_script.specs.Script.{deletion, AreNumbers, IsCommand, IsScript, IsScriptLine, MayFollow, Say, with_name}
 use Rattle.im_script.specs.declared.commands.Command.{Command}
 use Rattle.im_script.specs.declared.commands.Command.TheVariants.{Set, State, Advance, Item, Link}
-use Rattle.im_script.specs.declared.commands.Line.{Line}
 use Rattle.im_app.specs.GeneratedLines.{asked_commands, behind_commands, generated_entry, generated_key, generated_line, own_command, script_commands, script_lines}
 
 -- the octets are texts, each ended by LF, that say these commands in the script's session
@@ -32,25 +31,24 @@ ended-append [] ds a b e f = subst (λ (x : List ℕ). Say-ended (x ++ b) ds) (s
 ended-append (c ∷ cs) ds a b e f =
     (e.0, e.1 ++ b, ap (λ (x : List ℕ). x ++ b) e.2 ∙ append_assoc e.0 (10 ∷ e.1) b, e.3, e.4, ended-append cs ds e.1 b e.5 f)
 
--- the lines before are of the script's session
-abbrev Alike : List Line → Type 0
-Alike [] = Unit {0}
-Alike (first ∷ more) = codes "a" ≡ first.session
+-- the names of the lines before are none, or that of the script's session
+abbrev Alike : List (List ℕ) → Type 0
+Alike names = (names ≡ []) ⊎ (names ≡ codes "a" ∷ [])
 
-may-follow : (before : List Line) (c : Command) → Alike before → MayFollow before (generated_line c)
-may-follow [] c alike = tt
-may-follow (first ∷ more) c alike = alike
+may-follow : (names : List (List ℕ)) (c : Command) → Alike names → MayFollow names (generated_line c)
+may-follow names c (inl none) = subst (λ (ns : List (List ℕ)). MayFollow ns (generated_line c)) (sym none) refl
+may-follow names c (inr one) = subst (λ (ns : List (List ℕ)). MayFollow ns (generated_line c)) (sym one) refl
 
-alike-next : (before : List Line) (c : Command) → Alike before → Alike (before ++ generated_line c ∷ [])
-alike-next [] c alike = refl
-alike-next (first ∷ more) c alike = alike
+alike-next : (names : List (List ℕ)) → Alike names → Alike (with_name names (codes "a"))
+alike-next names (inl none) = inr (ap (λ (ns : List (List ℕ)). with_name ns (codes "a")) none)
+alike-next names (inr one) = inr (ap (λ (ns : List (List ℕ)). with_name ns (codes "a")) one)
 
-ended-say : (cs : List Command) (octets : List ℕ) (before : List Line) → Alike before → Say-ended octets cs
-    → (texts : List (List ℕ)) × AreTexts octets texts × Say before texts (map generated_line cs)
-ended-say [] octets before alike e = ([], e, refl)
-ended-say (c ∷ cs) octets before alike e =
-    let rest = ended-say cs e.1 (before ++ generated_line c ∷ []) (alike-next before c alike) e.5 in
-    (e.0 ∷ rest.0, (e.3, inr (e.1, e.2, rest.1)), inr (generated_line c, map generated_line cs, refl, e.4, may-follow before c alike, rest.2))
+ended-say : (cs : List Command) (octets : List ℕ) (names : List (List ℕ)) → Alike names → Say-ended octets cs
+    → (texts : List (List ℕ)) × AreTexts octets texts × Say names texts (map generated_line cs) []
+ended-say [] octets names alike e = ([], e, (refl, refl))
+ended-say (c ∷ cs) octets names alike e =
+    let rest = ended-say cs e.1 (with_name names (codes "a")) (alike-next names alike) e.5 in
+    (e.0 ∷ rest.0, (e.3, inr (e.1, e.2, rest.1)), inr (inr (generated_line c, map generated_line cs, refl, e.4, may-follow names c alike, rest.2)))
 
 -- ---- numbers and words
 
@@ -230,6 +228,8 @@ script-said (suc n) few =
     (ended-append (script_commands n) (own_command (suc n) key ∷ []) (script_text n) (own_text (suc n) key) (script-said n (omega arith)) (own-said (suc n) key))
     (behind-said (suc n) few)
 
--- the script is in the grammar, and says its lines
-pub script-is : (n : ℕ) → n ≤ 100000 → IsScript (script_text n) (script_lines n)
-script-is n few = ended-say (script_commands n) (script_text n) [] tt (script-said n few)
+-- the script is in the grammar, and says its lines: it has one phase
+pub script-is : (n : ℕ) → n ≤ 100000 → IsScript (script_text n) (script_lines n ∷ [])
+script-is n few =
+    let said = ended-say (script_commands n) (script_text n) [] (inl refl) (script-said n few) in
+    (said.0, said.1, (script_lines n, [], refl, said.2))

@@ -1,10 +1,10 @@
 pub mod FateLemmas
 pub mod FoundLemmas
-pub mod GateLemmas
 pub mod GeneratedLemmas
 pub mod GrammarLemmas
 pub mod LinkedLemmas
 pub mod ReportLemmas
 pub mod RunLemmas
+pub mod ServedLemmas
 pub mod ShownLemmas
 pub mod VerdictLemmas

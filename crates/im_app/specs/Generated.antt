@@ -7,24 +7,26 @@ use Rattle.im_format.specs.Standing.{Stands}
 use Rattle.im_model.specs.Headers.{alh}
 use Rattle.im_model.specs.History.{header_of}
 use Rattle.im_model.specs.declared.transactions.Transaction.{Transaction}
+use Rattle.im_script.specs.Script.{lines_of}
 use Rattle.im_script.specs.declared.commands.Line.{Line}
 use Rattle.im_report.specs.Report.{Report, floor_after}
 use Rattle.im_facts.specs.Verdicts.{Verdict}
 use Rattle.im_verify.specs.Judged.{IsVerified, NoneForked, NoneRefused, kept_texts, up_to_fork}
-use Rattle.im_session.specs.Turns.{HasTime}
+use Rattle.im_session.specs.Served.{HasTime}
 use Rattle.im_gen.specs.Generator.{accepted_of, linked_of, placed_of, script_text, told_line}
-use Rattle.im_app.specs.Runs.{IsGiven}
+use Rattle.im_app.specs.Runs.{HasOneSession, IsGiven}
 
 -- the Alh of the last transaction, that of the empty string where there is none
 abbrev pub last_alh : Hash → List Transaction → List ℕ
 last_alh hash history = if length history == 0 then hash [] else alh hash (header_of hash history (length history))
 
--- These octets are the report of a script, at time 0 and from nothing, to a history for which reads of a disk stand now.
+-- These octets are what was written for a script, at time 0 and from nothing, to a history for which reads of a disk stand now: where its lines
+-- are all of one session, its report.
 pub record IsReported (hash : Hash) (script octets : List ℕ) (now : Told) : Type 0 where
-  pub lines : List Line
-  pub given : IsGiven script lines
+  pub phases : List (List Line)
+  pub given : IsGiven script phases
   pub history : List Transaction
-  pub report : Report hash [] history lines octets
+  pub report : HasOneSession phases → Report hash [] history (lines_of phases) octets
   pub timed : All (HasTime (Some (pos 0))) history
   pub stands : Stands hash (seen now) history
 
@@ -32,11 +34,11 @@ pub record IsReported (hash : Hash) (script octets : List ℕ) (now : Told) : Ty
 -- that it has as many transactions as the line says, and the tree behind the lines of the report as well, and that a client
 -- that knows nothing accepts as many lines of the report, and neither refuses nor forks one.
 pub record IsGenerated (hash : Hash) (n : ℕ) (line : List ℕ) : Type 0 where
-  pub lines : List Line
-  pub given : IsGiven (script_text n) lines
+  pub phases : List (List Line)
+  pub given : IsGiven (script_text n) phases
   pub octets : List ℕ
   pub history : List Transaction
-  pub report : Report hash [] history lines octets
+  pub report : Report hash [] history (lines_of phases) octets
   pub timed : All (HasTime (Some (pos 0))) history
   pub many : length history ≡ placed_of n
   pub linked : floor_after 0 report.answers ≡ linked_of n

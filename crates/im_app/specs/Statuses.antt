@@ -1,11 +1,12 @@
 -- How the ends of a run are told.
 use Rattle.std.specs.Prelude.{ℕ, List, [], ◌++◌, codes, Result, Ok as Done, Err}
 use Rattle.std.specs.Fmt.{decimal}
-use Rattle.im_edge.specs.declared.sink.WriteFault.{WriteFault as TheFault}
-use Rattle.im_ledger.specs.declared.errors.CommitError.{CommitError}
-use Rattle.im_ledger.specs.declared.errors.CommitError.TheVariants as commit
 use Rattle.im_opening.specs.declared.errors.OpenError.{OpenError}
 use Rattle.im_opening.specs.declared.errors.OpenError.TheVariants as opened
+use Rattle.im_session.specs.declared.errors.LineError.{LineError}
+use Rattle.im_session.specs.declared.errors.LineError.TheVariants as line
+use Rattle.im_session.specs.declared.serve.Stopped.{Stopped}
+use Rattle.im_session.specs.declared.serve.Stopped.TheVariants as stops
 use Rattle.im_app.specs.Damages.{damage_words}
 use Rattle.im_app.specs.declared.status.Status.{Status}
 use Rattle.im_app.specs.declared.status.Status.TheVariants.{Ok, Usage, Script, ReadFault, WriteFault, DiskFault, Damaged, KeeperFault, Refused, Forked, Memory, Long, Kept}
@@ -156,17 +157,16 @@ status_by opened.DiskFault = DiskFault
 status_by (opened.Damaged damage) = Damaged damage
 status_by opened.Memory = Memory
 
--- how a run ends: the line without a reply decides, and else whether the report was written
-abbrev pub status_behind : Result Unit CommitError → Result Unit TheFault → Status
-status_behind (Err commit.DiskFault) wrote = DiskFault
-status_behind (Err commit.Memory) wrote = Memory
-status_behind (Done done) (Done wrote) = Ok
-status_behind (Done done) (Err fault) = WriteFault
-
 -- the status of a line that got no reply
-abbrev pub status_for : CommitError → Status
-status_for commit.DiskFault = DiskFault
-status_for commit.Memory = Memory
+abbrev pub status_for : LineError → Status
+status_for line.DiskFault = DiskFault
+status_for line.Memory = Memory
+
+-- how a run ends: the line without a reply decides, and else whether the replies were written
+abbrev pub status_behind : Result Unit Stopped → Status
+status_behind (Done done) = Ok
+status_behind (Err (stops.Line why)) = status_for why
+status_behind (Err stops.Write) = WriteFault
 
 -- a run ends so only behind a script of the grammar
 abbrev pub EndsGiven : Status → Type 0

@@ -1,4 +1,5 @@
-ghost use Rattle.std.specs.Prelude.{◌≡◌, ◌⊎◌, ℕ, ◌+◌, ◌≤◌, ◌<◌, [], length, List, IfErr, IfOk, IfSome, IsErrOf, OnOk, Err, Some};
+ghost use Rattle.std.specs.Prelude.{◌≡◌, ◌⊎◌, ℕ, ◌+◌, ◌≤◌, ◌<◌, [], length, List, true, IfErr, IfOk, IfSome, IsErrOf, OnOk, Err, Result, Some};
+ghost use Rattle.std.specs.List.{All};
 ghost use Rattle.im_disk.specs.Disk.{Told, after, seen};
 ghost use Rattle.im_disk.specs.declared.calls.Call.TheVariants.{Synced};
 ghost use Rattle.im_disk.specs.Grown.{Grows};
@@ -11,37 +12,42 @@ ghost use Rattle.im_model.specs.declared.transactions.Transaction.{Transaction};
 ghost use Rattle.im_mtree.specs.Checks.{first_fail};
 ghost use Rattle.im_script.specs.Script.{StopsAfter};
 ghost use Rattle.im_app.specs.Fates.{HasRunFate};
-ghost use Rattle.im_app.specs.Runs.{GivesScript, IsGiven, KeepsFound, LeavesFound, WritesFront, WritesPart, WritesReport};
+ghost use Rattle.im_app.specs.Runs.{GivesScript, HasOneSession, IsGiven, KeepsFound, LeavesFound, WritesFront, WritesPart, WritesReport, has_linker};
 ghost use Rattle.im_app.specs.Statuses.{EndsGiven, EndsReading, EndsRun, EndsWriting, status_behind, status_by, status_for};
 ghost use Rattle.im_opening.specs.Cut.{SyncsAtMost};
-ghost use Rattle.im_ledger.specs.declared.errors.CommitError.{CommitError as Why};
+ghost use Rattle.im_script.specs.Script.{lines_of, names_of};
+ghost use Rattle.im_session.specs.Served.{Serves};
+ghost use Rattle.im_store.specs.Names.{naming_of};
+ghost use Rattle.im_session.specs.declared.errors.LineError.{LineError as Why};
+ghost use Rattle.im_session.specs.declared.serve.Stopped.{Stopped as TheStopped};
 ghost use Rattle.im_script.specs.declared.commands.Line.{Line as TheLine};
 
-use crate::status::Status;
+use crate::status::{Done, Status};
 use im_digest::Hash32;
 use im_disk::disk::Disk;
 use im_edge::clock::Clock;
-use im_edge::sink::{Sink, WriteFault, write_all};
+use im_edge::gate::Gate;
+use im_edge::sink::Sink;
 use im_edge::source::{Source, SourceError, read_all};
-use im_ledger::errors::CommitError;
-use im_ledger::opening::open_ledger;
 use im_model::limits::MOST_INPUT_OCTETS;
 use im_opening::errors::OpenError;
-use im_script::commands::Line;
+use im_script::phases::Script;
 use im_script::scripts::{ScriptError, read_script};
-use im_session::serve::{Served, serve};
+use im_session::errors::LineError;
+use im_session::serve::{Served, Stopped, serve};
+use im_store::opened::{OpenFailed, Opened, open};
+use im_table::law::Free;
+use im_table::pass::Pass;
+use im_words::Link;
 use std::alloc::Global;
+use std::marker::Brand;
+use std::sync::Wait;
+use std::thread::Threads;
 
-/// How a run ended, and its disk.
-#[derive(Drop)]
-pub(crate) struct Ran<D: Drop> {
-    pub(crate) status: Status,
-    pub(crate) disk: D,
-}
-
-// Reads the lines of a script from a source, to its end.
-fn read_lines<S: Source>(alloc: Global, source: &mut S) -> Result<Vec<Line>, Status>
-    ensures given { IfOk result (λ lines. (script : List ℕ) × IfSome (S.left source.old) (λ octets. octets ≡ script) × IsGiven script lines.items) }
+// Reads a script from a source, to its end.
+fn read_phases<S: Source>(alloc: Global, source: &mut S) -> Result<Script, Status>
+    ensures given { IfOk result (λ read. (script : List ℕ) × IfSome (S.left source.old) (λ octets. octets ≡ script) × IsGiven script read.phases.items) }
+    ensures names { IfOk result (λ read. (read.names.items ≡ names_of [] (lines_of read.phases.items)) × (length read.names.items ≤ 8)) }
     ensures emptied { OnOk result (IfSome (S.left source.old) (λ _. S.left source.new ≡ Some [])) }
     ensures taken { TakesAtMost 67112960 (S.left source.old) (S.left source.new) }
     ensures ends { IfErr result EndsReading }
@@ -59,7 +65,7 @@ fn read_lines<S: Source>(alloc: Global, source: &mut S) -> Result<Vec<Line>, Sta
         Err(SourceError::Long) => return Err(Status::Long),
     };
     match read_script(alloc, octets.as_slice()) {
-        Ok(lines) => Ok(lines),
+        Ok(script) => Ok(script),
         Err(ScriptError::Memory) => Err(Status::Memory),
         Err(ScriptError::Line(line)) => Err(Status::Script { line }),
     }
@@ -76,98 +82,168 @@ fn status_of(error: OpenError) -> Status
     }
 }
 
-// How a run ends: the line that got no reply decides, and else whether the report was written.
-fn status_after(end: Result<(), CommitError>, wrote: Result<(), WriteFault>) -> Status
-    ensures { result ≡ status_behind end wrote }
+// How a run ends: the line that got no reply decides, and else whether the replies were written.
+fn status_after(end: Result<(), Stopped>) -> Status
+    ensures { result ≡ status_behind end }
 {
     match end {
-        Err(CommitError::DiskFault) => Status::DiskFault,
-        Err(CommitError::Memory) => Status::Memory,
-        Ok(()) => match wrote {
-            Ok(()) => Status::Ok,
-            Err(WriteFault) => Status::WriteFault,
-        },
+        Ok(()) => Status::Ok,
+        Err(Stopped::Line(LineError::DiskFault)) => Status::DiskFault,
+        Err(Stopped::Line(LineError::Memory)) => Status::Memory,
+        Err(Stopped::Write) => Status::WriteFault,
     }
 }
 
-// Opens a disk, answers the lines of a script over what it holds, and writes the report.
-fn run_lines<H: Hash32, K: Sink, D: Disk, C: Clock>(
+// Serves a script over an opened store, and tells how that ended.
+fn serve_script<
+    H: Hash32 + Sync,
+    K: Sink,
+    D: Disk + Send,
+    C: Clock + Send,
+    G: Gate + Sync,
+    R: Threads + Wait + Sync,
+>(
+    rt: &R,
+    alloc: Global,
+    gate: &G,
+    sink: &mut K,
+    opened: Opened<'_, H, D, C, Free>,
+    passes: Vec<Pass>,
+    script: Script,
+    links: bool,
+) -> Done<D, C>
+    requires marked { All (λ item. item.found ≡ true) opened.found }
+    requires passes { (passes.items ≡ []) × (1 ≤ passes.capacity) }
+    requires named { script.names.items ≡ names_of [] (lines_of script.phases.items) }
+    requires few { length script.names.items ≤ 8 }
+    ensures served { (end : Result Unit TheStopped) × (result.status ≡ status_behind end)
+        × Serves D.told D.faults links (naming_of H.digest D.told D.faults C.constant C.given opened) script.phases.items (K.written sink.old) (K.written sink.new) (K.faults sink.old) (K.faults sink.new) result.disk (C.constant result.clock) (C.given result.clock) end }
+{
+    let Served { disk, clock, end } = serve::<H, K, D, C, G, Brand, R>(
+        rt, alloc, gate, sink, opened, passes, script, links,
+    );
+    Done {
+        status: status_after(end),
+        disk,
+        clock,
+    }
+}
+
+// Opens a disk as a store, runs a script over it, and closes it. Where it isn't opened nothing is run.
+fn run_script<
+    H: Hash32 + Sync,
+    K: Sink,
+    D: Disk + Send,
+    C: Clock + Send,
+    G: Gate + Sync,
+    R: Threads + Wait + Sync,
+>(
+    rt: &R,
     alloc: Global,
     hash: &H,
+    gate: &G,
     sink: &mut K,
     disk: D,
-    clock: &mut C,
+    clock: C,
     logs: u8,
-    lines: Vec<Line>,
-) -> Ran<D>
+    link: Link,
+    script: Script,
+) -> Done<D, C>
     requires logs { (1 ≤ logs) × (logs ≤ 4) }
+    requires named { script.names.items ≡ names_of [] (lines_of script.phases.items) }
+    requires few { length script.names.items ≤ 8 }
     ensures ends { EndsWriting result.status }
-    ensures report { (script : List ℕ) → IsGiven script lines.items → result.status ≡ Status.Ok
-        → WritesReport (H.digest hash.now) (C.constant clock.old) logs (Some script) (D.told disk) (D.told result.disk) (C.given clock.old) (C.given clock.new) (K.written sink.old) (K.written sink.new) }
-    ensures part { (script : List ℕ) → IsGiven script lines.items → result.status ≡ Status.WriteFault
-        → WritesPart (H.digest hash.now) (C.constant clock.old) logs (Some script) (D.told disk) (D.told result.disk) (C.given clock.old) (C.given clock.new) (K.written sink.old) (K.written sink.new) }
-    ensures front { (script : List ℕ) (why : Why) → IsGiven script lines.items → result.status ≡ status_for why
-        → ((sink.new ≡ sink.old) × ((clock.new ≡ clock.old) × LeavesFound (H.digest hash.now) why (D.told disk) (D.told result.disk)))
-        ⊎ WritesFront (H.digest hash.now) (C.constant clock.old) logs why (Some script) (D.told disk) (D.told result.disk) (C.given clock.old) (C.given clock.new)
+    ensures report { (octets : List ℕ) → IsGiven octets script.phases.items → result.status ≡ Status.Ok
+        → WritesReport (H.digest hash.now) (C.constant clock) logs link (Some octets) (D.told disk) (D.told result.disk) (C.given clock) (C.given result.clock) (K.written sink.old) (K.written sink.new) (K.faults sink.old) (K.faults sink.new) }
+    ensures part { (octets : List ℕ) → IsGiven octets script.phases.items → result.status ≡ Status.WriteFault
+        → WritesPart (H.digest hash.now) (C.constant clock) logs link (Some octets) (D.told disk) (D.told result.disk) (C.given clock) (C.given result.clock) (K.written sink.old) (K.written sink.new) (K.faults sink.old) (K.faults sink.new) }
+    ensures front { (octets : List ℕ) (why : Why) → IsGiven octets script.phases.items → result.status ≡ status_for why
+        → ((sink.new ≡ sink.old) × ((result.clock ≡ clock) × LeavesFound (H.digest hash.now) why (D.told disk) (D.told result.disk)))
+        ⊎ WritesFront (H.digest hash.now) (C.constant clock) logs link why (Some octets) (D.told disk) (D.told result.disk) (C.given clock) (C.given result.clock)
         (K.written sink.old) (K.written sink.new) (K.faults sink.old) (K.faults sink.new) }
     ensures damaged { (damage : Damage) → result.status ≡ Status.Damaged damage → IfSome (D.told disk) (λ t.
         (first_fail (image_checks (H.digest hash.now) (seen t)) ≡ Err damage) × (D.told result.disk ≡ Some (after Synced t))) }
     ensures sound { (damage : Damage) (t : Told) (found : List Transaction) → D.told disk ≡ Some t → Stands (H.digest hash.now) (seen t) found
         → result.status ≡ Status.Damaged damage → ⊥ }
-    ensures nothing { (damage : Damage) → result.status ≡ Status.Damaged damage → (sink.new ≡ sink.old) × (clock.new ≡ clock.old) }
+    ensures nothing { (damage : Damage) → result.status ≡ Status.Damaged damage → (sink.new ≡ sink.old) × (result.clock ≡ clock) }
     ensures any_moment { (t : Told) (found : List Transaction) → D.told disk ≡ Some t → Stands (H.digest hash.now) (seen t) found
         → KeepsFound (H.digest hash.now) found t (D.told result.disk) }
     ensures unharmed { (t : Told) → D.told disk ≡ Some t → ((found : List Transaction) → Stands (H.digest hash.now) (seen t) found → ⊥)
         → SyncsAtMost t (D.told result.disk) }
     ensures grows { Grows (D.told disk) (D.told result.disk) }
     ensures device { result.status ≡ Status.DiskFault → Rose (D.faults disk) (D.faults result.disk) }
-    ensures disk_count { (result.status ≡ Status.DiskFault → ⊥) → D.faults result.disk ≡ D.faults disk }
+    ensures disk_count { (result.status ≡ Status.DiskFault → ⊥) → (result.status ≡ Status.Memory → ⊥) → D.faults result.disk ≡ D.faults disk }
+    ensures disk_alone { result.status ≡ Status.Memory → HasOneSession script.phases.items → D.faults result.disk ≡ D.faults disk }
     ensures write { result.status ≡ Status.WriteFault → Rose (K.faults sink.old) (K.faults sink.new) }
     ensures sink_count { result.status ≡ Status.Ok → K.faults sink.new ≡ K.faults sink.old }
     ensures sink_once { K.faults sink.new ≤ K.faults sink.old + 1 }
-    ensures clock { C.constant clock.new ≡ C.constant clock.old }
+    ensures clock { C.constant result.clock ≡ C.constant clock }
 {
-    let kept = match open_ledger(alloc, hash, disk, logs) {
-        Ok(kept) => kept,
-        Err(failed) => {
-            return Ran {
-                status: status_of(failed.error),
-                disk: failed.disk,
-            };
-        }
+    let Ok(passes) = Vec::with_capacity(alloc, 1) else {
+        drop(script);
+        return Done {
+            status: Status::Memory,
+            disk,
+            clock,
+        };
     };
-    let Served { disk, out, end } = serve(alloc, hash, clock, kept, lines);
-    let wrote = write_all(sink, out.as_slice());
-    Ran {
-        status: status_after(end, wrote),
-        disk,
+    match open(alloc, hash, disk, clock, logs) {
+        Ok(opened) => serve_script(rt, alloc, gate, sink, opened, passes, script, is_auto(link)),
+        Err(failed) => {
+            drop(script);
+            let OpenFailed { why, disk, clock } = failed;
+            Done {
+                status: status_of(why),
+                disk,
+                clock,
+            }
+        }
     }
 }
 
-/// Reads a script to its end, answers its lines in order by one session over what the disk holds, with so many
-/// value logs, and writes the report. Where a line gets no reply, those before it are told.
-pub(crate) fn run<H: Hash32, S: Source, K: Sink, D: Disk, C: Clock>(
+// Whether a linker runs beside the sessions.
+fn is_auto(link: Link) -> bool
+    ensures { result ≡ has_linker link }
+{
+    matches!(link, Link::Auto)
+}
+
+/// Reads a script to its end, and answers its lines over what the disk holds, with so many value logs: phase by phase, in each of them every session
+/// on a thread of its own, beside a linker where `link` says so, and an indexer. The replies of a phase are written as soon as it is joined. Where a line gets no
+/// reply, those before it are told, and no further phase is run.
+pub(crate) fn run<
+    H: Hash32 + Sync,
+    S: Source,
+    K: Sink,
+    D: Disk + Send,
+    C: Clock + Send,
+    G: Gate + Sync,
+    R: Threads + Wait + Sync,
+>(
+    rt: &R,
     alloc: Global,
     hash: &H,
+    gate: &G,
     source: &mut S,
     sink: &mut K,
     disk: D,
-    clock: &mut C,
+    clock: C,
     logs: u8,
-) -> Ran<D>
+    link: Link,
+) -> Done<D, C>
     requires logs { (1 ≤ logs) × (logs ≤ 4) }
     ensures report { result.status ≡ Status.Ok
-        → WritesReport (H.digest hash.now) (C.constant clock.old) logs (S.left source.old) (D.told disk) (D.told result.disk) (C.given clock.old) (C.given clock.new) (K.written sink.old) (K.written sink.new) }
+        → WritesReport (H.digest hash.now) (C.constant clock) logs link (S.left source.old) (D.told disk) (D.told result.disk) (C.given clock) (C.given result.clock) (K.written sink.old) (K.written sink.new) (K.faults sink.old) (K.faults sink.new) }
     ensures part { result.status ≡ Status.WriteFault
-        → WritesPart (H.digest hash.now) (C.constant clock.old) logs (S.left source.old) (D.told disk) (D.told result.disk) (C.given clock.old) (C.given clock.new) (K.written sink.old) (K.written sink.new) }
+        → WritesPart (H.digest hash.now) (C.constant clock) logs link (S.left source.old) (D.told disk) (D.told result.disk) (C.given clock) (C.given result.clock) (K.written sink.old) (K.written sink.new) (K.faults sink.old) (K.faults sink.new) }
     ensures front { (why : Why) → result.status ≡ status_for why
-        → ((sink.new ≡ sink.old) × ((clock.new ≡ clock.old) × LeavesFound (H.digest hash.now) why (D.told disk) (D.told result.disk)))
-        ⊎ WritesFront (H.digest hash.now) (C.constant clock.old) logs why (S.left source.old) (D.told disk) (D.told result.disk) (C.given clock.old) (C.given clock.new)
+        → ((sink.new ≡ sink.old) × ((result.clock ≡ clock) × LeavesFound (H.digest hash.now) why (D.told disk) (D.told result.disk)))
+        ⊎ WritesFront (H.digest hash.now) (C.constant clock) logs link why (S.left source.old) (D.told disk) (D.told result.disk) (C.given clock) (C.given result.clock)
         (K.written sink.old) (K.written sink.new) (K.faults sink.old) (K.faults sink.new) }
     ensures given { EndsGiven result.status → GivesScript (S.left source.old) (S.left source.new) }
     ensures taken { TakesAtMost 67112960 (S.left source.old) (S.left source.new) }
-    ensures untouched { IfSome (S.left source.old) (λ script. ((lines : List TheLine) → IsGiven script lines → ⊥)
-        → (sink.new ≡ sink.old) × ((clock.new ≡ clock.old) × (result.disk ≡ disk))) }
+    ensures untouched { IfSome (S.left source.old) (λ script. ((phases : List (List TheLine)) → IsGiven script phases → ⊥)
+        → (sink.new ≡ sink.old) × ((result.clock ≡ clock) × (result.disk ≡ disk))) }
     ensures ends { EndsRun result.status }
     ensures never { result.status ≡ Status.Usage → ⊥ }
     ensures script { (k : ℕ) → result.status ≡ Status.Script k → IfSome (S.left source.old) (λ script.
@@ -185,8 +261,8 @@ pub(crate) fn run<H: Hash32, S: Source, K: Sink, D: Disk, C: Clock>(
 
     // Where the script wasn't run, nothing is touched but the source.
     ensures nothing { EndsReading result.status → (result.status ≡ Status.Memory → ⊥)
-        → (sink.new ≡ sink.old) × ((clock.new ≡ clock.old) × (result.disk ≡ disk)) }
-    ensures unread { (damage : Damage) → result.status ≡ Status.Damaged damage → (sink.new ≡ sink.old) × (clock.new ≡ clock.old) }
+        → (sink.new ≡ sink.old) × ((result.clock ≡ clock) × (result.disk ≡ disk)) }
+    ensures unread { (damage : Damage) → result.status ≡ Status.Damaged damage → (sink.new ≡ sink.old) × (result.clock ≡ clock) }
     ensures read { result.status ≡ Status.ReadFault → Rose (S.faults source.old) (S.faults source.new) }
     ensures write { result.status ≡ Status.WriteFault → Rose (K.faults sink.old) (K.faults sink.new) }
     ensures device { result.status ≡ Status.DiskFault → Rose (D.faults disk) (D.faults result.disk) }
@@ -195,14 +271,21 @@ pub(crate) fn run<H: Hash32, S: Source, K: Sink, D: Disk, C: Clock>(
     ensures sink_once { K.faults sink.new ≤ K.faults sink.old + 1 }
     ensures sink_count { (result.status ≡ Status.WriteFault → ⊥) → (result.status ≡ Status.DiskFault → ⊥) → (result.status ≡ Status.Memory → ⊥)
         → K.faults sink.new ≡ K.faults sink.old }
-    ensures disk_count { (result.status ≡ Status.DiskFault → ⊥) → D.faults result.disk ≡ D.faults disk }
-    ensures clock { C.constant clock.new ≡ C.constant clock.old }
+    ensures disk_count { (result.status ≡ Status.DiskFault → ⊥) → (result.status ≡ Status.Memory → ⊥) → D.faults result.disk ≡ D.faults disk }
+    // With one session no call failed either where memory ran out.
+    ensures disk_alone { result.status ≡ Status.Memory → IfSome (S.left source.old) (λ script. (phases : List (List TheLine)) → IsGiven script phases → HasOneSession phases
+        → D.faults result.disk ≡ D.faults disk) }
+    ensures clock { C.constant result.clock ≡ C.constant clock }
     ensures fate { (Rose (S.faults source.old) (S.faults source.new) → ⊥) → (Rose (K.faults sink.old) (K.faults sink.new) → ⊥)
         → (Rose (D.faults disk) (D.faults result.disk) → ⊥)
         → IfSome (S.left source.old) (HasRunFate (H.digest hash.now) (D.told disk) result.status) }
 {
-    match read_lines(alloc, source) {
-        Ok(lines) => run_lines(alloc, hash, sink, disk, clock, logs, lines),
-        Err(status) => Ran { status, disk },
+    match read_phases(alloc, source) {
+        Ok(script) => run_script(rt, alloc, hash, gate, sink, disk, clock, logs, link, script),
+        Err(status) => Done {
+            status,
+            disk,
+            clock,
+        },
     }
 }

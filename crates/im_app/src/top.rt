@@ -21,14 +21,14 @@ ghost use Rattle.im_words.specs.Meaning.{AsksGen, AsksRun, AsksShow, AsksVerify}
 ghost use Rattle.im_words.specs.declared.Link.{Link};
 ghost use Rattle.im_app.specs.Fates.{HasRunFate, HasShow, HasVerdict};
 ghost use Rattle.im_opening.specs.Cut.{SyncsAtMost};
-ghost use Rattle.im_ledger.specs.declared.errors.CommitError.{CommitError as Why};
+ghost use Rattle.im_session.specs.declared.errors.LineError.{LineError as Why};
 ghost use Rattle.im_script.specs.declared.commands.Line.{Line};
 ghost use Rattle.im_app.specs.Generated.{WritesGenerated, WritesGeneratedPart};
-ghost use Rattle.im_app.specs.Runs.{GivesScript, IsGiven, KeepsFound, LeavesFound, WritesFront, WritesPart, WritesReport};
+ghost use Rattle.im_app.specs.Runs.{GivesScript, HasOneSession, IsGiven, KeepsFound, LeavesFound, WritesFront, WritesPart, WritesReport};
 ghost use Rattle.im_app.specs.Statuses.{EndsGenerated, EndsGiven, EndsReading, EndsRun, EndsShow, EndsVerify, status_for};
 
 use crate::generate::generate;
-use crate::run::{Ran, run};
+use crate::run::run;
 use crate::shown::shown;
 use crate::status::{Done, Status};
 use crate::verdict::verdict;
@@ -41,18 +41,20 @@ use im_edge::sink::Sink;
 use im_edge::source::Source;
 use im_words::{Request, WordsError, read_words};
 use std::alloc::Global;
+use std::sync::Wait;
+use std::thread::Threads;
 
 /// Runs the program on its words, of which the first is its name.
 ///
-/// `run` reads a script from the source to its end, opens the disk, answers the lines in order by one session,
-/// over the history that it finds there, and writes the report to the sink. Each transaction that is told is
-/// durable by then. `verify` reads a stream of lines from the source to its end, takes the lines that the keeper
-/// holds, and then judges each line of the stream as a client that trusts nobody: an accepted message is kept, and
+/// `run` reads a script from the source to its end, opens the disk, and answers the lines over the history that it finds there, phase by phase: in
+/// a phase each session answers its lines in order on a thread of its own, beside a linker, with `--link auto`, and an indexer. Once a phase is joined its
+/// replies are written to the sink in the script's order. Each transaction that is told is durable by then. `verify` reads a stream of lines from the source to
+/// its end, takes the lines that the keeper holds, and then judges each line of the stream as a client that trusts nobody: an accepted message is kept, and
 /// what became of each line is written to the sink, up to the first that shows a fact unlike a kept one, which it tells
 /// with two unequal strings of one digest. `show` takes the keeper's lines alone, and writes the state and the facts behind
-/// them. The gate isn't called yet.
+/// them. The gate is called before and after each line of a script.
 pub fn top<
-    R,
+    R: Threads + Wait + Sync,
     H: Hash32 + Sync,
     S: Source,
     K: Sink,
@@ -61,7 +63,7 @@ pub fn top<
     C: Clock + Send,
     G: Gate + Sync,
 >(
-    _rt: &R,
+    rt: &R,
     alloc: Global,
     words: &[String],
     hash: &H,
@@ -70,35 +72,39 @@ pub fn top<
     disk: D,
     keeper: &mut P,
     clock: C,
-    _gate: &G,
+    gate: &G,
 ) -> Done<D, C>
-    // `run`, done: the octets written are the report of the script, from the history that the disk was found with to
-    // the one that its files now stand for, whatever a crash does to them. Cut at each LF they are one line for each
-    // reply, as `verify` reads them. Each line that is a message is accepted by every client that keeps the header it
-    // is for, a state by one that keeps none too, and whose facts are facts of that history; that client then keeps
-    // the header that the message leads to, and facts of the history still; every other line is passed over. In the
-    // files each new transaction stands in a batch of its own, its values put over as many value logs as the words
-    // ask for. The disk got the opening's sync, the closing of the gate where it was missing or cut off, and for each
-    // new transaction the writes of its batch, a sync, the octet at the gate, and a sync; no other call that changes
-    // it. Each has the time that the clock gave for it: where the clock tells the times that it gave, it was asked
-    // once for each new transaction, in order, and for nothing else.
+    // `run`, done: there is one history, which begins with the one that the disk was found with and for which its files now stand, whatever a crash does
+    // to them. The octets written are one reply for each line, in the script's order: what that history says of its line at the number before it. In a session no number
+    // falls, none is below one of an earlier phase, and that of a `tx` is above each before it; the lines that reply `tx` and the new transactions are one
+    // another's, by the number. Each of these was placed over a tree no smaller than its session, or one of an earlier phase, had linked; with one session and
+    // no linker over just that. Cut at each LF the octets are one line for each reply, as `verify` reads them. Each line that is a message is accepted
+    // by every client that keeps the header it is for, a state by one that keeps none too, and whose facts are facts of that history; that client
+    // then keeps the header that the message leads to, and facts of the history still; every other line is passed over. In the files the new
+    // transactions stand in batches of one or more, their values put over as many value logs as the words ask for. The disk got the opening's sync, the closing of
+    // the gate where it was missing or cut off, and for each batch its writes, a sync, the octet at the gate, and a sync; no other call that changes
+    // it. Each has the time that the clock gave for it: where the clock tells the times that it gave, it was asked once for each new transaction, in order, and
+    // for nothing else.
     ensures report { (asks : AsksRun (map string_bytes words.now)) → result.status ≡ Status.Ok
-        → WritesReport (H.digest hash.now) (C.constant clock) asks.0 (S.left source.old) (D.told disk) (D.told result.disk) (C.given clock) (C.given result.clock) (K.written sink.old) (K.written sink.new) }
+        → WritesReport (H.digest hash.now) (C.constant clock) asks.0 asks.1 (S.left source.old) (D.told disk) (D.told result.disk) (C.given clock) (C.given result.clock) (K.written sink.old) (K.written sink.new)
+        (K.faults sink.old) (K.faults sink.new) }
 
-    // Where the sink failed, what was written is a front part of the report, not all of it. Where the disk failed or memory
-    // ran out at a line, the lines before it were answered and told, as far as the sink took them, and what the disk stands
-    // for has all of them; the clock was asked for that line's transaction too, if there was one, and the disk got a front
-    // part of its calls, and then the one that failed, if one did. Else neither the sink nor the clock was touched, and a
+    // Where the sink failed, what was written is a front part of the report, not all of it, of the phases that were run: they were answered whole, and no
+    // further one was begun. Where the disk failed or memory ran out at a line, that line has no reply and its session ended there; the others of its
+    // phase went on, no further phase was run, and the replies before the first such line were told, as far as the sink took them: that line decides the status.
+    // What the disk stands for has all that was told; each further transaction is that of a line without a written reply, a different one for each. The disk
+    // got a front part of the last batch's calls, and then the one that failed, if one did. Else neither the sink nor the clock was touched, and a
     // disk that was found with a history got the calls of opening as far as they came. A source without a script of the
     // grammar has neither sink, clock nor disk touched.
     ensures part { (asks : AsksRun (map string_bytes words.now)) → result.status ≡ Status.WriteFault
-        → WritesPart (H.digest hash.now) (C.constant clock) asks.0 (S.left source.old) (D.told disk) (D.told result.disk) (C.given clock) (C.given result.clock) (K.written sink.old) (K.written sink.new) }
+        → WritesPart (H.digest hash.now) (C.constant clock) asks.0 asks.1 (S.left source.old) (D.told disk) (D.told result.disk) (C.given clock) (C.given result.clock) (K.written sink.old) (K.written sink.new)
+        (K.faults sink.old) (K.faults sink.new) }
     ensures front { (why : Why) (asks : AsksRun (map string_bytes words.now)) → result.status ≡ status_for why
         → ((sink.new ≡ sink.old) × ((result.clock ≡ clock) × LeavesFound (H.digest hash.now) why (D.told disk) (D.told result.disk)))
-        ⊎ WritesFront (H.digest hash.now) (C.constant clock) asks.0 why (S.left source.old) (D.told disk) (D.told result.disk) (C.given clock) (C.given result.clock)
+        ⊎ WritesFront (H.digest hash.now) (C.constant clock) asks.0 asks.1 why (S.left source.old) (D.told disk) (D.told result.disk) (C.given clock) (C.given result.clock)
         (K.written sink.old) (K.written sink.new) (K.faults sink.old) (K.faults sink.new) }
     ensures given { AsksRun (map string_bytes words.now) → EndsGiven result.status → GivesScript (S.left source.old) (S.left source.new) }
-    ensures unread { AsksRun (map string_bytes words.now) → IfSome (S.left source.old) (λ script. ((lines : List Line) → IsGiven script lines → ⊥)
+    ensures unread { AsksRun (map string_bytes words.now) → IfSome (S.left source.old) (λ script. ((phases : List (List Line)) → IsGiven script phases → ⊥)
         → (sink.new ≡ sink.old) × ((result.clock ≡ clock) × (result.disk ≡ disk))) }
     ensures nothing { AsksRun (map string_bytes words.now) → (EndsReading result.status × (result.status ≡ Status.Memory → ⊥)) ⊎ ((d : Damage) × (result.status ≡ Status.Damaged d)) → sink.new ≡ sink.old }
 
@@ -207,7 +213,8 @@ pub fn top<
     ensures ends_gen { AsksGen (map string_bytes words.now) → EndsGenerated result.status }
 
     // A fault of the source, the sink, the disk or the keeper comes only where its count rose. Else no count rises, but
-    // for the sink's where a line of a script got no reply: the lines before it are told as far as the sink takes them.
+    // for the sink's where a line of a script got no reply: the lines before it are told as far as the sink takes them; and the disk's where memory
+    // ran out at the first line without a reply: it may have failed at a later one, of another session.
     ensures read { result.status ≡ Status.ReadFault → Rose (S.faults source.old) (S.faults source.new) }
     ensures write { result.status ≡ Status.WriteFault → Rose (K.faults sink.old) (K.faults sink.new) }
     ensures device { result.status ≡ Status.DiskFault → Rose (D.faults disk) (D.faults result.disk) }
@@ -215,7 +222,9 @@ pub fn top<
     ensures source_count { (result.status ≡ Status.ReadFault → ⊥) → S.faults source.new ≡ S.faults source.old }
     ensures sink_count { (result.status ≡ Status.WriteFault → ⊥) → (AsksRun (map string_bytes words.now) → (result.status ≡ Status.DiskFault → ⊥) × (result.status ≡ Status.Memory → ⊥))
         → K.faults sink.new ≡ K.faults sink.old }
-    ensures disk_count { (result.status ≡ Status.DiskFault → ⊥) → D.faults result.disk ≡ D.faults disk }
+    ensures disk_count { (result.status ≡ Status.DiskFault → ⊥) → (AsksRun (map string_bytes words.now) → result.status ≡ Status.Memory → ⊥) → D.faults result.disk ≡ D.faults disk }
+    ensures disk_alone { AsksRun (map string_bytes words.now) → result.status ≡ Status.Memory → IfSome (S.left source.old) (λ script. (phases : List (List Line)) → IsGiven script phases
+        → HasOneSession phases → D.faults result.disk ≡ D.faults disk) }
     ensures keeper_count { (result.status ≡ Status.KeeperFault → ⊥) → P.faults keeper.new ≡ P.faults keeper.old }
     // At no end did the count of the source, the sink or the keeper rise by more than one.
     ensures source_once { S.faults source.new ≤ S.faults source.old + 1 }
@@ -250,15 +259,9 @@ pub fn top<
     // damaged; from `show` and `gen` too, by `show_idle` and `generated_idle`.
     ensures idle { AsksVerify (map string_bytes words.now) ⊎ ((EndsReading result.status × (result.status ≡ Status.Memory → ⊥)) ⊎ ((d : Damage) × (result.status ≡ Status.Damaged d))) → result.clock ≡ clock }
 {
-    let mut clock = clock;
     match read_words(alloc, words) {
-        Ok(Request::Run { logs, .. }) => {
-            let Ran { status, disk } = run(alloc, hash, source, sink, disk, &mut clock, logs);
-            Done {
-                status,
-                disk,
-                clock,
-            }
+        Ok(Request::Run { logs, link }) => {
+            run(rt, alloc, hash, gate, source, sink, disk, clock, logs, link)
         }
         Ok(Request::Verify) => {
             let status = verdict(alloc, hash, source, sink, keeper);
@@ -277,7 +280,7 @@ pub fn top<
             }
         }
         Ok(Request::Gen { lines }) => {
-            let status = generate(alloc, hash, sink, u64::from(lines));
+            let status = generate(rt, alloc, hash, sink, u64::from(lines));
             Done {
                 status,
                 disk,

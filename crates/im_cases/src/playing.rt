@@ -6,20 +6,28 @@ use crate::stop::Stop;
 use crate::texts::Named;
 use crate::wrong::Fault;
 use std::alloc::{AllocError, Global};
+use std::sync::Wait;
+use std::thread::Threads;
 
 /// What is told of a difference, where there is one.
 pub type ToldDifference = Result<Option<String>, AllocError>;
 
 /// Tells where a case first differs from what is wanted, if it does.
-pub fn play(alloc: Global, named: &[Named], case: &[CaseLine]) -> ToldDifference {
+pub fn play<R: Threads + Wait + Sync>(
+    rt: &R,
+    alloc: Global,
+    named: &[Named],
+    case: &[CaseLine],
+) -> ToldDifference {
     let mut stage = Stage::new(alloc)?;
-    let told = play_all(alloc, &mut stage, named, case);
+    let told = play_all(rt, alloc, &mut stage, named, case);
     drop(stage);
     told
 }
 
 // Plays the runs of a case up to the first one that differs.
-fn play_all(
+fn play_all<R: Threads + Wait + Sync>(
+    rt: &R,
     alloc: Global,
     stage: &mut Stage,
     named: &[Named],
@@ -30,7 +38,7 @@ fn play_all(
         if line.mark == "$" {
             number = number.saturating_add(1);
             let lines = lines_of(alloc, case, &case[at..])?;
-            if let Err(stop) = stage.play(Run {
+            if let Err(stop) = stage.play(rt, Run {
                 alloc,
                 named,
                 lines: &lines,

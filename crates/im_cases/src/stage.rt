@@ -19,6 +19,8 @@ use im_edge::gate::OpenGate;
 use im_edge::keeper::{Keeper, MemKeeper};
 use std::alloc::{AllocError, Global};
 use std::mem;
+use std::sync::Wait;
+use std::thread::Threads;
 
 /// What a run left.
 #[derive(Drop)]
@@ -45,25 +47,33 @@ impl Stage {
     }
 
     /// Plays a run, and stops where it can't be done, or at the first difference between what is wanted and what came.
-    pub fn play(&mut self, run: Run) -> Result<(), Stop> {
+    pub fn play<R: Threads + Wait + Sync>(&mut self, rt: &R, run: Run) -> Result<(), Stop> {
         let mut files = files_of(run.alloc, &self.disk, run.last("lose").is_some())?;
         change_all(run, &mut files)?;
         let input = input_of(run, &self.written)?;
         keep(run, &mut self.keeper)?;
         let words = words(run)?;
         let disk = disk_of(run.alloc, files, failing(run)?)?;
-        let status = self.run(run, &words, &input, disk);
+        let status = self.run(rt, run, &words, &input, disk);
         self.leave_end(run.alloc, status)?;
         self.compare(run)
     }
 
     // Runs the top call, and leaves what it left.
-    fn run(&mut self, run: Run, words: &[String], input: &[u8], disk: MemDisk) -> Status {
+    fn run<R: Threads + Wait + Sync>(
+        &mut self,
+        rt: &R,
+        run: Run,
+        words: &[String],
+        input: &[u8],
+        disk: MemDisk,
+    ) -> Status {
         let blocks = run.number("blocks").unwrap_or(0);
         let mut source = Feed::new(input, blocks, run.last("source").is_some());
         let mut sink = Narrow::new(Vec::new(run.alloc), run.number("room"));
         let Done { status, disk, .. } = if asks_sha(run) {
             call(
+                rt,
                 run,
                 words,
                 &Sha,
@@ -74,6 +84,7 @@ impl Stage {
             )
         } else {
             call(
+                rt,
                 run,
                 words,
                 &Sum,
@@ -121,7 +132,8 @@ fn keep(run: Run, keeper: &mut FusedKeeper<MemKeeper>) -> Result<(), Stop> {
 }
 
 // The top call, over these doubles.
-fn call<H: Hash32 + Sync>(
+fn call<H: Hash32 + Sync, R: Threads + Wait + Sync>(
+    rt: &R,
     run: Run,
     words: &[String],
     hash: &H,
@@ -131,7 +143,7 @@ fn call<H: Hash32 + Sync>(
     keeper: &mut FusedKeeper<MemKeeper>,
 ) -> Done<MemDisk, Pace> {
     top(
-        &(),
+        rt,
         run.alloc,
         words,
         hash,

@@ -6,10 +6,12 @@ use crate::reader::{Script, read};
 use crate::texts::{Named, line_at};
 use crate::wrong::{Fault, Wrong};
 use std::alloc::Global;
+use std::sync::Wait;
+use std::thread::Threads;
 use std::io;
 
 /// Runs the cases of a file, tells each difference and at the end how many agree, and says whether all do.
-pub fn tell(rt: &(impl Print + Alloc<A = Global>), name: &str, octets: &[u8]) -> io::Result<bool> {
+pub fn tell(rt: &(impl Print + Alloc<A = Global> + Threads + Wait + Sync), name: &str, octets: &[u8]) -> io::Result<bool> {
     match script_of(rt.alloc(), octets) {
         Ok(script) => {
             let well = tell_all(rt, name, &script);
@@ -35,7 +37,7 @@ fn script_of(alloc: Global, octets: &[u8]) -> Result<Script<'_>, Fault> {
 
 // Runs cases, tells each difference and how many agree, and says whether all do.
 fn tell_all(
-    rt: &(impl Print + Alloc<A = Global>),
+    rt: &(impl Print + Alloc<A = Global> + Threads + Wait + Sync),
     name: &str,
     script: &Script,
 ) -> io::Result<bool> {
@@ -56,7 +58,7 @@ fn tell_all(
 
 // Runs the case that these lines begin with, tells where it differs, and says whether it agrees.
 fn tell_case(
-    rt: &(impl Print + Alloc<A = Global>),
+    rt: &(impl Print + Alloc<A = Global> + Threads + Wait + Sync),
     name: &str,
     named: &[Named],
     lines: &[CaseLine],
@@ -64,7 +66,7 @@ fn tell_case(
     let Some((first, behind)) = lines.split_first() else {
         return Ok(true);
     };
-    match play(rt.alloc(), named, before(behind, "="))? {
+    match play(rt, rt.alloc(), named, before(behind, "="))? {
         Some(told) => {
             let case = first.rest;
             println!(rt; "{name}: {case}, {told}")?;

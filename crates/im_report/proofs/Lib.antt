@@ -1,2 +1,9 @@
 pub mod PlacedLemmas
-pub mod ReportLemmas
+pub mod RangeLemmas
+pub mod FrontLemmas
+pub mod OutcomeLemmas
+pub mod SingleLemmas
+pub mod AloneLemmas
+pub mod FurtherLemmas
+pub mod KeptLemmas
+pub mod KnownLemmas

@@ -31,7 +31,7 @@ never true h = absurd (h refl)
 never false h = refl
 
 -- a reply that begins with another letter doesn't
-other-letter : (o : ℕ) (rest reply : List ℕ) (n : ℕ) → (o == 116) ≡ false → reply ≡ o ∷ rest → bytes_eq reply (tx_reply n) ≡ false
+pub other-letter : (o : ℕ) (rest reply : List ℕ) (n : ℕ) → (o == 116) ≡ false → reply ≡ o ∷ rest → bytes_eq reply (tx_reply n) ≡ false
 unfolding tx_reply
 other-letter o rest reply n other e =
     never (bytes_eq reply (tx_reply n)) (λ h. heads-differ o 116 rest _ other (sym e ∙ (bytes_eq-Decides reply (tx_reply n)).0 h))
@@ -53,11 +53,11 @@ refused-not-placed (KeyLong i len) n h = other-letter 114 _ (refused_reply (KeyL
 refused-not-placed (ValueLong i len) n h = other-letter 114 _ (refused_reply (ValueLong i len)) n refl refl
 refused-not-placed (Twice i j) n h = other-letter 114 _ (refused_reply (Twice i j)) n refl refl
 
-shown-not-placed : (hash : Hash) (header : Header) (n : ℕ) → bytes_eq (shown_header hash header) (tx_reply n) ≡ false
+pub shown-not-placed : (hash : Hash) (header : Header) (n : ℕ) → bytes_eq (shown_header hash header) (tx_reply n) ≡ false
 unfolding shown_header
 shown-not-placed hash header n = other-letter 104 _ (shown_header hash header) n refl refl
 
-beyond-not-placed : (m n : ℕ) → bytes_eq (beyond_reply m) (tx_reply n) ≡ false
+pub beyond-not-placed : (m n : ℕ) → bytes_eq (beyond_reply m) (tx_reply n) ≡ false
 unfolding beyond_reply
 beyond-not-placed m n = other-letter 114 _ (beyond_reply m) n refl refl
 
@@ -73,7 +73,7 @@ header-not-placed hash history k n =
     ]
 
 -- a message begins with a brace
-message-not-placed : (m : Message) (n : ℕ) → bytes_eq (text m) (tx_reply n) ≡ false
+pub message-not-placed : (m : Message) (n : ℕ) → bytes_eq (text m) (tx_reply n) ≡ false
 unfolding text
 message-not-placed (State header) n = other-letter 123 _ (text (State header)) n refl refl
 message-not-placed (Dual dual) n = other-letter 123 _ (text (Dual dual)) n refl refl
@@ -88,7 +88,7 @@ state-not-placed hash history n =
       | false ↦ message-not-placed (State (header_of hash history (length history))) n
     ]
 
-order-not-placed : (s t n : ℕ) → bytes_eq (order_reply s t) (tx_reply n) ≡ false
+pub order-not-placed : (s t n : ℕ) → bytes_eq (order_reply s t) (tx_reply n) ≡ false
 unfolding order_reply
 order-not-placed s t n = other-letter 114 _ (order_reply s t) n refl refl
 
@@ -113,11 +113,11 @@ advance-not-placed hash history s t n =
     let m : Message = Advance (dual_between hash history s t) (anchor_between hash history s t) in
     between-not-placed history s t n (text m) (message-not-placed m n)
 
-no-entry-not-placed : (width n : ℕ) → bytes_eq (no_entry_reply width) (tx_reply n) ≡ false
+pub no-entry-not-placed : (width n : ℕ) → bytes_eq (no_entry_reply width) (tx_reply n) ≡ false
 unfolding no_entry_reply
 no-entry-not-placed width n = other-letter 114 _ (no_entry_reply width) n refl refl
 
-shown-item-not-placed : (hash : Hash) (dual : DualProof) (entries : List Entry) (i n : ℕ) → bytes_eq (item_shown hash dual entries i) (tx_reply n) ≡ false
+pub shown-item-not-placed : (hash : Hash) (dual : DualProof) (entries : List Entry) (i n : ℕ) → bytes_eq (item_shown hash dual entries i) (tx_reply n) ≡ false
 unfolding item_shown
 shown-item-not-placed hash dual entries i n = message-not-placed _ n
 

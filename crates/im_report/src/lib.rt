@@ -2,5 +2,6 @@
 //! in `specs/`, and the texts of replies.
 #![tactic(auto)]
 
+pub mod laws;
 pub mod reads;
 pub mod replies;

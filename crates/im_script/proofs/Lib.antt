@@ -11,3 +11,4 @@ pub mod ScriptLemmas
 pub mod Decisions
 pub mod FieldsDecided
 pub mod ScriptDecided
+pub mod NameLemmas

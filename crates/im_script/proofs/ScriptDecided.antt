@@ -1,5 +1,5 @@
 -- Whether a text says a line, and whether octets are a script.
-use Rattle.std.proofs.Common.{◌≡◌, ◌≢◌, ◌⊎◌, ◌==◌, ℕ, zero, suc, List, [], ◌∷◌, ◌++◌, Option, Some, None, true, false, codes, inl, inr, refl, sym, subst, ap, ◌∙◌, append_assoc}
+use Rattle.std.proofs.Common.{◌≡◌, ◌≢◌, ◌⊎◌, ◌==◌, ◌||◌, ℕ, zero, suc, length, nat_lt, List, [], ◌∷◌, ◌++◌, Option, Some, None, true, false, codes, inl, inr, refl, sym, subst, ap, ◌∙◌, append_assoc}
 use Rattle.std.specs.Str.{bytes_eq}
 use Rattle.std.proofs.lemmas.Bool.{both_ways}
 use Rattle.std.proofs.lemmas.Bool.Decides.{eqb_tells}
@@ -14,7 +14,7 @@ use Rattle.im_text.specs.Fields.{IsOctets, is_session_octet}
 use Rattle.im_script.specs.declared.commands.Command.{Command}
 use Rattle.im_script.specs.declared.commands.Command.TheVariants.{Set, Get, Scan, History, Header, State, Prove, Advance, Item, Link}
 use Rattle.im_script.specs.declared.commands.Line.{Line}
-use Rattle.im_script.specs.Script.{deletion, AreNumbers, IsAt, IsCommand, IsScriptLine, IsLookup, IsPassedOver, IsScript, MayFollow, Say, Stop, StopsAfter}
+use Rattle.im_script.specs.Script.{deletion, AreNumbers, IsAt, IsCommand, IsScriptLine, IsLookup, IsPassedOver, IsScript, MayFollow, Say, Stop, end_of_phase, has_name, with_name, StopsAfter}
 use Rattle.im_script.specs.Arguments.{IsSet, IsDelete, IsGet, IsScanCommand, IsHistoryCommand, IsHeaderCommand, IsIndex, IsState, IsProve, IsAdvance, IsItemCommand, IsLink}
 use Rattle.im_script.proofs.CommandLemmas.{advance-no-numbers, found-set, found-delete, found-get, found-scan, found-history, found-header, found-state, found-prove, found-advance, found-item, found-link, prove-no-numbers}
 use Rattle.im_text.proofs.DecideLemmas.{truth}
@@ -190,50 +190,64 @@ passed-decided (o ∷ text) = go (eqb_tells o 35)
     go (inl same) = inl (inr (text, ap (λ (p : ℕ). p ∷ text) same.1))
     go (inr other) = inr (none other.0)
 
-follow-decided : (before : List Line) (line : Line) → MayFollow before line ⊎ (MayFollow before line → ⊥)
-follow-decided [] line = inl tt
-follow-decided (first ∷ more) line = go (truth (bytes_eq line.session first.session))
+end-decided : (text : List ℕ) → (text ≡ end_of_phase) ⊎ (text ≡ end_of_phase → ⊥)
+end-decided text = go (truth (bytes_eq text end_of_phase))
   where
-    go : (bytes_eq line.session first.session ≡ true) ⊎ (bytes_eq line.session first.session ≡ false) → MayFollow (first ∷ more) line ⊎ (MayFollow (first ∷ more) line → ⊥)
-    go (inl same) = inl ((bytes_eq-Decides line.session first.session).0 same)
-    go (inr other) = inr (λ e. both_ways _ other ((bytes_eq-Decides line.session first.session).1 e))
+    go : (bytes_eq text end_of_phase ≡ true) ⊎ (bytes_eq text end_of_phase ≡ false) → (text ≡ end_of_phase) ⊎ (text ≡ end_of_phase → ⊥)
+    go (inl same) = inl ((bytes_eq-Decides text end_of_phase).0 same)
+    go (inr other) = inr (λ e. both_ways _ other ((bytes_eq-Decides text end_of_phase).1 e))
 
--- behind the lines before them, the texts say lines, or they stop
-abbrev SaysOrStops : List Line → List (List ℕ) → Type 0
-SaysOrStops before texts = ((lines : List Line) × Say before texts lines) ⊎ ((n : ℕ) × Stop before texts n)
-
-one-text : (before : List Line) (text : List ℕ) (texts : List (List ℕ)) → ((behind : List Line) → SaysOrStops behind texts) → SaysOrStops before (text ∷ texts)
-one-text before text texts rest = go (passed-decided text)
+follow-decided : (names : List (List ℕ)) (line : Line) → MayFollow names line ⊎ (MayFollow names line → ⊥)
+follow-decided names line = go (truth (has_name names line.session || nat_lt (length names) 8))
   where
-    passed : IsPassedOver text → SaysOrStops before texts → SaysOrStops before (text ∷ texts)
-    passed p (inl h) = inl (h.0, inl (p, h.1))
+    go : ((has_name names line.session || nat_lt (length names) 8) ≡ true) ⊎ ((has_name names line.session || nat_lt (length names) 8) ≡ false) → MayFollow names line ⊎ (MayFollow names line → ⊥)
+    go (inl is) = inl is
+    go (inr other) = inr (λ h. both_ways _ other h)
+
+-- behind lines of sessions with these names, the texts say lines and phases, or they stop
+abbrev SaysOrStops : List (List ℕ) → List (List ℕ) → Type 0
+SaysOrStops names texts = ((lines : List Line) × (more : List (List Line)) × Say names texts lines more) ⊎ ((n : ℕ) × Stop names texts n)
+
+one-text : (names : List (List ℕ)) (text : List ℕ) (texts : List (List ℕ)) → ((behind : List (List ℕ)) → SaysOrStops behind texts) → SaysOrStops names (text ∷ texts)
+one-text names text texts rest = go (passed-decided text)
+  where
+    passed : IsPassedOver text → SaysOrStops names texts → SaysOrStops names (text ∷ texts)
+    passed p (inl h) = inl (h.0, h.1, inl (p, h.2))
     passed p (inr h) = inr (suc h.0, inl (p, h.1))
 
-    said : (line : Line) → IsScriptLine text line → MayFollow before line → SaysOrStops (before ++ line ∷ []) texts → SaysOrStops before (text ∷ texts)
-    said line is follows (inl h) = inl (line ∷ h.0, inr (line, h.0, refl, is, follows, h.1))
-    said line is follows (inr h) = inr (suc h.0, inr (line, is, follows, h.1))
+    ended : text ≡ end_of_phase → SaysOrStops names texts → SaysOrStops names (text ∷ texts)
+    ended e (inl h) = inl ([], h.0 ∷ h.1, inr (inl (e, refl, (h.0, h.1, refl, h.2))))
+    ended e (inr h) = inr (suc h.0, inr (inl (e, h.1)))
 
-    placed : (IsPassedOver text → ⊥) → (line : Line) → IsScriptLine text line → MayFollow before line ⊎ (MayFollow before line → ⊥) → SaysOrStops before (text ∷ texts)
-    placed unpassed line is (inl follows) = said line is follows (rest (before ++ line ∷ []))
-    placed unpassed line is (inr bad) =
-        inr (zero, (unpassed, λ other so follows. bad (subst (λ (l : Line). MayFollow before l) (line-unique text other line so is) follows)))
+    said : (line : Line) → IsScriptLine text line → MayFollow names line → SaysOrStops (with_name names line.session) texts → SaysOrStops names (text ∷ texts)
+    said line is follows (inl h) = inl (line ∷ h.0, h.1, inr (inr (line, h.0, refl, is, follows, h.2)))
+    said line is follows (inr h) = inr (suc h.0, inr (inr (line, is, follows, h.1)))
 
-    read : (IsPassedOver text → ⊥) → Decided (IsScriptLine text) → SaysOrStops before (text ∷ texts)
-    read unpassed (inl h) = placed unpassed h.0 h.1 (follow-decided before h.0)
-    read unpassed (inr none) = inr (zero, (unpassed, λ line is follows. none line is))
+    placed : (IsPassedOver text → ⊥) → (text ≡ end_of_phase → ⊥) → (line : Line) → IsScriptLine text line → MayFollow names line ⊎ (MayFollow names line → ⊥) → SaysOrStops names (text ∷ texts)
+    placed unpassed unended line is (inl follows) = said line is follows (rest (with_name names line.session))
+    placed unpassed unended line is (inr bad) =
+        inr (zero, (unpassed, unended, λ other so follows. bad (subst (λ (l : Line). MayFollow names l) (line-unique text other line so is) follows)))
 
-    go : IsPassedOver text ⊎ (IsPassedOver text → ⊥) → SaysOrStops before (text ∷ texts)
-    go (inl p) = passed p (rest before)
-    go (inr unpassed) = read unpassed (line-decided text)
+    read : (IsPassedOver text → ⊥) → (text ≡ end_of_phase → ⊥) → Decided (IsScriptLine text) → SaysOrStops names (text ∷ texts)
+    read unpassed unended (inl h) = placed unpassed unended h.0 h.1 (follow-decided names h.0)
+    read unpassed unended (inr none) = inr (zero, (unpassed, unended, λ line is follows. none line is))
 
-say-or-stop : (before : List Line) (texts : List (List ℕ)) → SaysOrStops before texts
-say-or-stop before [] = inl ([], refl)
-say-or-stop before (text ∷ texts) = one-text before text texts (λ behind. say-or-stop behind texts)
+    other : (IsPassedOver text → ⊥) → (text ≡ end_of_phase) ⊎ (text ≡ end_of_phase → ⊥) → SaysOrStops names (text ∷ texts)
+    other unpassed (inl e) = ended e (rest names)
+    other unpassed (inr unended) = read unpassed unended (line-decided text)
+
+    go : IsPassedOver text ⊎ (IsPassedOver text → ⊥) → SaysOrStops names (text ∷ texts)
+    go (inl p) = passed p (rest names)
+    go (inr unpassed) = other unpassed (end-decided text)
+
+say-or-stop : (names : List (List ℕ)) (texts : List (List ℕ)) → SaysOrStops names texts
+say-or-stop names [] = inl ([], [], (refl, refl))
+say-or-stop names (text ∷ texts) = one-text names text texts (λ behind. say-or-stop behind texts)
 
 -- octets are a script, or they stop at a line
-pub script-or-stop : (octets : List ℕ) → ((lines : List Line) × IsScript octets lines) ⊎ ((n : ℕ) × StopsAfter octets n)
+pub script-or-stop : (octets : List ℕ) → ((script : List (List Line)) × IsScript octets script) ⊎ ((n : ℕ) × StopsAfter octets n)
 script-or-stop octets = let t = texts-exist octets in go t.0 t.1 (say-or-stop [] t.0)
   where
-    go : (texts : List (List ℕ)) → AreTexts octets texts → SaysOrStops [] texts → ((lines : List Line) × IsScript octets lines) ⊎ ((n : ℕ) × StopsAfter octets n)
-    go texts are (inl h) = inl (h.0, (texts, are, h.1))
+    go : (texts : List (List ℕ)) → AreTexts octets texts → SaysOrStops [] texts → ((script : List (List Line)) × IsScript octets script) ⊎ ((n : ℕ) × StopsAfter octets n)
+    go texts are (inl h) = inl (h.0 ∷ h.1, (texts, are, (h.0, h.1, refl, h.2)))
     go texts are (inr h) = inr (h.0, (texts, are, h.1))

@@ -5,52 +5,75 @@ use Rattle.im_script.specs.declared.commands.Line.{Line}
 use Rattle.im_text.specs.Lines.{AreTexts, IsFirstText}
 use Rattle.im_text.proofs.LineLemmas.{texts-exist, texts-more}
 use Rattle.im_script.specs.Script.{Say, Stop, IsScript, StopsAfter}
-use Rattle.im_script.specs.Arguments.{IsTaken, IsTextRefused}
+use Rattle.im_script.specs.Arguments.{IsTaken, IsTextRefused, ReadSoFar, with_end, with_line}
 
--- behind the lines before them, the octets say these lines
-abbrev pub ScriptBehind : List Line → List ℕ → List Line → Type 0
-ScriptBehind before octets lines = (texts : List (List ℕ)) × AreTexts octets texts × Say before texts lines
+-- behind lines of sessions with these names, the octets say what is left of a phase, and the phases behind it
+abbrev pub SaysBehind : List (List ℕ) → List ℕ → List Line → List (List Line) → Type 0
+SaysBehind names octets lines more = (texts : List (List ℕ)) × AreTexts octets texts × Say names texts lines more
 
--- behind the lines before them, n of the octets' texts are taken, and the next one isn't
-abbrev pub StopsBehind : List Line → List ℕ → ℕ → Type 0
-StopsBehind before octets n = (texts : List (List ℕ)) × AreTexts octets texts × Stop before texts n
+-- behind lines of sessions with these names, n of the octets' texts are taken, and the next one isn't
+abbrev pub StopsBehind : List (List ℕ) → List ℕ → ℕ → Type 0
+StopsBehind names octets n = (texts : List (List ℕ)) × AreTexts octets texts × Stop names texts n
+
+-- the phases of a script of which this was read, and these lines and phases are left
+abbrev pub whole : ReadSoFar → List Line → List (List Line) → List (List Line)
+whole before lines more = before.phases ++ (before.lines ++ lines) ∷ more
+
+-- whatever is said behind what was read, the octets are a script of both
+abbrev pub IsReadSoFar : List ℕ → ReadSoFar → List ℕ → Type 0
+IsReadSoFar octets before rest =
+    (lines : List Line) (more : List (List Line)) → SaysBehind before.names rest lines more → IsScript octets (whole before lines more)
 
 -- the next text is refused
-pub stops-here : (before : List Line) (octets text behind : List ℕ) → 0 < length octets → IsFirstText octets text behind → IsTextRefused before text → StopsBehind before octets 0
-stops-here before octets text behind some first refused =
+pub stops-here : (names : List (List ℕ)) (octets text behind : List ℕ) → 0 < length octets → IsFirstText octets text behind → IsTextRefused names text → StopsBehind names octets 0
+stops-here names octets text behind some first refused =
     let t = texts-exist behind in (text ∷ t.0, texts-more octets text behind t.0 some first t.1, refused)
 
-script-more : (before after : List Line) (octets text behind : List ℕ) (tail : List Line) → 0 < length octets → IsFirstText octets text behind → IsTaken before text after → ScriptBehind after behind tail → (more : List Line) × (before ++ more ≡ after ++ tail) × ScriptBehind before octets more
-script-more before after octets text behind tail some first (inl p) h =
-    let says = subst (λ (l : List Line). Say l h.0 tail) p.1 h.2 in
-    (tail, ap (λ (l : List Line). l ++ tail) (sym p.1), (text ∷ h.0, texts-more octets text behind h.0 some first h.1, inl (p.0, says)))
-script-more before after octets text behind tail some first (inr p) h =
-    let says = subst (λ (l : List Line). Say l h.0 tail) p.1 h.2 in
-    let same = sym (ap (λ (l : List Line). l ++ tail) p.1 ∙ append_assoc before (p.0 ∷ []) tail) in
-    (p.0 ∷ tail, same, (text ∷ h.0, texts-more octets text behind h.0 some first h.1, inr (p.0, tail, refl, p.2, p.3, says)))
-
-stops-more : (before after : List Line) (octets text behind : List ℕ) (n : ℕ) → 0 < length octets → IsFirstText octets text behind → IsTaken before text after → StopsBehind after behind n → StopsBehind before octets (suc n)
+stops-more : (before after : ReadSoFar) (octets text behind : List ℕ) (n : ℕ) → 0 < length octets → IsFirstText octets text behind → IsTaken before text after → StopsBehind after.names behind n → StopsBehind before.names octets (suc n)
 stops-more before after octets text behind n some first (inl p) h =
-    (text ∷ h.0, texts-more octets text behind h.0 some first h.1, inl (p.0, subst (λ (l : List Line). Stop l h.0 n) p.1 h.2))
-stops-more before after octets text behind n some first (inr p) h =
-    (text ∷ h.0, texts-more octets text behind h.0 some first h.1, inr (p.0, p.2, p.3, subst (λ (l : List Line). Stop l h.0 n) p.1 h.2))
+    (text ∷ h.0, texts-more octets text behind h.0 some first h.1, inl (p.0, subst (λ (s : ReadSoFar). Stop s.names h.0 n) p.1 h.2))
+stops-more before after octets text behind n some first (inr (inl p)) h =
+    (text ∷ h.0, texts-more octets text behind h.0 some first h.1, inr (inl (p.0, subst (λ (s : ReadSoFar). Stop s.names h.0 n) p.1 h.2)))
+stops-more before after octets text behind n some first (inr (inr p)) h =
+    (text ∷ h.0, texts-more octets text behind h.0 some first h.1, inr (inr (p.0, p.2, p.3, subst (λ (s : ReadSoFar). Stop s.names h.0 n) p.1 h.2)))
+
+-- the phases are the same, whether a phase is ended before or behind a text
+ended-whole : (before : ReadSoFar) (lines : List Line) (more : List (List Line)) → whole before [] (lines ∷ more) ≡ whole (with_end before) lines more
+ended-whole before lines more =
+    ap (λ (l : List Line). before.phases ++ l ∷ lines ∷ more) (append-nil before.lines) ∙ sym (append_assoc before.phases (before.lines ∷ []) (lines ∷ more))
+
+lined-whole : (before : ReadSoFar) (line : Line) (lines : List Line) (more : List (List Line)) → whole before (line ∷ lines) more ≡ whole (with_line before line) lines more
+lined-whole before line lines more = ap (λ (l : List Line). before.phases ++ l ∷ more) (sym (append_assoc before.lines (line ∷ []) lines))
 
 -- a text more is taken
-pub read-next : (before after : List Line) (octets rest text behind : List ℕ) → 0 < length rest → IsFirstText rest text behind → IsTaken before text after → ((tail : List Line) → ScriptBehind before rest tail → IsScript octets (before ++ tail)) → (tail : List Line) → ScriptBehind after behind tail → IsScript octets (after ++ tail)
-read-next before after octets rest text behind some first taken read tail h =
-    let more = script-more before after rest text behind tail some first taken h in
-    subst (λ (l : List Line). IsScript octets l) more.1 (read more.0 more.2)
+pub read-next : (before after : ReadSoFar) (octets rest text behind : List ℕ) → 0 < length rest → IsFirstText rest text behind → IsTaken before text after → IsReadSoFar octets before rest → IsReadSoFar octets after behind
+read-next before after octets rest text behind some first (inl p) read = λ lines more h.
+    subst (λ (s : ReadSoFar). IsScript octets (whole s lines more)) (sym p.1)
+    (read lines more (text ∷ h.0, texts-more rest text behind h.0 some first h.1, inl (p.0, subst (λ (s : ReadSoFar). Say s.names h.0 lines more) p.1 h.2)))
+read-next before after octets rest text behind some first (inr (inl p)) read = λ lines more h.
+    let says = subst (λ (s : ReadSoFar). Say s.names h.0 lines more) p.1 h.2 in
+    let script = read [] (lines ∷ more) (text ∷ h.0, texts-more rest text behind h.0 some first h.1, inr (inl (p.0, refl, (lines, more, refl, says)))) in
+    subst (λ (s : ReadSoFar). IsScript octets (whole s lines more)) (sym p.1) (subst (λ (l : List (List Line)). IsScript octets l) (ended-whole before lines more) script)
+read-next before after octets rest text behind some first (inr (inr p)) read = λ lines more h.
+    let says = subst (λ (s : ReadSoFar). Say s.names h.0 lines more) p.1 h.2 in
+    let script = read (p.0 ∷ lines) more (text ∷ h.0, texts-more rest text behind h.0 some first h.1, inr (inr (p.0, lines, refl, p.2, p.3, says))) in
+    subst (λ (s : ReadSoFar). IsScript octets (whole s lines more)) (sym p.1) (subst (λ (l : List (List Line)). IsScript octets l) (lined-whole before p.0 lines more) script)
 
 -- where it stops behind a text more
-pub stops-next : (before after : List Line) (octets rest text behind : List ℕ) (number : ℕ) → 0 < length rest → IsFirstText rest text behind → IsTaken before text after → ((n : ℕ) → StopsBehind before rest n → StopsAfter octets (number + n)) → (n : ℕ) → StopsBehind after behind n → StopsAfter octets (number + 1 + n)
+pub stops-next : (before after : ReadSoFar) (octets rest text behind : List ℕ) (number : ℕ) → 0 < length rest → IsFirstText rest text behind → IsTaken before text after → ((n : ℕ) → StopsBehind before.names rest n → StopsAfter octets (number + n)) → (n : ℕ) → StopsBehind after.names behind n → StopsAfter octets (number + 1 + n)
 stops-next before after octets rest text behind number some first taken stops n h =
     let same : number + suc n ≡ number + 1 + n = omega arith in
     subst (λ (m : ℕ). StopsAfter octets m) same (stops (suc n) (stops-more before after rest text behind n some first taken h))
 
+-- nothing was read yet
+pub read-none : (octets : List ℕ) → IsReadSoFar octets (record { names = []; phases = []; lines = [] }) octets
+read-none octets = λ lines more h. (h.0, h.1, (lines, more, refl, h.2))
+
 -- all is read
-pub script-end : (octets rest : List ℕ) (lines : List Line) → (length rest == 0) ≡ true → ((tail : List Line) → ScriptBehind lines rest tail → IsScript octets (lines ++ tail)) → IsScript octets lines
-script-end octets [] lines e read = subst (λ (l : List Line). IsScript octets l) (append-nil lines) (read [] ([], refl, refl))
-script-end octets (o ∷ rest) lines e read = absurd (let z : length (o ∷ rest) ≡ 0 = eqb-true _ _ e in omega arith)
+pub script-end : (octets rest : List ℕ) (before : ReadSoFar) → (length rest == 0) ≡ true → IsReadSoFar octets before rest → IsScript octets (with_end before).phases
+script-end octets [] before e read =
+    subst (λ (l : List Line). IsScript octets (before.phases ++ l ∷ [])) (append-nil before.lines) (read [] [] ([], refl, (refl, refl)))
+script-end octets (o ∷ rest) before e read = absurd (let z : length (o ∷ rest) ≡ 0 = eqb-true _ _ e in omega arith)
 
 -- the number of the text that is refused
 pub refused-at : (octets : List ℕ) (number k : ℕ) → k ≡ number + 1 → StopsAfter octets (number + 0) → (n : ℕ) × (k ≡ n + 1) × StopsAfter octets n

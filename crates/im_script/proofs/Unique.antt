@@ -2,7 +2,7 @@
 use Rattle.std.proofs.Common.{◌≡◌, ℕ, zero, suc, List, [], ◌∷◌, ◌++◌, Option, true, false, inl, inr, refl, subst, sym, ap, ap₂, ◌∙◌}
 use Rattle.std.proofs.lemmas.Bool.{and_parts, both_ways}
 use Rattle.im_text.specs.Words.{is_word}
-use Rattle.im_text.proofs.CutLemmas.{cut-unique, head-is}
+use Rattle.im_text.proofs.CutLemmas.{cut-unique, head-is, heads-differ}
 use Rattle.im_text.proofs.WordLemmas.{number-unique}
 use Rattle.im_draft.specs.declared.drafts.Draft.{Draft}
 use Rattle.im_draft.specs.declared.preconditions.Pre.{Pre}
@@ -11,7 +11,7 @@ use Rattle.im_script.specs.declared.commands.Command.TheVariants.{Set, Get, Scan
 use Rattle.im_script.specs.declared.commands.Line.{Line}
 use Rattle.im_text.specs.Fields.{is_session_octet, IsSession}
 use Rattle.im_text.proofs.LineLemmas.{texts-unique}
-use Rattle.im_script.specs.Script.{deletion, IsCommand, IsScriptLine, IsPassedOver, Say, Stop, IsScript, StopsAfter}
+use Rattle.im_script.specs.Script.{deletion, IsCommand, IsScriptLine, IsPassedOver, Say, Stop, end_of_phase, with_name, IsScript, StopsAfter}
 use Rattle.im_script.proofs.FieldLemmas.{octets-unique, session-lacks}
 use Rattle.im_script.proofs.AskedLemmas.{asked-unique}
 use Rattle.im_script.proofs.NumberLemmas.{numbers-unique, item-unique}
@@ -88,51 +88,86 @@ pub passed-no-line : (text : List ℕ) (line : Line) → IsPassedOver text → I
 passed-no-line text line (inl e) h = some-text line.session (32 ∷ h.0) (sym e ∙ h.1)
 passed-no-line text line (inr x) h = begins-no-session line.session (32 ∷ h.0) x.0 35 refl h.2 (sym x.1 ∙ h.1)
 
-say-unique : (before : List Line) (texts : List (List ℕ)) (a b : List Line) → Say before texts a → Say before texts b → a ≡ b
-say-unique before [] a b x y = x ∙ sym y
-say-unique before (t ∷ ts) a b (inl x) (inl y) = say-unique before ts a b x.1 y.1
-say-unique before (t ∷ ts) a b (inl x) (inr y) = absurd (passed-no-line t y.0 x.0 y.3)
-say-unique before (t ∷ ts) a b (inr x) (inl y) = absurd (passed-no-line t x.0 y.0 x.3)
-say-unique before (t ∷ ts) a b (inr x) (inr y) =
+some-octets : (o : ℕ) (rest : List ℕ) → o ∷ rest ≡ [] → ⊥
+some-octets o rest e = cc
+
+-- the text that ends a phase isn't passed over
+pub end-not-passed : (text : List ℕ) → text ≡ end_of_phase → IsPassedOver text → ⊥
+end-not-passed text e (inl p) = some-octets 45 (45 ∷ 45 ∷ []) (sym e ∙ p)
+end-not-passed text e (inr p) = heads-differ 45 35 (45 ∷ 45 ∷ []) p.0 refl (sym e ∙ p.1)
+
+-- and says no line
+pub end-no-line : (text : List ℕ) (line : Line) → text ≡ end_of_phase → IsScriptLine text line → ⊥
+end-no-line text line e h = begins-no-session line.session (32 ∷ h.0) (45 ∷ 45 ∷ []) 45 refl h.2 (sym e ∙ h.1)
+
+say-unique : (names : List (List ℕ)) (texts : List (List ℕ)) (a b : List Line) (p q : List (List Line)) → Say names texts a p → Say names texts b q → (a ≡ b) × (p ≡ q)
+say-unique names [] a b p q x y = (x.0 ∙ sym y.0, x.1 ∙ sym y.1)
+say-unique names (t ∷ ts) a b p q (inl x) (inl y) = say-unique names ts a b p q x.1 y.1
+say-unique names (t ∷ ts) a b p q (inl x) (inr (inl y)) = absurd (end-not-passed t y.0 x.0)
+say-unique names (t ∷ ts) a b p q (inl x) (inr (inr y)) = absurd (passed-no-line t y.0 x.0 y.3)
+say-unique names (t ∷ ts) a b p q (inr (inl x)) (inl y) = absurd (end-not-passed t x.0 y.0)
+say-unique names (t ∷ ts) a b p q (inr (inl x)) (inr (inl y)) =
+    let same = say-unique names ts x.2.0 y.2.0 x.2.1 y.2.1 x.2.3 y.2.3 in
+    (x.1 ∙ sym y.1, x.2.2 ∙ ap₂ (λ (l : List Line) (m : List (List Line)). l ∷ m) same.0 same.1 ∙ sym y.2.2)
+say-unique names (t ∷ ts) a b p q (inr (inl x)) (inr (inr y)) = absurd (end-no-line t y.0 x.0 y.3)
+say-unique names (t ∷ ts) a b p q (inr (inr x)) (inl y) = absurd (passed-no-line t x.0 y.0 x.3)
+say-unique names (t ∷ ts) a b p q (inr (inr x)) (inr (inl y)) = absurd (end-no-line t x.0 y.0 x.3)
+say-unique names (t ∷ ts) a b p q (inr (inr x)) (inr (inr y)) =
     let e = line-unique t x.0 y.0 x.3 y.3 in
-    let more = say-unique (before ++ y.0 ∷ []) ts x.1 y.1 (subst (λ (z : Line). Say (before ++ z ∷ []) ts x.1) e x.5) y.5 in
-    x.2 ∙ ap₂ (λ (h : Line) (r : List Line). h ∷ r) e more ∙ sym y.2
+    let same = say-unique (with_name names y.0.session) ts x.1 y.1 p q (subst (λ (z : Line). Say (with_name names z.session) ts x.1 p) e x.5) y.5 in
+    (x.2 ∙ ap₂ (λ (h : Line) (r : List Line). h ∷ r) e same.0 ∙ sym y.2, same.1)
 
-say-stop : (before : List Line) (texts : List (List ℕ)) (a : List Line) (n : ℕ) → Say before texts a → Stop before texts n → ⊥
-say-stop before [] a n x y = y
-say-stop before (t ∷ ts) a zero (inl x) y = y.0 x.0
-say-stop before (t ∷ ts) a zero (inr x) y = y.1 x.0 x.3 x.4
-say-stop before (t ∷ ts) a (suc n) (inl x) (inl y) = say-stop before ts a n x.1 y.1
-say-stop before (t ∷ ts) a (suc n) (inl x) (inr y) = passed-no-line t y.0 x.0 y.1
-say-stop before (t ∷ ts) a (suc n) (inr x) (inl y) = passed-no-line t x.0 y.0 x.3
-say-stop before (t ∷ ts) a (suc n) (inr x) (inr y) =
+say-stop : (names : List (List ℕ)) (texts : List (List ℕ)) (a : List Line) (p : List (List Line)) (n : ℕ) → Say names texts a p → Stop names texts n → ⊥
+say-stop names [] a p n x y = y
+say-stop names (t ∷ ts) a p zero (inl x) y = y.0 x.0
+say-stop names (t ∷ ts) a p zero (inr (inl x)) y = y.1 x.0
+say-stop names (t ∷ ts) a p zero (inr (inr x)) y = y.2 x.0 x.3 x.4
+say-stop names (t ∷ ts) a p (suc n) (inl x) (inl y) = say-stop names ts a p n x.1 y.1
+say-stop names (t ∷ ts) a p (suc n) (inl x) (inr (inl y)) = end-not-passed t y.0 x.0
+say-stop names (t ∷ ts) a p (suc n) (inl x) (inr (inr y)) = passed-no-line t y.0 x.0 y.1
+say-stop names (t ∷ ts) a p (suc n) (inr (inl x)) (inl y) = end-not-passed t x.0 y.0
+say-stop names (t ∷ ts) a p (suc n) (inr (inl x)) (inr (inl y)) = say-stop names ts x.2.0 x.2.1 n x.2.3 y.1
+say-stop names (t ∷ ts) a p (suc n) (inr (inl x)) (inr (inr y)) = end-no-line t y.0 x.0 y.1
+say-stop names (t ∷ ts) a p (suc n) (inr (inr x)) (inl y) = passed-no-line t x.0 y.0 x.3
+say-stop names (t ∷ ts) a p (suc n) (inr (inr x)) (inr (inl y)) = end-no-line t x.0 y.0 x.3
+say-stop names (t ∷ ts) a p (suc n) (inr (inr x)) (inr (inr y)) =
     let e = line-unique t x.0 y.0 x.3 y.1 in
-    say-stop (before ++ y.0 ∷ []) ts x.1 n (subst (λ (z : Line). Say (before ++ z ∷ []) ts x.1) e x.5) y.3
+    say-stop (with_name names y.0.session) ts x.1 p n (subst (λ (z : Line). Say (with_name names z.session) ts x.1 p) e x.5) y.3
 
-stop-unique : (before : List Line) (texts : List (List ℕ)) (m n : ℕ) → Stop before texts m → Stop before texts n → m ≡ n
-stop-unique before [] m n x y = absurd x
-stop-unique before (t ∷ ts) zero zero x y = refl
-stop-unique before (t ∷ ts) zero (suc n) x (inl y) = absurd (x.0 y.0)
-stop-unique before (t ∷ ts) zero (suc n) x (inr y) = absurd (x.1 y.0 y.1 y.2)
-stop-unique before (t ∷ ts) (suc m) zero (inl x) y = absurd (y.0 x.0)
-stop-unique before (t ∷ ts) (suc m) zero (inr x) y = absurd (y.1 x.0 x.1 x.2)
-stop-unique before (t ∷ ts) (suc m) (suc n) (inl x) (inl y) = ap suc (stop-unique before ts m n x.1 y.1)
-stop-unique before (t ∷ ts) (suc m) (suc n) (inl x) (inr y) = absurd (passed-no-line t y.0 x.0 y.1)
-stop-unique before (t ∷ ts) (suc m) (suc n) (inr x) (inl y) = absurd (passed-no-line t x.0 y.0 x.1)
-stop-unique before (t ∷ ts) (suc m) (suc n) (inr x) (inr y) =
+stop-unique : (names : List (List ℕ)) (texts : List (List ℕ)) (m n : ℕ) → Stop names texts m → Stop names texts n → m ≡ n
+stop-unique names [] m n x y = absurd x
+stop-unique names (t ∷ ts) zero zero x y = refl
+stop-unique names (t ∷ ts) zero (suc n) x (inl y) = absurd (x.0 y.0)
+stop-unique names (t ∷ ts) zero (suc n) x (inr (inl y)) = absurd (x.1 y.0)
+stop-unique names (t ∷ ts) zero (suc n) x (inr (inr y)) = absurd (x.2 y.0 y.1 y.2)
+stop-unique names (t ∷ ts) (suc m) zero (inl x) y = absurd (y.0 x.0)
+stop-unique names (t ∷ ts) (suc m) zero (inr (inl x)) y = absurd (y.1 x.0)
+stop-unique names (t ∷ ts) (suc m) zero (inr (inr x)) y = absurd (y.2 x.0 x.1 x.2)
+stop-unique names (t ∷ ts) (suc m) (suc n) (inl x) (inl y) = ap suc (stop-unique names ts m n x.1 y.1)
+stop-unique names (t ∷ ts) (suc m) (suc n) (inl x) (inr (inl y)) = absurd (end-not-passed t y.0 x.0)
+stop-unique names (t ∷ ts) (suc m) (suc n) (inl x) (inr (inr y)) = absurd (passed-no-line t y.0 x.0 y.1)
+stop-unique names (t ∷ ts) (suc m) (suc n) (inr (inl x)) (inl y) = absurd (end-not-passed t x.0 y.0)
+stop-unique names (t ∷ ts) (suc m) (suc n) (inr (inl x)) (inr (inl y)) = ap suc (stop-unique names ts m n x.1 y.1)
+stop-unique names (t ∷ ts) (suc m) (suc n) (inr (inl x)) (inr (inr y)) = absurd (end-no-line t y.0 x.0 y.1)
+stop-unique names (t ∷ ts) (suc m) (suc n) (inr (inr x)) (inl y) = absurd (passed-no-line t x.0 y.0 x.1)
+stop-unique names (t ∷ ts) (suc m) (suc n) (inr (inr x)) (inr (inl y)) = absurd (end-no-line t x.0 y.0 x.1)
+stop-unique names (t ∷ ts) (suc m) (suc n) (inr (inr x)) (inr (inr y)) =
     let e = line-unique t x.0 y.0 x.1 y.1 in
-    ap suc (stop-unique (before ++ y.0 ∷ []) ts m n (subst (λ (z : Line). Stop (before ++ z ∷ []) ts m) e x.3) y.3)
+    ap suc (stop-unique (with_name names y.0.session) ts m n (subst (λ (z : Line). Stop (with_name names z.session) ts m) e x.3) y.3)
 
 -- a script is read in one way at most
-pub script-unique : (octets : List ℕ) (a b : List Line) → IsScript octets a → IsScript octets b → a ≡ b
+pub script-unique : (octets : List ℕ) (a b : List (List Line)) → IsScript octets a → IsScript octets b → a ≡ b
 script-unique octets a b x y =
     let same = texts-unique octets x.0 y.0 x.1 y.1 in
-    say-unique [] y.0 a b (subst (λ (t : List (List ℕ)). Say [] t a) same x.2) y.2
+    let u = x.2 in
+    let v = y.2 in
+    let both = say-unique [] y.0 u.0 v.0 u.1 v.1 (subst (λ (t : List (List ℕ)). Say [] t u.0 u.1) same u.3) v.3 in
+    u.2 ∙ ap₂ (λ (l : List Line) (m : List (List Line)). l ∷ m) both.0 both.1 ∙ sym v.2
 
 -- a script stops at no line
-pub read-or-stop : (octets : List ℕ) (lines : List Line) (n : ℕ) → IsScript octets lines → StopsAfter octets n → ⊥
-read-or-stop octets lines n x y =
-    say-stop [] y.0 lines n (subst (λ (t : List (List ℕ)). Say [] t lines) (texts-unique octets x.0 y.0 x.1 y.1) x.2) y.2
+pub read-or-stop : (octets : List ℕ) (script : List (List Line)) (n : ℕ) → IsScript octets script → StopsAfter octets n → ⊥
+read-or-stop octets script n x y =
+    let u = x.2 in say-stop [] y.0 u.0 u.1 n (subst (λ (t : List (List ℕ)). Say [] t u.0 u.1) (texts-unique octets x.0 y.0 x.1 y.1) u.3) y.2
 
 -- what stops stops at one line
 pub one-stop : (octets : List ℕ) (m n : ℕ) → StopsAfter octets m → StopsAfter octets n → m ≡ n

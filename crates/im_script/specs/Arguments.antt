@@ -5,7 +5,7 @@ use Rattle.im_text.specs.Words.{IsNumber}
 use Rattle.im_text.specs.Fields.{IsOctets}
 use Rattle.im_draft.specs.declared.drafts.Draft.{Draft}
 use Rattle.im_draft.specs.declared.preconditions.Pre.{Pre}
-use Rattle.im_script.specs.Script.{deletion, AreAsked, AreNumbers, IsItem, IsLookup, IsScriptLine, IsPassedOver, MayFollow}
+use Rattle.im_script.specs.Script.{deletion, AreAsked, AreNumbers, IsItem, IsLookup, IsScriptLine, IsPassedOver, MayFollow, end_of_phase, with_name}
 use Rattle.im_script.specs.declared.commands.Command.{Command}
 use Rattle.im_script.specs.declared.commands.Command.TheVariants.{Set, Get, Scan, History, Header, State, Prove, Advance, Item, Link}
 use Rattle.im_script.specs.declared.commands.Line.{Line}
@@ -67,13 +67,28 @@ IsItemCommand text command =
 abbrev pub IsLink : List ℕ → Command → Type 0
 IsLink text command = (count : ℕ) × (command ≡ Link count) × IsNumber text count
 
--- the text leaves the lines as they were, since it is passed over, or it says one more
-abbrev pub IsTaken : List Line → List ℕ → List Line → Type 0
+-- What was read of a script: the names of its sessions, the phases that were ended, and the lines behind these.
+pub record ReadSoFar : Type 0 where
+  pub names : List (List ℕ)
+  pub phases : List (List Line)
+  pub lines : List Line
+
+-- behind a line of a session
+abbrev pub with_line : ReadSoFar → Line → ReadSoFar
+with_line before line = record { names = with_name before.names line.session; phases = before.phases; lines = before.lines ++ line ∷ [] }
+
+-- behind the end of a phase
+abbrev pub with_end : ReadSoFar → ReadSoFar
+with_end before = record { names = before.names; phases = before.phases ++ before.lines ∷ []; lines = [] }
+
+-- the text leaves what was read as it was, since it is passed over, or it ends a phase, or it says a line more
+abbrev pub IsTaken : ReadSoFar → List ℕ → ReadSoFar → Type 0
 IsTaken before text after =
     (IsPassedOver text × (after ≡ before))
-    ⊎ ((line : Line) × (after ≡ before ++ line ∷ []) × IsScriptLine text line × MayFollow before line)
+    ⊎ (((text ≡ end_of_phase) × (after ≡ with_end before))
+    ⊎ ((line : Line) × (after ≡ with_line before line) × IsScriptLine text line × MayFollow before.names line))
 
--- the text is neither passed over nor says a line that may follow
-abbrev pub IsTextRefused : List Line → List ℕ → Type 0
-IsTextRefused before text =
-    (IsPassedOver text → ⊥) × ((line : Line) → IsScriptLine text line → MayFollow before line → ⊥)
+-- the text is not passed over, ends no phase, and says no line that may follow
+abbrev pub IsTextRefused : List (List ℕ) → List ℕ → Type 0
+IsTextRefused names text =
+    (IsPassedOver text → ⊥) × (text ≡ end_of_phase → ⊥) × ((line : Line) → IsScriptLine text line → MayFollow names line → ⊥)

@@ -1,5 +1,7 @@
 -- What a script says, by what its text is.
-use Rattle.std.specs.Prelude.{◌≡◌, ◌⊎◌, ◌<◌, ◌^◌, ℕ, zero, suc, List, [], ◌∷◌, ◌++◌, Option, Some, None, codes, true, false}
+use Rattle.std.specs.Prelude.{◌≡◌, ◌⊎◌, ◌<◌, ◌^◌, ◌||◌, ℕ, zero, suc, List, [], ◌∷◌, ◌++◌, length, nat_lt, Bool, IsTrue, Option, Some, None, if◌then◌else◌, codes, true, false}
+use Rattle.std.specs.List.{flat_map, list_any}
+use Rattle.std.specs.Str.{bytes_eq}
 use Rattle.im_text.specs.Lines.{AreTexts}
 use Rattle.im_text.specs.Words.{IsNumber}
 use Rattle.im_draft.specs.Drafts.{no_attributes}
@@ -96,31 +98,54 @@ IsScriptLine text line =
 abbrev pub IsPassedOver : List ℕ → Type 0
 IsPassedOver text = (text ≡ []) ⊎ ((comment : List ℕ) × (text ≡ 35 ∷ comment))
 
--- a line may stand behind these: it has the first one's session
-abbrev pub MayFollow : List Line → Line → Type 0
-MayFollow [] line = Unit {0}
-MayFollow (first ∷ more) line = line.session ≡ first.session
+-- the text that ends a phase
+abbrev pub end_of_phase : List ℕ
+end_of_phase = codes "---"
 
--- behind the lines before them, the texts say these lines
-abbrev pub Say : List Line → List (List ℕ) → List Line → Type 0
-Say before [] lines = lines ≡ []
-Say before (text ∷ texts) lines =
-    (IsPassedOver text × Say before texts lines)
-    ⊎ ((line : Line) × (rest : List Line) × (lines ≡ line ∷ rest) × IsScriptLine text line × MayFollow before line × Say (before ++ line ∷ []) texts rest)
+-- one of these names is this one
+abbrev pub has_name : List (List ℕ) → List ℕ → Bool
+has_name names name = list_any (λ first. bytes_eq first name) names
 
--- behind the lines before them, n of the texts are passed over or say lines, and the next one does neither
-abbrev pub Stop : List Line → List (List ℕ) → ℕ → Type 0
-Stop before [] n = ⊥
-Stop before (text ∷ texts) zero =
-    (IsPassedOver text → ⊥) × ((line : Line) → IsScriptLine text line → MayFollow before line → ⊥)
-Stop before (text ∷ texts) (suc n) =
-    (IsPassedOver text × Stop before texts n)
-    ⊎ ((line : Line) × IsScriptLine text line × MayFollow before line × Stop (before ++ line ∷ []) texts n)
+-- the names of sessions, each once, with this one, in the order of their first lines
+abbrev pub with_name : List (List ℕ) → List ℕ → List (List ℕ)
+with_name names name = if has_name names name then names else names ++ name ∷ []
 
--- the octets are a script of these lines
-abbrev pub IsScript : List ℕ → List Line → Type 0
-IsScript octets lines = (texts : List (List ℕ)) × AreTexts octets texts × Say [] texts lines
+-- the names of the sessions of these lines behind those of the lines before them, each once, in the order of their first lines
+abbrev pub names_of : List (List ℕ) → List Line → List (List ℕ)
+names_of names [] = names
+names_of names (line ∷ lines) = names_of (with_name names line.session) lines
 
--- the texts of the first n lines are passed over or say lines, and that of line n + 1 does neither
+-- a line may stand behind lines of sessions with these names: its session is one of them, or they are fewer than eight
+abbrev pub MayFollow : List (List ℕ) → Line → Type 0
+MayFollow names line = IsTrue (has_name names line.session || nat_lt (length names) 8)
+
+-- behind lines of sessions with these names the texts say what is left of a phase, and the phases behind it
+abbrev pub Say : List (List ℕ) → List (List ℕ) → List Line → List (List Line) → Type 0
+Say names [] lines phases = (lines ≡ []) × (phases ≡ [])
+Say names (text ∷ texts) lines phases =
+    (IsPassedOver text × Say names texts lines phases)
+    ⊎ (((text ≡ end_of_phase) × (lines ≡ []) × ((next : List Line) × (more : List (List Line)) × (phases ≡ next ∷ more) × Say names texts next more))
+    ⊎ ((line : Line) × (rest : List Line) × (lines ≡ line ∷ rest) × IsScriptLine text line × MayFollow names line × Say (with_name names line.session) texts rest phases))
+
+-- behind lines of sessions with these names, n of the texts are passed over, end a phase or say lines, and the next one does none of these
+abbrev pub Stop : List (List ℕ) → List (List ℕ) → ℕ → Type 0
+Stop names [] n = ⊥
+Stop names (text ∷ texts) zero =
+    (IsPassedOver text → ⊥) × (text ≡ end_of_phase → ⊥) × ((line : Line) → IsScriptLine text line → MayFollow names line → ⊥)
+Stop names (text ∷ texts) (suc n) =
+    (IsPassedOver text × Stop names texts n)
+    ⊎ (((text ≡ end_of_phase) × Stop names texts n)
+    ⊎ ((line : Line) × IsScriptLine text line × MayFollow names line × Stop (with_name names line.session) texts n))
+
+-- the octets are a script of these phases, each the list of its lines: one phase more than there are texts that end one
+abbrev pub IsScript : List ℕ → List (List Line) → Type 0
+IsScript octets script =
+    (texts : List (List ℕ)) × AreTexts octets texts × ((first : List Line) × (more : List (List Line)) × (script ≡ first ∷ more) × Say [] texts first more)
+
+-- the lines of all phases, in order
+abbrev pub lines_of : List (List Line) → List Line
+lines_of script = flat_map (λ phase. phase) script
+
+-- the texts of the first n lines are passed over, end a phase or say lines, and that of line n + 1 does none of these
 abbrev pub StopsAfter : List ℕ → ℕ → Type 0
 StopsAfter octets n = (texts : List (List ℕ)) × AreTexts octets texts × Stop [] texts n

@@ -1,4 +1,4 @@
-//! The reader of a script: from octets to its lines, or to the number of the first line that isn't one.
+//! The reader of a script: from octets to its phases, or to the number of the first line that isn't in the grammar.
 #![tactic(auto)]
 
 pub mod commands;
@@ -7,6 +7,7 @@ pub mod laws;
 pub mod lines;
 mod lookups;
 mod numbers;
+pub mod phases;
 mod pres;
 pub mod scripts;
 mod sets;

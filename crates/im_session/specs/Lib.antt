@@ -1,6 +1,9 @@
-pub mod Calls
-pub mod Made
-pub mod Moves
-pub mod Put
+pub mod Lines
+pub mod Answered
+pub mod Shown
+pub mod Runs
+pub mod Dealing
+pub mod Gathered
+pub mod Phases
+pub mod Written
 pub mod Served
-pub mod Turns

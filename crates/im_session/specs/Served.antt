@@ -1,101 +1,124 @@
--- What a session made of the lines of a script, and what it left on the disk.
-use Rattle.std.specs.Prelude.{◌≡◌, ◌≤◌, ◌⊎◌, ℤ, ℕ, List, [], ◌∷◌, ◌++◌, length, map, take, drop, All, Option, None, IfSome, Result, Ok, Err}
+-- What a script made of a store, and of a disk.
+use Rattle.std.specs.Prelude.{◌≡◌, ◌⊎◌, ◌<◌, ◌≤◌, ◌+◌, ◌++◌, ℕ, ℤ, List, [], ◌∷◌, length, take, drop, map, Bool, All, Option, Some, None, IfSome, Result, Ok, Err}
+use Rattle.std.specs.Io.KnownBytes.{Appends}
 use Rattle.im_digest.specs.Digests.{Hash}
-use Rattle.im_disk.specs.Disk.{Files, Told, seen}
+use Rattle.im_accept.specs.Taken.{AreReadBack}
+use Rattle.im_disk.specs.Disk.{Told, seen}
 use Rattle.im_disk.specs.Moments.{Leaves, LeavesNow}
+use Rattle.im_edge.specs.Clocks.{AddsTimes}
+use Rattle.im_edge.specs.Counts.{Rose}
 use Rattle.im_format.specs.Standing.{Stands, StandsFrom}
 use Rattle.im_model.specs.declared.transactions.Transaction.{Transaction}
-use Rattle.im_draft.specs.Drafts.{entry_of, AreEntries, AreFree}
-use Rattle.im_draft.specs.declared.drafts.Draft.{Draft}
-use Rattle.im_draft.specs.declared.preconditions.Pre.{Pre}
-use Rattle.im_versions.specs.Admits.{place_refusal}
+use Rattle.im_report.specs.Outcomes.{Outcome}
+use Rattle.im_report.specs.Sessions.{AreAnswered, AreOfOne, SessionsReport, lines_in, phase_text, phases_text, replies_in}
 use Rattle.im_script.specs.declared.commands.Line.{Line}
-use Rattle.im_script.specs.declared.commands.Command.{Command}
-use Rattle.im_script.specs.declared.commands.Command.TheVariants.{Set}
-use Rattle.im_report.specs.Report.{Report, floor_after}
-use Rattle.im_accept.specs.Taken.{AreReadBack, HaveSessions}
-use Rattle.im_ledger.specs.declared.errors.CommitError.{CommitError}
-use Rattle.im_ledger.specs.declared.errors.CommitError.TheVariants.{DiskFault, Memory}
-use Rattle.im_session.specs.Made.{MakesCalls}
-use Rattle.im_session.specs.Put.{StandsPut}
-use Rattle.im_session.specs.Turns.{AskedFor, HasTime}
+use Rattle.im_seated_journal.specs.Calls.{MakesBatches, StandsPut}
+use Rattle.im_seated_journal.specs.Seats.{RoseBy}
+use Rattle.im_session.specs.Phases.{AreSoFar, IsPlayed, StopsAt}
+use Rattle.im_session.specs.declared.errors.LineError.{LineError}
+use Rattle.im_session.specs.declared.errors.LineError.TheVariants as line
+use Rattle.im_session.specs.declared.serve.Stopped.{Stopped}
+use Rattle.im_session.specs.declared.serve.Stopped.TheVariants as stops
+use Rattle.im_store.specs.Names.{Naming}
+use Rattle.im_table.specs.Histories.{history_of}
+use Rattle.im_table.specs.Known.{KnownPass}
 
--- the image stands for a history, or for it with what was placed behind it
-abbrev pub StandsWith : Hash → List Transaction → List Transaction → Files → Type 0
-StandsWith hash history left image = Stands hash image history ⊎ Stands hash image (history ++ left)
+-- a transaction has the clock's time, where the clock tells it
+abbrev pub HasTime : Option ℤ → Transaction → Type 0
+HasTime constant tx = IfSome constant (λ time. tx.ts ≡ time)
 
--- a `set` or `del` that reaches the disk: its drafts are the entries of a transaction, none with a key that begins with the
--- octet 00, the history has room for it, and each of its preconditions holds behind it
-pub record ReachesDisk (history : List Transaction) (command : Command) : Type 0 where
-  pub pres : List Pre
-  pub drafts : List Draft
-  pub asks : command ≡ Set pres drafts
-  pub free : AreFree drafts
-  pub are : AreEntries drafts
-  pub admitted : place_refusal history pres ≡ None
+-- the clock was asked once for each of these transactions, in order, and for nothing else, where it tells the times that it gave: each transaction has
+-- the one that was given for it
+abbrev pub AskedFor : List Transaction → Option (List ℤ) → Option (List ℤ) → Type 0
+AskedFor txs before now = AddsTimes before now (map (λ (tx : Transaction). tx.ts) txs)
 
--- this one transaction has the entries of a `set` or `del` that reaches the disk, and the clock's time where it tells one
-pub record IsOneLeft (constant : Option ℤ) (history : List Transaction) (command : Command) (left : List Transaction) : Type 0 where
-  pub reaches : ReachesDisk history command
-  pub tx : Transaction
-  pub one : left ≡ tx ∷ []
-  pub writes : tx.entries ≡ map entry_of reaches.drafts
-  pub timed : HasTime constant tx
+-- a front part of a text was added, and not all of it
+abbrev pub AddsLess : List ℕ → Option (List ℕ) → Option (List ℕ) → Type 0
+AddsLess text before after = (n : ℕ) × (n < length text) × Appends before after (take n text)
 
--- what a command without a reply was to place behind the history: nothing, or one transaction
-abbrev pub IsLeftBy : Option ℤ → List Transaction → Command → List Transaction → Type 0
-IsLeftBy constant history command left = (left ≡ []) ⊎ IsOneLeft constant history command left
+-- the sink failed once
+abbrev pub FailedOnce : ℕ → ℕ → Type 0
+FailedOnce before now = Rose before now × (now ≤ before + 1)
 
--- what the first of these lines, which have no reply, was to place behind it
-abbrev pub IsLeft : Option ℤ → List Transaction → List Line → List Transaction → Type 0
-IsLeft constant history [] left = left ≡ []
-IsLeft constant history (line ∷ lines) left = IsLeftBy constant history line.command left
+-- the text was written whole, and the sink didn't fail; or a front part of it, not all of it, and the sink failed
+abbrev pub Writes : List ℕ → Option (List ℕ) → Option (List ℕ) → ℕ → ℕ → Type 0
+Writes text before now faults_before faults_now =
+    (Appends before now text × (faults_now ≡ faults_before)) ⊎ (AddsLess text before now × FailedOnce faults_before faults_now)
 
--- The first `count` lines were answered, over the history that was found: their report, whose messages are read as
--- those that were asked for, where each line has a session's name. Each image of the disk now stands for the
--- history, or for it with what the next line was to place, which got no reply: the tree that it was to stand over is the
--- one that was full of what was found and that the `link` lines before it made. Each image of each moment stood for the
--- first transactions of these, those that were found among them. The clock was asked once for each transaction that was
--- placed, and for that of the next line, in order, and for nothing else: each has the time that was given for it.
--- The disk got the calls of these transactions, each in a batch of its own, its values put over so many value logs, and of
--- that of the next line as far as they came before the session ended, in order, and the one that failed, if one did; and no
--- other call that changes it.
-pub record Serves (hash : Hash) (constant : Option ℤ) (logs : ℕ) (found : List Transaction) (lines : List Line) (before now : Option Told) (times_before times_now : Option (List ℤ)) (octets : List ℕ) (end : Result (Unit {0}) CommitError) : Type 0 where
-  pub count : ℕ
-  pub within : count ≤ length lines
+-- How far a phase, of these outcomes, was written, by how the script ended there.
+abbrev pub WritesPhase : List Outcome → Option (List ℕ) → Option (List ℕ) → ℕ → ℕ → Result Unit Stopped → Type 0
+WritesPhase outcomes before now faults_before faults_now (Ok done) =
+    AreAnswered outcomes × Appends before now (phase_text outcomes) × (faults_now ≡ faults_before)
+WritesPhase outcomes before now faults_before faults_now (Err (stops.Line why)) =
+    StopsAt outcomes why × Writes (phase_text outcomes) before now faults_before faults_now
+WritesPhase outcomes before now faults_before faults_now (Err stops.Write) =
+    AreAnswered outcomes × AddsLess (phase_text outcomes) before now × FailedOnce faults_before faults_now
+
+-- how a script ended by why its phase stopped, if it did
+abbrev pub EndsBy : Option LineError → Result Unit Stopped → Type 0
+EndsBy None end = (why : LineError) → end ≡ Err (stops.Line why) → ⊥
+EndsBy (Some why) end = end ≡ Err (stops.Line why)
+
+-- What a pass knows of faults behind phases, by how the script ended there: of one where the disk failed at the line that stopped it. It told none where all lines were
+-- answered; nor where all are of one session, and it wasn't the disk that stopped it.
+pub record TellsFaults (old new : KnownPass) (phases : List (List Outcome)) (end : Result Unit Stopped) : Type 0 where
+  pub knows : end ≡ Err (stops.Line line.DiskFault) → 1 ≤ new.view.least.failed
+  pub calm : All AreAnswered phases → new.view.faults ≡ old.view.faults
+  pub alone : AreOfOne phases → (end ≡ Err (stops.Line line.DiskFault) → ⊥) → new.view.faults ≡ old.view.faults
+
+-- one phase was played, and written as far as it says
+pub record RunsPhase (hash : Hash) (links : Bool) (old new : KnownPass) (lines : List Line) (before now : Option (List ℕ)) (faults_before faults_now : ℕ) (end : Result Unit Stopped) : Type 0 where
+  pub outcomes : List Outcome
+  pub played : IsPlayed hash links old new lines outcomes
+  pub faults : TellsFaults old new (outcomes ∷ []) end
+  pub wrote : WritesPhase outcomes before now faults_before faults_now end
+
+-- How far phases were written, the last one of them by how the script ended: those before it were written whole, as soon as they were joined.
+abbrev pub WritesPhases : List (List Outcome) → Option (List ℕ) → Option (List ℕ) → ℕ → ℕ → Result Unit Stopped → Type 0
+WritesPhases phases before now faults_before faults_now (Ok done) =
+    All AreAnswered phases × Appends before now (phases_text phases) × (faults_now ≡ faults_before)
+WritesPhases phases before now faults_before faults_now (Err end) =
+    (first : List (List Outcome)) × (last : List Outcome) × (middle : Option (List ℕ)) × (phases ≡ first ++ last ∷ [])
+    × All AreAnswered first × Appends before middle (phases_text first) × WritesPhase last middle now faults_before faults_now (Err end)
+
+-- phases were played one after the other, all of them where the script ended well, and written as far as they say
+pub record RunsPhases (hash : Hash) (links : Bool) (old new : KnownPass) (script : List (List Line)) (before now : Option (List ℕ)) (faults_before faults_now : ℕ) (end : Result Unit Stopped) : Type 0 where
+  pub ran : List (List Line)
+  pub unrun : List (List Line)
+  pub script_is : script ≡ ran ++ unrun
+  pub all : end ≡ Ok tt → unrun ≡ []
+  pub phases : List (List Outcome)
+  pub so_far : AreSoFar hash links old new ran phases
+  pub faults : TellsFaults old new phases end
+  pub wrote : WritesPhases phases before now faults_before faults_now end
+
+-- What a script came to, as far as its phases were run: all of them where it ended well. The phases' report is that of one history, from what was found to
+-- what was placed, and each message in it is read as the one that was asked for. Each image of the disk now stands for a front part of that history, which holds
+-- the number of each reply; and since the opening's first sync each image of each moment stood for one that holds what was found. Where each line that was run
+-- was answered, each image now stands for the whole history, and so does what reads give, the values put by the rule. The clock was asked
+-- once for each transaction that was placed, in order, and for nothing else. The disk got the calls of batches of these transactions, in order, and no other
+-- call that changes it, and has failed at least once where a line tells a fault of it.
+pub record Serves {D : Type 0} (told : D → Option Told) (faults : D → ℕ) (links : Bool) (n : Naming) (script : List (List Line)) (written_before written_now : Option (List ℕ)) (sink_before sink_now : ℕ)
+    (disk : D) (constant : Option ℤ) (given : Option (List ℤ)) (end : Result Unit Stopped) : Type 0 where
+  pub phases : List (List Outcome)
+  pub unrun : List (List Line)
+  pub script_is : script ≡ lines_in phases ++ unrun
+  pub all : end ≡ Ok tt → unrun ≡ []
   pub history : List Transaction
-  pub report : Report hash found history (take count lines) octets
-  pub again : HaveSessions (take count lines) → AreReadBack hash history report.answers
-  pub timed : All (HasTime constant) (drop (length found) history)
-  pub left : List Transaction
-  pub left_is : IsLeft constant history (drop count lines) left
-  pub over : All (λ tx. tx.bl ≡ floor_after (length found) report.answers) left
-  pub asked : AskedFor (drop (length found) history ++ left) times_before times_now
-  pub images : LeavesNow (StandsWith hash history left) now
-  pub moments : Leaves (StandsFrom hash (length found) (history ++ left)) before now
-  pub calls : MakesCalls hash logs (length found) history left before now end
-
--- why a command behind this history got no reply: the disk fails only at one that reaches it, and memory may run
--- out at any
-abbrev pub IsWhy : CommitError → List Transaction → Command → Type 0
-IsWhy DiskFault history command = ReachesDisk history command
-IsWhy Memory history command = Unit {0}
-
--- behind the lines that were answered there is one that got no reply
-pub record StopsAt (why : CommitError) (history : List Transaction) (lines : List Line) : Type 0 where
-  pub line : Line
-  pub rest : List Line
-  pub next : lines ≡ line ∷ rest
-  pub because : IsWhy why history line.command
-
--- the lines before the first one without a reply were answered
-pub record ServesFront (hash : Hash) (constant : Option ℤ) (logs : ℕ) (found : List Transaction) (lines : List Line) (before now : Option Told) (times_before times_now : Option (List ℤ)) (octets : List ℕ) (why : CommitError) : Type 0 where
-  pub serves : Serves hash constant logs found lines before now times_before times_now octets (Err why)
-  pub stops : StopsAt why serves.history (drop serves.count lines)
-
--- all lines were answered, and what reads give stands for the history too, where each transaction behind those that
--- were found stands in a batch of its own, its values put over so many value logs
-pub record ServesAll (hash : Hash) (constant : Option ℤ) (logs : ℕ) (found : List Transaction) (lines : List Line) (before now : Option Told) (times_before times_now : Option (List ℤ)) (octets : List ℕ) : Type 0 where
-  pub serves : Serves hash constant logs found lines before now times_before times_now octets (Ok tt)
-  pub all : serves.count ≡ length lines
-  pub here : IfSome now (λ t. StandsPut hash logs (length found) serves.history (seen t))
+  pub report : SessionsReport n.digest links (history_of n.found) history phases
+  pub again : All (λ outcomes. AreReadBack n.digest history (replies_in outcomes)) phases
+  pub wrote : WritesPhases phases written_before written_now sink_before sink_now end
+  pub durable : ℕ
+  pub within : durable ≤ length history
+  pub told_durable : All (λ outcomes. All (λ a. a.number ≤ durable) (replies_in outcomes)) phases
+  pub images : LeavesNow (StandsFrom n.digest durable history) (told disk)
+  pub moments : Leaves (StandsFrom n.digest (length n.found) history) n.synced (told disk)
+  pub same : constant ≡ n.time
+  pub timed : All (HasTime n.time) (drop (length n.found) history)
+  pub asked : AskedFor (drop (length n.found) history) n.given given
+  pub whole : ((why : LineError) → end ≡ Err (stops.Line why) → ⊥) → LeavesNow (λ image. Stands n.digest image history) (told disk)
+  pub here : ((why : LineError) → end ≡ Err (stops.Line why) → ⊥) → IfSome (told disk) (λ t. StandsPut n.digest n.logs (length n.found) history (seen t))
+  pub calls : MakesBatches n.digest n.logs (length n.found) durable history n.synced (told disk)
+  pub fault : end ≡ Err (stops.Line line.DiskFault) → RoseBy n.faults (faults disk) 1
+  pub unharmed : ((why : LineError) → end ≡ Err (stops.Line why) → ⊥) → faults disk ≡ n.faults
+  pub unharmed_alone : AreOfOne phases → (end ≡ Err (stops.Line line.DiskFault) → ⊥) → faults disk ≡ n.faults

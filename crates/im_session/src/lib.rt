@@ -1,7 +1,16 @@
-//! The session: it answers the lines of a script in order, over a ledger that is kept on a disk.
+//! Sessions: each answers its lines of a phase in order on a thread of its own, over a store that they share, beside a linker and an indexer. The
+//! replies of a phase are written in the script's order as soon as all its sessions have ended.
 #![tactic(auto)]
 
 mod answers;
+mod commits;
+mod dealing;
+pub mod errors;
+mod lines;
+mod phase;
+mod play;
 mod proofs;
 mod reads;
 pub mod serve;
+pub mod sessions;
+mod writing;

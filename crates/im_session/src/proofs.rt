@@ -1,30 +1,31 @@
-ghost use Rattle.std.specs.Prelude.{◌≡◌, ◌<◌, ◌≤◌, ◌-◌, ℕ, List, length, map, slice_index_or, false, IfNone, IfOk, IfSome, Ok, unwrap_or};
-ghost use Rattle.im_digest.specs.Digests.{Hash};
-ghost use Rattle.im_model.specs.Entries.{entry_digest};
-ghost use Rattle.im_mtree.specs.Checks.{first_fail};
-ghost use Rattle.im_proof.specs.Built.{path_of};
-ghost use Rattle.im_proof.specs.Duals.{dual_checks};
-ghost use Rattle.im_proof.specs.Between.{anchor_between, dual_between, no_entry};
-ghost use Rattle.im_report.specs.Replies.{advance_reply, between_reply, item_reply, item_shown, prove_reply, state_reply};
+//! Replies that show headers and proofs.
+
+ghost use Rattle.std.specs.Prelude.{◌≡◌, ◌≤◌, IfErr, IfNone, IfOk, IfSome, Ok};
 ghost use Rattle.im_script.specs.declared.commands.Command.TheVariants as says;
-ghost use Rattle.im_accept.specs.Messages.{IsReadBack};
-ghost use Rattle.im_wire.specs.Lines.{is_open};
+ghost use Rattle.im_session.specs.Answered.{IsAnswered, IsUnanswered};
+ghost use Rattle.im_session.specs.Shown.{IsRefusedBetween};
+ghost use Rattle.im_table.specs.Passes.{IsPassOf, Later};
 ghost use Rattle.im_wire.specs.Messages.{HasMessage};
 ghost use Rattle.im_wire.specs.Texts.{text};
-ghost use Rattle.im_wire.specs.declared.messages.Message.TheVariants.{Item};
-ghost use Rattle.im_ledger.specs.Ledgers.{IsLedger};
+ghost use Rattle.im_wire.specs.declared.messages.Message.TheVariants as message;
 
+use crate::answers::Answer;
+use crate::errors::LineError;
 use im_digest::Hash32;
-use im_dual::anchors::anchor_between;
-use im_dual::build::build;
-use im_dual::entries::entry_and_path;
-use im_ledger::ledger::Ledger;
-use im_model::entries::Entry;
-use im_proof::proofs::DualProof;
-use im_report::replies::{beyond_text, no_entry_text, order_text};
+use im_disk::disk::Disk;
+use im_edge::clock::Clock;
+use im_header::alh;
+use im_report::replies::{beyond_text, header_shown, no_entry_text, order_text};
+use im_store::answers::{Advance, ProvedEntry};
+use im_store::errors::{ItemError, ProveError};
+use im_store::store::Store;
+use im_table::law::Free;
+use im_table::pass::Pass;
+use im_table::tip_name::TipName;
 use im_wire::messages::Message;
 use im_wire::writing::write;
 use std::alloc::{AllocError, Global};
+use std::sync::Wait;
 
 // The text of a message, which is read as that message again.
 fn message_text(alloc: Global, message: Message) -> Result<Vec<u8>, AllocError>
@@ -36,33 +37,11 @@ fn message_text(alloc: Global, message: Message) -> Result<Vec<u8>, AllocError>
     octets
 }
 
-/// The reply to `state`: the header of the last transaction, which is copied. Nothing is hashed.
-#[tactic(auto, unfolding(im_report::specs::Replies::state_reply))]
-pub(crate) fn state_text(alloc: Global, ledger: &Ledger) -> Result<Vec<u8>, AllocError>
-    requires { (hash : Hash) × IsLedger hash ledger.now }
-    ensures reply { (hash : Hash) → IsLedger hash ledger.now → IfOk result (λ reply. reply.items ≡ state_reply hash ledger.now.transactions) }
-    ensures again { (hash : Hash) → IsLedger hash ledger.now → IfOk result (λ reply. IsReadBack hash ledger.now.transactions says.State reply.items) }
+// The refusal of two numbers of transactions, or `None` where they are in order and the second is at most `count`.
+fn refused_between(alloc: Global, count: u64, s: u64, t: u64) -> Result<Option<Vec<u8>>, AllocError>
+    ensures refused { IfOk result (λ refused. IfSome refused (λ reply. IsRefusedBetween count s t reply.items)) }
+    ensures taken { IfOk result (λ refused. IfNone refused ((1 ≤ s) × (s ≤ t) × (t ≤ count))) }
 {
-    let count = ledger.count();
-    if count == 0 {
-        return Vec::from_slice(alloc, b"refused empty");
-    }
-    let header = ledger.header(count).try_clone(alloc)?;
-    message_text(alloc, Message::State { header })
-}
-
-// The refusal of two numbers of transactions, or `None` where they are in order and not beyond the last.
-fn refused_between(
-    alloc: Global,
-    ledger: &Ledger,
-    s: u64,
-    t: u64,
-) -> Result<Option<Vec<u8>>, AllocError>
-    ensures refused { IfOk result (λ refused. IfSome refused (λ reply. (shown : List ℕ) → reply.items ≡ between_reply ledger.now.transactions s t shown)) }
-    ensures closed { IfOk result (λ refused. IfSome refused (λ reply. is_open reply.items ≡ false)) }
-    ensures taken { IfOk result (λ refused. IfNone refused ((1 ≤ s) × (s ≤ t) × (t ≤ length ledger.now.transactions))) }
-{
-    let count = ledger.count();
     if s == 0 || t < s {
         return Ok(Some(order_text(alloc, s, t)?));
     }
@@ -72,139 +51,165 @@ fn refused_between(
     Ok(None)
 }
 
-// The dual proof between transactions s and t, which passes its check.
-fn dual_between<H: Hash32>(
-    alloc: Global,
-    hash: &H,
-    ledger: &Ledger,
-    s: u64,
-    t: u64,
-) -> Result<DualProof, AllocError>
-    requires ledger { IsLedger (H.digest hash.now) ledger.now }
-    requires some { 1 ≤ s }
-    requires order { s ≤ t }
-    requires within { t ≤ length ledger.now.transactions }
-    ensures value { IfOk result (λ dual. dual ≡ dual_between (H.digest hash.now) ledger.now.transactions s t) }
-    ensures passes { IfOk result (λ dual. first_fail (dual_checks (H.digest hash.now) dual) ≡ Ok tt) }
+// Numbers that were compared before are in order and durable: want of memory is the only error left.
+fn proved<T: Drop>(given: Result<T, ProveError>) -> Result<T, AllocError>
+    requires memory { IfErr given (λ error. error ≡ ProveError.Memory) }
+    ensures same { IfOk result (λ value. given ≡ Ok value) }
 {
-    build(alloc, hash, ledger.headers(), ledger.tree(), s, t)
-}
-
-/// The reply to `prove`: the dual proof between two transactions. Each path in the proof, those of the advance among
-/// them, and the consistency list cost at most four digests read or hashed for each binary digit of the size of the
-/// target's tree.
-#[tactic(auto, unfolding(im_report::specs::Replies::prove_reply))]
-pub(crate) fn prove_text<H: Hash32>(
-    alloc: Global,
-    hash: &H,
-    ledger: &Ledger,
-    s: u64,
-    t: u64,
-) -> Result<Vec<u8>, AllocError>
-    requires { IsLedger (H.digest hash.now) ledger.now }
-    ensures reply { IfOk result (λ reply. reply.items ≡ prove_reply (H.digest hash.now) ledger.now.transactions s t) }
-    ensures again { IfOk result (λ reply. IsReadBack (H.digest hash.now) ledger.now.transactions (says.Prove s t) reply.items) }
-{
-    if let Some(refusal) = refused_between(alloc, ledger, s, t)? {
-        return Ok(refusal);
-    }
-    let dual = dual_between(alloc, hash, ledger, s, t)?;
-    message_text(alloc, Message::Dual { dual })
-}
-
-// The anchor of an advance from transaction s to t, where one is due.
-fn anchor<H: Hash32>(
-    alloc: Global,
-    hash: &H,
-    ledger: &Ledger,
-    s: u64,
-    t: u64,
-) -> Result<Option<DualProof>, AllocError>
-    requires ledger { IsLedger (H.digest hash.now) ledger.now }
-    requires some { 1 ≤ s }
-    requires order { s ≤ t }
-    requires within { t ≤ length ledger.now.transactions }
-    ensures { IfOk result (λ anchor. anchor ≡ anchor_between (H.digest hash.now) ledger.now.transactions s t) }
-{
-    anchor_between(alloc, hash, ledger.headers(), ledger.tree(), s, t)
-}
-
-/// The reply to `advance`: the dual proof between two transactions, and its anchor where one is due. Each costs what
-/// the proof of `prove` does.
-#[tactic(auto, unfolding(im_report::specs::Replies::advance_reply))]
-pub(crate) fn advance_text<H: Hash32>(
-    alloc: Global,
-    hash: &H,
-    ledger: &Ledger,
-    s: u64,
-    t: u64,
-) -> Result<Vec<u8>, AllocError>
-    requires { IsLedger (H.digest hash.now) ledger.now }
-    ensures reply { IfOk result (λ reply. reply.items ≡ advance_reply (H.digest hash.now) ledger.now.transactions s t) }
-    ensures again { IfOk result (λ reply. IsReadBack (H.digest hash.now) ledger.now.transactions (says.Advance s t) reply.items) }
-{
-    if let Some(refusal) = refused_between(alloc, ledger, s, t)? {
-        return Ok(refusal);
-    }
-    let dual = dual_between(alloc, hash, ledger, s, t)?;
-    let anchor = anchor(alloc, hash, ledger, s, t)?;
-    message_text(alloc, Message::Advance { dual, anchor })
-}
-
-// An entry of these and its path among them, with the dual proof from their transaction.
-#[tactic(auto, unfolding(im_report::specs::Replies::item_shown))]
-fn item<H: Hash32>(
-    alloc: Global,
-    hash: &H,
-    dual: DualProof,
-    entries: &[Entry],
-    index: u32,
-) -> Result<Vec<u8>, AllocError>
-    requires { index < length entries.now }
-    ensures reply { IfOk result (λ reply. reply.items ≡ item_shown (H.digest hash.now) dual entries.now index) }
-    ensures again { IfOk result (λ reply. HasMessage reply.items (Item dual (slice_index_or entries.now index no_entry) index (path_of (H.digest hash.now) (map (entry_digest (H.digest hash.now)) entries.now) index))) }
-{
-    match entry_and_path(alloc, hash, entries, index) {
-        Ok((entry, path)) => message_text(
-            alloc,
-            Message::Item {
-                dual,
-                entry,
-                index,
-                path,
-            },
-        ),
-        Err(error) => {
-            drop(dual);
-            Err(error)
-        }
+    match given {
+        Ok(value) => Ok(value),
+        Err(ProveError::Memory) => Err(AllocError),
+        Err(ProveError::Order { .. } | ProveError::Beyond { .. }) => unreachable!(),
     }
 }
 
-/// The reply to `item`: an entry of a transaction by its index, proved under the named state, or under the
-/// last where none is named. It hashes the transaction's entries and their tree, and costs what `prove` does from
-/// that transaction to the state.
-#[tactic(auto, unfolding(im_report::specs::Replies::item_reply))]
-pub(crate) fn item_text<H: Hash32>(
+/// Answers `header`: the header of a transaction, with its Alh, which is two hashes.
+pub(crate) fn answer_header<H: Hash32, D: Disk, C: Clock, N: TipName, R: Wait>(
+    rt: &R,
     alloc: Global,
-    hash: &H,
-    ledger: &Ledger,
+    store: &Store<'_, H, D, C, Free, N>,
+    pass: &mut Pass,
+    k: u64,
+) -> Result<Answer, LineError>
+    requires pass { IsPassOf N.table pass.old }
+    ensures later { Later pass.old pass.new }
+    ensures ok { IfOk result (λ answer. IsAnswered N.digest pass.old pass.new (says.Header k) answer) }
+    ensures err { IfErr result (λ why. IsUnanswered pass.old pass.new (says.Header k) why) }
+{
+    let number = store.tip(pass);
+    let reply = if k == 0 {
+        Vec::from_slice(alloc, b"refused order 0 0")?
+    } else if number < k {
+        beyond_text(alloc, number)?
+    } else {
+        let header = proved(store.header(rt, alloc, pass, k))?;
+        header_shown(alloc, &alh(store.hash(), &header), &header)?
+    };
+    Ok(Answer { number, reply })
+}
+
+/// Answers `state`: the header of the last durable transaction, which is copied.
+pub(crate) fn answer_state<H: Hash32, D: Disk, C: Clock, N: TipName, R: Wait>(
+    rt: &R,
+    alloc: Global,
+    store: &Store<'_, H, D, C, Free, N>,
+    pass: &mut Pass,
+) -> Result<Answer, LineError>
+    requires pass { IsPassOf N.table pass.old }
+    ensures later { Later pass.old pass.new }
+    ensures ok { IfOk result (λ answer. IsAnswered N.digest pass.old pass.new says.State answer) }
+    ensures err { IfErr result (λ why. IsUnanswered pass.old pass.new says.State why) }
+{
+    let number = store.tip(pass);
+    let reply = if number == 0 {
+        Vec::from_slice(alloc, b"refused empty")?
+    } else {
+        let header = proved(store.header(rt, alloc, pass, number))?;
+        message_text(alloc, Message::State { header })?
+    };
+    Ok(Answer { number, reply })
+}
+
+/// Answers `prove`: the dual proof between two transactions. What that costs is said at the store's `prove`.
+pub(crate) fn answer_prove<H: Hash32, D: Disk, C: Clock, N: TipName, R: Wait>(
+    rt: &R,
+    alloc: Global,
+    store: &Store<'_, H, D, C, Free, N>,
+    pass: &mut Pass,
+    s: u64,
+    t: u64,
+) -> Result<Answer, LineError>
+    requires pass { IsPassOf N.table pass.old }
+    ensures later { Later pass.old pass.new }
+    ensures ok { IfOk result (λ answer. IsAnswered N.digest pass.old pass.new (says.Prove s t) answer) }
+    ensures err { IfErr result (λ why. IsUnanswered pass.old pass.new (says.Prove s t) why) }
+{
+    let number = store.tip(pass);
+    if let Some(reply) = refused_between(alloc, number, s, t)? {
+        return Ok(Answer { number, reply });
+    }
+    let dual = proved(store.prove(rt, alloc, pass, s, t))?;
+    let reply = message_text(alloc, Message::Dual { dual })?;
+    Ok(Answer { number, reply })
+}
+
+/// Answers `advance`: the dual proof between two transactions, and its anchor where one is due.
+pub(crate) fn answer_advance<H: Hash32, D: Disk, C: Clock, N: TipName, R: Wait>(
+    rt: &R,
+    alloc: Global,
+    store: &Store<'_, H, D, C, Free, N>,
+    pass: &mut Pass,
+    s: u64,
+    t: u64,
+) -> Result<Answer, LineError>
+    requires pass { IsPassOf N.table pass.old }
+    ensures later { Later pass.old pass.new }
+    ensures ok { IfOk result (λ answer. IsAnswered N.digest pass.old pass.new (says.Advance s t) answer) }
+    ensures err { IfErr result (λ why. IsUnanswered pass.old pass.new (says.Advance s t) why) }
+{
+    let number = store.tip(pass);
+    if let Some(reply) = refused_between(alloc, number, s, t)? {
+        return Ok(Answer { number, reply });
+    }
+    let Advance { dual, anchor } = proved(store.advance(rt, alloc, pass, s, t))?;
+    let reply = message_text(alloc, Message::Advance { dual, anchor })?;
+    Ok(Answer { number, reply })
+}
+
+// The text of a proved entry.
+fn entry_text(alloc: Global, proved: ProvedEntry) -> Result<Vec<u8>, AllocError>
+    ensures text { IfOk result (λ octets. octets.items ≡ text (message.Item proved.dual proved.entry proved.index proved.path)) }
+    ensures again { IfOk result (λ octets. HasMessage octets.items (message.Item proved.dual proved.entry proved.index proved.path)) }
+{
+    let ProvedEntry {
+        dual,
+        entry,
+        index,
+        path,
+    } = proved;
+    message_text(
+        alloc,
+        Message::Item {
+            dual,
+            entry,
+            index,
+            path,
+        },
+    )
+}
+
+/// Answers `item`: an entry of a transaction by its index, proved under the named state, or under the last durable one. What that costs
+/// is said at the store's `item`.
+pub(crate) fn answer_item<H: Hash32, D: Disk, C: Clock, N: TipName, R: Wait>(
+    rt: &R,
+    alloc: Global,
+    store: &Store<'_, H, D, C, Free, N>,
+    pass: &mut Pass,
     number: u64,
     index: u32,
     under: Option<u64>,
-) -> Result<Vec<u8>, AllocError>
-    requires { IsLedger (H.digest hash.now) ledger.now }
-    ensures reply { IfOk result (λ reply. reply.items ≡ item_reply (H.digest hash.now) ledger.now.transactions number index (unwrap_or under (length ledger.now.transactions))) }
-    ensures again { IfOk result (λ reply. IsReadBack (H.digest hash.now) ledger.now.transactions (says.Item number index under) reply.items) }
+) -> Result<Answer, LineError>
+    requires pass { IsPassOf N.table pass.old }
+    ensures later { Later pass.old pass.new }
+    ensures ok { IfOk result (λ answer. IsAnswered N.digest pass.old pass.new (says.Item number index under) answer) }
+    ensures err { IfErr result (λ why. IsUnanswered pass.old pass.new (says.Item number index under) why) }
 {
-    let state = under.unwrap_or(ledger.count());
-    if let Some(refusal) = refused_between(alloc, ledger, number, state)? {
-        return Ok(refusal);
+    let count = store.tip(pass);
+    let state = under.unwrap_or(count);
+    if let Some(reply) = refused_between(alloc, count, number, state)? {
+        return Ok(Answer {
+            number: count,
+            reply,
+        });
     }
-    let entries = ledger.transaction(number).entries.as_slice();
-    if index as usize >= entries.len() {
-        return no_entry_text(alloc, entries.len() as u64);
-    }
-    let dual = dual_between(alloc, hash, ledger, number, state)?;
-    item(alloc, hash, dual, entries, index)
+    let reply = match store.item(rt, alloc, pass, number, index, state) {
+        Ok(proved) => entry_text(alloc, proved)?,
+        Err(ItemError::NoEntry { width }) => no_entry_text(alloc, u64::from(width))?,
+        Err(ItemError::Memory) => return Err(LineError::Memory),
+        Err(ItemError::Order { .. } | ItemError::Beyond { .. }) => unreachable!(),
+    };
+    Ok(Answer {
+        number: count,
+        reply,
+    })
 }

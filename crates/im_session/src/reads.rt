@@ -1,34 +1,35 @@
 //! Replies that are read off a view of the keys, after a number of transactions that is named or after all of them.
 
-ghost use Rattle.std.specs.Prelude.{◌≡◌, ◌<◌, ◌≤◌, ℕ, List, length, unwrap_or, IfNone, IfOk, IfSome, OnOk, Some};
-ghost use Rattle.im_index.specs.Indexed.{IsIndexOf};
+ghost use Rattle.std.specs.Prelude.{◌≡◌, ◌<◌, ◌≤◌, ℕ, List, [], length, take, unwrap_or, IfErr, IfNone, IfOk, IfSome, OnOk, Some};
 ghost use Rattle.im_model.specs.declared.transactions.Transaction.{Transaction};
 ghost use Rattle.im_report.specs.Reads.{IsGetAnswer, IsHistoryAnswer, IsReadAt, IsScanAnswer};
 ghost use Rattle.im_report.specs.Replies.{beyond_reply};
-ghost use Rattle.im_session.specs.Turns.{IsIndexWithin};
+ghost use Rattle.im_script.specs.declared.commands.Command.TheVariants.{Get, Scan, History};
+ghost use Rattle.im_session.specs.Answered.{IsAnswered, IsUnanswered};
+ghost use Rattle.im_session.specs.Shown.{ShowsKeys};
+ghost use Rattle.im_store.specs.Gains.{Gains};
+ghost use Rattle.im_table.specs.Passes.{IsPassOf, Later};
 
-use im_index::index::Index;
-use im_ledger::ledger::Ledger;
+use crate::answers::Answer;
+use crate::errors::LineError;
+use im_digest::Hash32;
+use im_disk::disk::Disk;
+use im_edge::clock::Clock;
+use im_index::snapshot::Snapshot;
 use im_report::reads::{history_text, scan_text, value_text};
 use im_report::replies::beyond_text;
+use im_store::errors::SnapshotError;
+use im_store::store::Store;
+use im_table::law::Free;
+use im_table::pass::Pass;
+use im_table::tip_name::TipName;
 use im_view::errors::ViewError;
 use im_view::view::KvView;
 use std::alloc::{AllocError, Global};
+use std::sync::Wait;
 
-/// Brings the index to the last transaction. The versions that are added are copied and sorted once, and merged with
-/// the others as the index says. Where it has all, it takes no memory.
-pub(crate) fn catch_up(alloc: Global, index: &mut Index, ledger: &Ledger) -> Result<(), AllocError>
-    requires within { IsIndexWithin index.old ledger.now.transactions }
-    requires few { length ledger.now.transactions ≤ 1048576 }
-    ensures { OnOk result (IsIndexOf index.new ledger.now.transactions) }
-{
-    let taken = index.taken();
-    let has_all = taken == ledger.count();
-    if has_all {
-        return Ok(());
-    }
-    index.take_all(alloc, &ledger.transactions()[taken as usize..])
-}
+// As many transactions as there may be: so many are indexed at once where a read finds too few.
+const MOST_INDEXED: u64 = 1_048_576;
 
 // Want of memory is the only error of a view.
 fn in_memory(_: ViewError) -> AllocError {
@@ -46,8 +47,8 @@ fn refused_beyond(alloc: Global, count: u64, at: Option<u64>) -> Result<Option<V
     }
 }
 
-/// The reply to `get`, over a view of so many transactions.
-pub(crate) fn get_text<V: KvView>(
+// The reply to `get`, over a view of so many transactions.
+fn get_text<V: KvView>(
     alloc: Global,
     view: &V,
     count: u64,
@@ -66,8 +67,8 @@ pub(crate) fn get_text<V: KvView>(
     value_text(alloc, version.as_ref())
 }
 
-/// The reply to `scan`, over a view of so many transactions.
-pub(crate) fn scan_shown<V: KvView>(
+// The reply to `scan`, over a view of so many transactions.
+fn scan_shown<V: KvView>(
     alloc: Global,
     view: &V,
     count: u64,
@@ -86,8 +87,8 @@ pub(crate) fn scan_shown<V: KvView>(
     scan_text(alloc, shown.as_slice())
 }
 
-/// The reply to `history`, over a view of so many transactions.
-pub(crate) fn history_shown<V: KvView>(
+// The reply to `history`, over a view of so many transactions.
+fn history_shown<V: KvView>(
     alloc: Global,
     view: &V,
     count: u64,
@@ -98,4 +99,92 @@ pub(crate) fn history_shown<V: KvView>(
 {
     let versions = view.versions(alloc, key, count).map_err(in_memory)?;
     history_text(alloc, versions.as_slice())
+}
+
+// What stands of the keys behind the first n transactions. Where too few are indexed, it indexes once, and asks again.
+fn keys_at<H: Hash32, D: Disk, C: Clock, N: TipName, R: Wait>(
+    rt: &R,
+    alloc: Global,
+    store: &Store<'_, H, D, C, Free, N>,
+    pass: &mut Pass,
+    n: u64,
+) -> Result<Snapshot, AllocError>
+    requires pass { IsPassOf N.table pass.old }
+    requires durable { n ≤ pass.old.view.least.durable }
+    requires few { n ≤ 1048576 }
+    ensures later { Later pass.old pass.new }
+    ensures gains { Gains [] 0 0 pass.old pass.new }
+    ensures keys { IfOk result (λ keys. ShowsKeys pass.new n keys) }
+{
+    match store.snapshot(rt, alloc, pass, n) {
+        Ok(keys) => return Ok(keys),
+        Err(SnapshotError::NotYet { .. }) => {}
+        Err(SnapshotError::Memory) => return Err(AllocError),
+        Err(SnapshotError::Beyond { .. }) => unreachable!(),
+    }
+    store.index(rt, alloc, pass, MOST_INDEXED)?;
+    match store.snapshot(rt, alloc, pass, n) {
+        Ok(keys) => Ok(keys),
+        Err(SnapshotError::Memory) => Err(AllocError),
+        Err(SnapshotError::NotYet { .. } | SnapshotError::Beyond { .. }) => unreachable!(),
+    }
+}
+
+/// Answers `get`: by what stands behind all that is durable, or behind the first `at`.
+pub(crate) fn answer_get<H: Hash32, D: Disk, C: Clock, N: TipName, R: Wait>(
+    rt: &R,
+    alloc: Global,
+    store: &Store<'_, H, D, C, Free, N>,
+    pass: &mut Pass,
+    key: &[u8],
+    at: Option<u64>,
+) -> Result<Answer, LineError>
+    requires pass { IsPassOf N.table pass.old }
+    ensures later { Later pass.old pass.new }
+    ensures ok { IfOk result (λ answer. IsAnswered N.digest pass.old pass.new (Get key.now at) answer) }
+    ensures err { IfErr result (λ why. IsUnanswered pass.old pass.new (Get key.now at) why) }
+{
+    let number = store.tip(pass);
+    let keys = keys_at(rt, alloc, store, pass, number)?;
+    let reply = get_text(alloc, &keys, number, key, at)?;
+    Ok(Answer { number, reply })
+}
+
+/// Answers `scan`: as `answer_get`.
+pub(crate) fn answer_scan<H: Hash32, D: Disk, C: Clock, N: TipName, R: Wait>(
+    rt: &R,
+    alloc: Global,
+    store: &Store<'_, H, D, C, Free, N>,
+    pass: &mut Pass,
+    prefix: &[u8],
+    at: Option<u64>,
+) -> Result<Answer, LineError>
+    requires pass { IsPassOf N.table pass.old }
+    ensures later { Later pass.old pass.new }
+    ensures ok { IfOk result (λ answer. IsAnswered N.digest pass.old pass.new (Scan prefix.now at) answer) }
+    ensures err { IfErr result (λ why. IsUnanswered pass.old pass.new (Scan prefix.now at) why) }
+{
+    let number = store.tip(pass);
+    let keys = keys_at(rt, alloc, store, pass, number)?;
+    let reply = scan_shown(alloc, &keys, number, prefix, at)?;
+    Ok(Answer { number, reply })
+}
+
+/// Answers `history`: by what stands behind all that is durable.
+pub(crate) fn answer_history<H: Hash32, D: Disk, C: Clock, N: TipName, R: Wait>(
+    rt: &R,
+    alloc: Global,
+    store: &Store<'_, H, D, C, Free, N>,
+    pass: &mut Pass,
+    key: &[u8],
+) -> Result<Answer, LineError>
+    requires pass { IsPassOf N.table pass.old }
+    ensures later { Later pass.old pass.new }
+    ensures ok { IfOk result (λ answer. IsAnswered N.digest pass.old pass.new (History key.now) answer) }
+    ensures err { IfErr result (λ why. IsUnanswered pass.old pass.new (History key.now) why) }
+{
+    let number = store.tip(pass);
+    let keys = keys_at(rt, alloc, store, pass, number)?;
+    let reply = history_shown(alloc, &keys, number, key)?;
+    Ok(Answer { number, reply })
 }

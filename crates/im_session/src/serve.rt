@@ -1,197 +1,186 @@
-ghost use Rattle.std.specs.Prelude.{◌≡◌, ◌≤◌, ℤ, ℕ, drop, length, Option, IfOk, IsErrOf, OnOk, OnErr};
-ghost use Rattle.im_disk.specs.Disk.{Told};
-ghost use Rattle.im_disk.specs.Grown.{Grows};
-ghost use Rattle.im_disk.specs.Moments.{Leaves};
-ghost use Rattle.im_accept.specs.Messages.{IsReadBack};
-ghost use Rattle.im_ledger.specs.Causes.{HasCommitCause};
-ghost use Rattle.im_ledger.specs.Histories.{IsKept};
-ghost use Rattle.im_ledger.specs.Ledgers.{IsLedger};
-ghost use Rattle.im_ledger.specs.declared.errors.CommitError.{CommitError as Why};
-ghost use Rattle.im_ledger.specs.declared.errors.CommitError.TheVariants.{DiskFault};
-ghost use Rattle.im_session.specs.Moves.{MayPlace, StandsBetween};
-ghost use Rattle.im_session.specs.Put.{IsKeptPut};
-ghost use Rattle.im_session.specs.Served.{ReachesDisk, Serves, ServesAll, ServesFront};
-ghost use Rattle.im_session.specs.Turns.{Answers, AskedFor, IsIndexWithin, IsShowing, Turn};
+ghost use Rattle.std.specs.Prelude.{◌≡◌, ◌≢◌, ◌<◌, ◌≤◌, AllPairs, List, [], length, true, vec_capacity};
+ghost use Rattle.std.specs.List.{All, flat_map};
+ghost use Rattle.im_report.specs.Outcomes.{Outcome};
+ghost use Rattle.im_script.specs.Script.{lines_of, names_of};
+ghost use Rattle.im_session.specs.Dealing.{AreNamed};
+ghost use Rattle.im_session.specs.Gathered.{IsWholePass};
+ghost use Rattle.im_report.specs.Sessions.{phase_text};
+ghost use Rattle.im_session.specs.Phases.{EndsPhase};
+ghost use Rattle.im_session.specs.Served.{EndsBy, RunsPhase, RunsPhases, Serves, WritesPhase};
+ghost use Rattle.im_session.specs.Written.{first_texts, stop_of};
+ghost use Rattle.im_store.specs.Names.{naming_of};
 
-use crate::answers::{answer_link, answer_set, header_text};
-use crate::proofs::{advance_text, item_text, prove_text, state_text};
-use crate::reads::{catch_up, get_text, history_shown, scan_shown};
+use crate::errors::LineError;
+use crate::play::{Played, play};
+use crate::writing::{Front, front_of, write_front};
 use im_digest::Hash32;
 use im_disk::disk::Disk;
 use im_edge::clock::Clock;
-use im_index::index::Index;
-use im_ledger::errors::CommitError;
-use im_ledger::kept::KeptLedger;
-use im_ledger::ledger::Ledger;
-use im_report::replies::reply_text;
-use im_script::commands::{Command, Line};
-use std::alloc::{AllocError, Global};
+use im_edge::gate::Gate;
+use im_edge::sink::{Sink, WriteFault};
+use im_octet::octets::Octets;
+use im_script::phases::{Phase, Script};
+use im_store::opened::Opened;
+use im_store::store::Store;
+use im_table::law::Free;
+use im_table::pass::Pass;
+use im_table::tip_name::TipName;
+use std::alloc::Global;
+use std::sync::Wait;
+use std::thread::Threads;
 
-// Answers a command that changes nothing: its reply is read off the ledger, or off the index, brought to the last
-// transaction.
-fn show<H: Hash32>(
-    alloc: Global,
-    hash: &H,
-    ledger: &Ledger,
-    keys: &mut Index,
-    command: Command,
-) -> Result<Vec<u8>, AllocError>
-    requires ledger { IsLedger (H.digest hash.now) ledger.now }
-    requires few { length ledger.now.transactions ≤ 1048576 }
-    requires within { IsIndexWithin keys.old ledger.now.transactions }
-    requires shows { IsShowing command }
-    ensures answers { (constant : Option ℤ) → IfOk result (λ reply. Answers (H.digest hash.now) constant command ledger.now ledger.now reply.items) }
-    ensures again { IfOk result (λ reply. IsReadBack (H.digest hash.now) ledger.now.transactions command reply.items) }
-    ensures within { OnOk result (IsIndexWithin keys.new ledger.now.transactions) }
+/// How a script ended before its end.
+#[derive(Clone, Copy, Debug, PartialEq, Eq)]
+pub enum Stopped {
+    /// A line got no reply: the first of its phase, in the script's order, for this reason.
+    Line(LineError),
+    /// The sink failed at the replies of a phase whose lines were all answered.
+    Write,
+}
+
+/// What a script left: the disk and the clock, and why it ended before its end, if it did.
+#[derive(Drop)]
+pub struct Served<D, C> {
+    /// The disk.
+    pub disk: D,
+    /// The clock.
+    pub clock: C,
+    /// `Ok` where all lines were answered and written.
+    pub end: Result<(), Stopped>,
+}
+
+// Writes what a phase was answered, up to the first line without a reply, which ends the script.
+fn tell<K: Sink>(sink: &mut K, played: Played) -> Result<(), Stopped>
+    requires few { All (λ number. number < length played.ended.items) played.order.items × (length played.ended.items ≤ 8) }
+    ensures wrote { (outcomes : List Outcome) → flat_map (λ text. text) (first_texts played.order.items played.ended.items) ≡ phase_text outcomes
+        → EndsPhase outcomes (stop_of played.order.items played.ended.items)
+        → WritesPhase outcomes (K.written sink.old) (K.written sink.new) (K.faults sink.old) (K.faults sink.new) result }
+    ensures by { EndsBy (stop_of played.order.items played.ended.items) result }
 {
-    let count = ledger.count();
-    match command {
-        Command::Get { key, at } => {
-            catch_up(alloc, keys, ledger)?;
-            get_text(alloc, keys, count, key.as_slice(), at)
-        }
-        Command::Scan { prefix, at } => {
-            catch_up(alloc, keys, ledger)?;
-            scan_shown(alloc, keys, count, prefix.as_slice(), at)
-        }
-        Command::History { key } => {
-            catch_up(alloc, keys, ledger)?;
-            history_shown(alloc, keys, count, key.as_slice())
-        }
-        Command::Header { number } => header_text(alloc, ledger, number),
-        Command::State => state_text(alloc, ledger),
-        Command::Prove { source, target } => prove_text(alloc, hash, ledger, source, target),
-        Command::Advance { source, target } => advance_text(alloc, hash, ledger, source, target),
-        Command::Item {
-            number,
-            index,
-            under,
-        } => item_text(alloc, hash, ledger, number, index, under),
-        Command::Set { .. } | Command::Link { .. } => unreachable!(),
+    let Played { order, ended } = played;
+    let Front { count, why } = front_of(&order, &ended);
+    let wrote = write_front(sink, &order[..count], &ended);
+    drop(order);
+    drop(ended);
+    match why {
+        Some(why) => Err(Stopped::Line(why)),
+        None => match wrote {
+            Ok(()) => Ok(()),
+            Err(WriteFault) => Err(Stopped::Write),
+        },
     }
 }
 
-// Answers a command.
-fn answer<D: Disk, H: Hash32, C: Clock>(
+// Runs one phase, and writes its replies. A phase without lines takes nothing.
+fn run_one<
+    H: Hash32 + Sync,
+    K: Sink,
+    D: Disk + Send,
+    C: Clock + Send,
+    G: Gate + Sync,
+    N: TipName + Send + Sync,
+    R: Threads + Wait + Sync,
+>(
+    rt: &R,
     alloc: Global,
-    hash: &H,
-    clock: &mut C,
-    kept: &mut KeptLedger<D>,
-    index: &mut Index,
-    command: Command,
-) -> Result<Vec<u8>, CommitError>
-    requires kept { IsKept D.told (H.digest hash.now) kept.old }
-    requires within { IsIndexWithin index.old kept.old.held.transactions }
-    ensures answers { IfOk result (λ reply. Answers (H.digest hash.now) (C.constant clock.old) command kept.old.held kept.new.held reply.items) }
-    ensures again { IfOk result (λ reply. IsReadBack (H.digest hash.now) kept.new.held.transactions command reply.items) }
-    ensures kept { OnOk result (IsKept D.told (H.digest hash.now) kept.new) }
-    ensures times { OnOk result (AskedFor (drop (length kept.old.held.transactions) kept.new.held.transactions) (C.given clock.old) (C.given clock.new)) }
-    ensures within { OnOk result (IsIndexWithin index.new kept.new.held.transactions) }
-    ensures put { (w n : ℕ) (first : Option Told) → IsKeptPut D.told (H.digest hash.now) w n first kept.old → OnOk result (IsKeptPut D.told (H.digest hash.now) w n first kept.new) }
-    ensures moments { OnOk result (Leaves (StandsBetween (H.digest hash.now) kept.old.held.transactions kept.new.held.transactions) (D.told kept.old.journal.disk) (D.told kept.new.journal.disk)) }
-    ensures left { MayPlace D.told (H.digest hash.now) (C.constant clock.old) command kept.old kept.new.journal (C.given clock.old) (C.given clock.new) result }
-    ensures grows { Grows (D.told kept.old.journal.disk) (D.told kept.new.journal.disk) }
-    ensures cause { HasCommitCause (D.faults kept.old.journal.disk) (D.faults kept.new.journal.disk) result }
-    ensures why { IsErrOf result DiskFault → ReachesDisk kept.old.held.transactions command }
-    ensures same { C.constant clock.new ≡ C.constant clock.old }
+    gate: &G,
+    sink: &mut K,
+    store: &Store<'_, H, D, C, Free, N>,
+    main: &mut Pass,
+    names: &[Octets],
+    run: &mut [u64; 8],
+    phase: Phase,
+    links: bool,
+) -> Result<(), Stopped>
+    requires pass { IsWholePass N.table main.old }
+    requires named { AreNamed names.now phase }
+    requires apart { AllPairs (λ a b. a ≢ b) names.now }
+    requires few { length names.now ≤ 8 }
+    ensures pass { IsWholePass N.table main.new }
+    ensures ran { RunsPhase N.digest links main.old main.new phase (K.written sink.old) (K.written sink.new) (K.faults sink.old) (K.faults sink.new) result }
 {
-    match command {
-        Command::Set { pres, drafts } => {
-            answer_set(alloc, hash, clock, kept, pres, drafts.into_vec())
-        }
-        Command::Link { count } => Ok(answer_link(alloc, hash, kept, count)?),
-        command => Ok(show(alloc, hash, kept.ledger(), index, command)?),
+    if phase.as_slice().is_empty() {
+        return Ok(());
+    }
+    match play(rt, alloc, gate, store, main, names, run, phase, links) {
+        Ok(played) => tell(sink, played),
+        Err(_) => Err(Stopped::Line(LineError::Memory)),
     }
 }
 
-// Answers a line, and writes its reply behind the others. After an error nothing was written for it.
-fn turn<D: Disk, H: Hash32, C: Clock>(
+// Runs the phases in order, up to one that isn't told to its end.
+fn run_phases<
+    H: Hash32 + Sync,
+    K: Sink,
+    D: Disk + Send,
+    C: Clock + Send,
+    G: Gate + Sync,
+    N: TipName + Send + Sync,
+    R: Threads + Wait + Sync,
+>(
+    rt: &R,
     alloc: Global,
-    hash: &H,
-    clock: &mut C,
-    kept: &mut KeptLedger<D>,
-    index: &mut Index,
-    out: &mut Vec<u8>,
-    line: Line,
-) -> Result<(), CommitError>
-    requires kept { IsKept D.told (H.digest hash.now) kept.old }
-    requires within { IsIndexWithin index.old kept.old.held.transactions }
-    ensures turn { OnOk result (Turn (H.digest hash.now) (C.constant clock.old) line kept.old.held kept.new.held out.old.items out.new.items) }
-    ensures kept { OnOk result (IsKept D.told (H.digest hash.now) kept.new) }
-    ensures times { OnOk result (AskedFor (drop (length kept.old.held.transactions) kept.new.held.transactions) (C.given clock.old) (C.given clock.new)) }
-    ensures within { OnOk result (IsIndexWithin index.new kept.new.held.transactions) }
-    ensures put { (w n : ℕ) (first : Option Told) → IsKeptPut D.told (H.digest hash.now) w n first kept.old → OnOk result (IsKeptPut D.told (H.digest hash.now) w n first kept.new) }
-    ensures moments { OnOk result (Leaves (StandsBetween (H.digest hash.now) kept.old.held.transactions kept.new.held.transactions) (D.told kept.old.journal.disk) (D.told kept.new.journal.disk)) }
-    ensures nothing { OnErr result (out.new.items ≡ out.old.items) }
-    ensures left { MayPlace D.told (H.digest hash.now) (C.constant clock.old) line.command kept.old kept.new.journal (C.given clock.old) (C.given clock.new) result }
-    ensures grows { Grows (D.told kept.old.journal.disk) (D.told kept.new.journal.disk) }
-    ensures cause { HasCommitCause (D.faults kept.old.journal.disk) (D.faults kept.new.journal.disk) result }
-    ensures why { IsErrOf result DiskFault → ReachesDisk kept.old.held.transactions line.command }
-    ensures same { C.constant clock.new ≡ C.constant clock.old }
+    gate: &G,
+    sink: &mut K,
+    store: &Store<'_, H, D, C, Free, N>,
+    main: &mut Pass,
+    script: Script,
+    links: bool,
+) -> Result<(), Stopped>
+    requires pass { IsWholePass N.table main.old }
+    requires named { script.names.items ≡ names_of [] (lines_of script.phases.items) }
+    requires few { length script.names.items ≤ 8 }
+    ensures pass { IsWholePass N.table main.new }
+    ensures ran { RunsPhases N.digest links main.old main.new script.phases.items (K.written sink.old) (K.written sink.new) (K.faults sink.old) (K.faults sink.new) result }
 {
-    let Line { session, command } = line;
-    let reply = answer(alloc, hash, clock, kept, index, command)?;
-    let count = kept.ledger().count();
-    let text = reply_text(alloc, session.as_slice(), count, reply.as_slice())?;
-    out.extend_from_slice(text.as_slice())?;
+    let Script { names, phases } = script;
+    let mut run = [0u64; 8];
+    for phase in phases {
+        run_one(
+            rt, alloc, gate, sink, store, main, &names, &mut run, phase, links,
+        )?;
+    }
     Ok(())
 }
 
-/// What a session left: the disk, what was written for the lines that were answered, and why it ended before
-/// the last line, if it did.
-#[derive(Drop)]
-pub struct Served<D: Disk> {
-    /// The disk.
-    pub disk: D,
-    /// The replies, one for each line that was answered, in order.
-    pub out: Vec<u8>,
-    /// `Ok` where all lines were answered; else why the next one wasn't.
-    pub end: Result<(), CommitError>,
-}
-
-/// Answers the lines of a script in order by one session, from the history that a disk keeps on. Each
-/// transaction is durable before its line gets its reply, and each reply that is a message is read as the one
-/// that was asked for. On the disk each transaction stands in a batch of its own, its values put over the value
-/// logs by turns: for it the disk gets the writes of that batch, a sync, the octet at its gate, and a sync. The
-/// first line that isn't answered ends the session: the disk then holds the history with what that line was to
-/// place, or without it, and got a front part of its calls at most, and the one that failed, if one did. No other
-/// call changes the disk. It fails only at a `set` or `del` that reaches it; memory may run out at any line.
+/// Runs a script over an opened store, and closes it. In a phase each session answers its lines in order on a thread of its own; a linker runs
+/// beside them where `links` says so, and an indexer; and the gate is called before and after each line. Once a phase is joined its replies are written
+/// in the script's order. Each transaction that is told is durable by then. A line that meets a fault of the disk, or for which memory runs out, gets no
+/// reply and ends its session; the other sessions of the phase go on, the replies before the first such line are written, and no further phase is run.
 ///
-/// The index of keys is brought to the last transaction by each line that looks for one, and holds a copy of each
-/// key and value of the entries that aren't hidden; the book's own by each `set` or `del` with preconditions, and holds
-/// a copy of each key. A `set` or `del` costs what `judge` and `commit` of the ledger say, a `link` the hashes of the
-/// leaves that it adds, a read what the index says, and a proof at most four digests read or hashed, for each path and
-/// each list, for each binary digit of the size of its target's tree. The replies stand in memory until the end.
-pub fn serve<D: Disk, H: Hash32, C: Clock>(
+/// `passes` is empty, and has room for one. Of its own the call takes, for each phase, a list of its lines by session and a number for each line, before
+/// any of them is run; the lines' texts are taken by their sessions.
+pub fn serve<
+    H: Hash32 + Sync,
+    K: Sink,
+    D: Disk + Send,
+    C: Clock + Send,
+    G: Gate + Sync,
+    N: TipName + Send + Sync,
+    R: Threads + Wait + Sync,
+>(
+    rt: &R,
     alloc: Global,
-    hash: &H,
-    clock: &mut C,
-    mut kept: KeptLedger<D>,
-    lines: Vec<Line>,
-) -> Served<D>
-    requires kept { IsKept D.told (H.digest hash.now) kept }
-    requires filled { length kept.held.tree ≡ length kept.held.transactions }
-    ensures some { Serves (H.digest hash.now) (C.constant clock.old) kept.logs kept.held.transactions lines.items (D.told kept.journal.disk) (D.told result.disk) (C.given clock.old) (C.given clock.new) result.out.items result.end }
-    ensures all { OnOk result.end (ServesAll (H.digest hash.now) (C.constant clock.old) kept.logs kept.held.transactions lines.items (D.told kept.journal.disk) (D.told result.disk) (C.given clock.old) (C.given clock.new) result.out.items) }
-    ensures front { (why : Why) → result.end ≡ Err why → ServesFront (H.digest hash.now) (C.constant clock.old) kept.logs kept.held.transactions lines.items (D.told kept.journal.disk) (D.told result.disk) (C.given clock.old) (C.given clock.new) result.out.items why }
-    ensures grows { Grows (D.told kept.journal.disk) (D.told result.disk) }
-    ensures cause { HasCommitCause (D.faults kept.journal.disk) (D.faults result.disk) result.end }
-    ensures same { C.constant clock.new ≡ C.constant clock.old }
+    gate: &G,
+    sink: &mut K,
+    opened: Opened<'_, H, D, C, Free>,
+    mut passes: Vec<Pass>,
+    script: Script,
+    links: bool,
+) -> Served<D, C>
+    requires tip { (opened.table ≡ N.table) × (opened.found ≡ N.found) × (opened.logs ≡ N.logs) }
+    requires hash { H.digest opened.hash ≡ N.digest }
+    requires disk { (D.told opened.disk ≡ N.synced) × (D.faults opened.disk ≡ N.faults) }
+    requires clock { (C.constant opened.clock ≡ N.time) × (C.given opened.clock ≡ N.given) }
+    requires marked { All (λ item. item.found ≡ true) opened.found }
+    requires passes { (passes.items ≡ []) × (1 ≤ vec_capacity passes) }
+    requires named { script.names.items ≡ names_of [] (lines_of script.phases.items) }
+    requires few { length script.names.items ≤ 8 }
+    ensures served { Serves D.told D.faults links (naming_of H.digest D.told D.faults C.constant C.given opened.entry) script.phases.items (K.written sink.old) (K.written sink.new) (K.faults sink.old) (K.faults sink.new) result.disk (C.constant result.clock) (C.given result.clock) result.end }
 {
-    let mut index = Index::new(alloc);
-    let mut out = Vec::new(alloc);
-    for line in lines {
-        if let Err(error) = turn(alloc, hash, clock, &mut kept, &mut index, &mut out, line) {
-            return Served {
-                disk: kept.into_disk(),
-                out,
-                end: Err(error),
-            };
-        }
-    }
-    Served {
-        disk: kept.into_disk(),
-        out,
-        end: Ok(()),
-    }
+    let (store, mut main) = opened.named::<N>();
+    let end = run_phases(rt, alloc, gate, sink, &store, &mut main, script, links);
+    passes.push_reserved(main);
+    let (disk, clock) = store.close(passes);
+    Served { disk, clock, end }
 }

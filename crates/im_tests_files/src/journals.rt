@@ -1,82 +1,32 @@
-//! The journal and the ledger: a commit that succeeds, one whose disk fails, and values read back.
-
-ghost use Rattle.std.specs.Prelude.{List, IfOk};
-ghost use Rattle.im_draft.specs.declared.preconditions.Pre.{Pre as ThePre};
-ghost use Rattle.im_tx.specs.Asked.{IsAsked};
-ghost use Rattle.im_ledger.specs.Histories.{IsKept};
+//! The journal of a disk that was opened: what was read, and values read back.
 
 use crate::samples::Shown::{self, Corrupt, Fault};
 use crate::samples::{BATCH, RECORD, disk_of, placed, shows, sum_is};
 use im_digest::{Hash32, Sum};
 use im_disk::disk::{Disk, DiskError};
 use im_disk::memory::MemDisk;
-use im_draft::drafts::{Attrs, Draft};
-use im_draft::preconditions::Pres;
 use im_journal::batches::Step;
 use im_journal::ends::Ends;
 use im_journal::errors::JournalError;
 use im_journal::journal::Journal;
-use im_ledger::errors::CommitError;
-use im_ledger::kept::KeptLedger;
-use im_ledger::laws::images_stand;
-use im_ledger::opening::open_ledger;
-use im_model::entries::Entries;
-use im_model::transactions::Transaction;
-use im_octet::octets::Octets;
-use im_tx::prepare::prepare;
+use im_opening::found::FoundHistory;
+use im_opening::opening::{Recovered, open};
 use std::alloc::Global;
 use std::test::Fail;
 
-// A disk as a ledger over one value log.
-fn opened<D: Disk, H: Hash32>(alloc: Global, hash: &H, disk: D) -> Result<KeptLedger<D>, Fail>
-    ensures { IfOk result (IsKept D.told (H.digest hash.now)) }
-{
-    match open_ledger(alloc, hash, disk, 1) {
-        Ok(kept) => Ok(kept),
+// A disk's journal, and what was found on it.
+fn opened<D: Disk, H: Hash32>(
+    alloc: Global,
+    hash: &H,
+    disk: D,
+) -> Result<(Journal<D>, FoundHistory), Fail> {
+    match open(alloc, hash, disk) {
+        Ok(Recovered { journal, found }) => Ok((journal, found)),
         Err(failed) => {
             drop(failed);
             Err(Fail::from("the disk wasn't opened"))
         }
     }
-}
-
-// The entries of `set k=abc`.
-fn entries(alloc: Global) -> Result<Entries, Fail>
-    ensures { IfOk result (λ entries. (pres : List ThePre) × IsAsked (record { entries = entries; pres = pres })) }
-{
-    let attrs = Attrs {
-        deleted: false,
-        non_indexable: false,
-    };
-    let key = Octets::from_slice(alloc, b"k")?;
-    let value = Octets::from_slice(alloc, b"abc")?;
-    let drafts = vec![in alloc; Draft { attrs, key, value }]?;
-    let (entries, pres) = prepare(alloc, drafts, Pres::from_vec(Vec::new(alloc)))?.into_parts();
-    drop(pres);
-    Ok(entries)
-}
-
-// Places `set k=abc` at second 0 over an empty disk with a closed gate, and links it where it is placed.
-fn place<D: Disk, H: Hash32>(
-    alloc: Global,
-    hash: &H,
-    disk: D,
-) -> Result<(KeptLedger<D>, Result<(), CommitError>), Fail> {
-    let mut kept = opened(alloc, hash, disk)?;
-    let tx = Transaction {
-        ts: 0,
-        entries: entries(alloc)?,
-        bl: kept.linked(),
-    };
-    if kept.ledger().count() > 0 {
-        return Err(Fail::from("the disk wasn't empty"));
-    }
-    let answer = kept.commit(alloc, hash, tx);
-    if answer == Ok(()) {
-        images_stand(&kept);
-        kept.link(hash, 1)?;
-    }
-    Ok((kept, answer))
 }
 
 // What the journal says of one durable transaction, and reads of it.
@@ -97,46 +47,14 @@ fn holds_one(alloc: Global, journal: &mut Journal<MemDisk>) -> bool {
         && journal.failures() == 0
 }
 
-fn holds_its_octets(disk: &MemDisk) -> bool {
-    disk.file(0) == RECORD.as_slice()
-        && disk.file(1) == BATCH.as_slice()
-        && disk.file(2) == b"abc".as_slice()
-        && disk.time() == 7
-}
-
-// A sync at opening, three writes, a sync, the gate and a sync.
 #[test]
-fn a_transaction_is_placed(rt: HostRuntime) -> Result<(), Fail> {
-    let alloc = rt.alloc();
-    let disk = disk_of(alloc, &[], &[0], &[], Vec::new(alloc))?;
-    let (kept, answer) = place(alloc, &Sum, disk)?;
-    assert!(rt; answer == Ok(()));
-    let (mut journal, ledger) = kept.into_parts();
-    assert!(rt;
-        ledger.count() == 1
-            && ledger.tree().size() == 1
-            && ledger.tree().root_at(&Sum, 1) == sum_is(0x95)
-    );
-    drop(ledger);
-    assert!(rt; holds_one(alloc, &mut journal));
-    let disk = journal.into_disk();
-    assert!(rt; holds_its_octets(&disk));
-    drop(disk);
-    Ok(())
-}
-
-#[test]
-fn a_ledger_that_was_read_has_its_whole_tree(rt: HostRuntime) -> Result<(), Fail> {
+fn a_disk_that_was_read_has_its_transaction(rt: HostRuntime) -> Result<(), Fail> {
     let alloc = rt.alloc();
     let disk = disk_of(alloc, &RECORD, &BATCH, b"abc", Vec::new(alloc))?;
-    let (mut journal, ledger) = opened(alloc, &Sum, disk)?.into_parts();
-    assert!(rt;
-        ledger.count() == 1
-            && ledger.tree().size() == 1
-            && ledger.tree().root_at(&Sum, 1) == sum_is(0x95)
-    );
-    assert!(rt; ledger.transactions().len() == 1 && ledger.headers().len() == 1);
-    drop(ledger);
+    let (mut journal, found) = opened(alloc, &Sum, disk)?;
+    assert!(rt; found.records.len() == 1 && found.headers.len() == 1);
+    assert!(rt; found.alhs.as_slice() == [sum_is(0x95)].as_slice() && found.tree.size() == 0);
+    drop(found);
     assert!(rt; holds_one(alloc, &mut journal));
     drop(journal);
     Ok(())
@@ -156,32 +74,6 @@ fn is_stopped<D: Disk>(alloc: Global, journal: &mut Journal<D>, faults: u64) -> 
         && journal.failures() == faults
 }
 
-// The changing call that fails, and what stands at the gate behind it: the write of the gate, or the sync that
-// makes it durable.
-const GATES: [(u64, u8); 2] = [(6, 0), (7, 1)];
-
-#[test]
-fn a_gate_that_fails_is_a_fault(rt: HostRuntime) -> Result<(), Fail> {
-    let alloc = rt.alloc();
-    for (call, gate) in GATES {
-        let disk = disk_of(alloc, &[], &[0], &[], vec![in alloc; call]?)?;
-        let (kept, answer) = place(alloc, &Sum, disk)?;
-        assert!(rt; answer == Err(CommitError::DiskFault), "call {call}");
-        let (mut journal, ledger) = kept.into_parts();
-        assert!(rt; ledger.count() == 0, "call {call}");
-        drop(ledger);
-        assert!(rt; is_stopped(alloc, &mut journal, 1), "call {call}");
-        let disk = journal.into_disk();
-        assert!(rt;
-            disk.time() == call && disk.file(1).first() == Some(&gate),
-            "call {call}"
-        );
-        assert!(rt; disk.file(0) == RECORD.as_slice(), "call {call}");
-        drop(disk);
-    }
-    Ok(())
-}
-
 // The octets of value log 0, and what references to its front show. abc adds up to 26 modulo 256 (hex), and abd
 // to 27. There is no fifth log.
 const SHOWN: &[(&[u8], u8, u32, u8, Shown)] = &[
@@ -196,8 +88,8 @@ fn a_value_is_read_from_the_journal(rt: HostRuntime) -> Result<(), Fail> {
     let alloc = rt.alloc();
     for (values, total, len, log, want) in SHOWN {
         let disk = disk_of(alloc, &[], &[0], values, Vec::new(alloc))?;
-        let (mut journal, ledger) = opened(alloc, &Sum, disk)?.into_parts();
-        drop(ledger);
+        let (mut journal, found) = opened(alloc, &Sum, disk)?;
+        drop(found);
         let read = journal.read_value(alloc, &Sum, &placed(*total, *len, *log, 0));
         assert!(rt; shows(read, *total, *want), "{total} in log {log}");
         assert!(rt; journal.failures() == 0);
@@ -244,8 +136,8 @@ impl Disk for Unread {
 #[test]
 fn after_a_read_that_failed_nothing_is_written(rt: HostRuntime) -> Result<(), Fail> {
     let alloc = rt.alloc();
-    let (mut journal, ledger) = opened(alloc, &Sum, Unread { failures: 0 })?.into_parts();
-    drop(ledger);
+    let (mut journal, found) = opened(alloc, &Sum, Unread { failures: 0 })?;
+    drop(found);
     for _ in 0..2 {
         let read = journal.read_value(alloc, &Sum, &placed(0x26, 3, 0, 0));
         assert!(rt; shows(read, 0x26, Fault));

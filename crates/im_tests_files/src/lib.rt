@@ -1,5 +1,5 @@
 //! Tests of the crates of a store's files, of what no run of the program shows: references, marks of batches,
-//! octets at their place, values, records, the journal, the ledger, and what opening tells.
+//! octets at their place, values, records, the journal, and what opening tells.
 #![tactic(auto)]
 
 #[cfg(test)]

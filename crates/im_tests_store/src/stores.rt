@@ -216,3 +216,75 @@ fn behind_a_call_of_the_disk_that_failed_nothing_is_written(rt: HostRuntime) -> 
     assert!(rt; run_halts(&rt, rt.alloc())?);
     Ok(())
 }
+
+// The files of `set k=abc` at second 0: the record's length and its Alh, the batch and its gate, and the value.
+fn holds_its_octets(disk: &MemDisk, gate: u8) -> bool {
+    disk.file(0).len() == 110
+        && disk.file(0).last() == Some(&0x95)
+        && disk.file(1).len() == 26
+        && disk.file(1).first() == Some(&gate)
+        && disk.file(2) == b"abc".as_slice()
+}
+
+// A commit of `set k=abc` over an empty disk, by how it was answered: whether the disk holds it, so many calls behind its opening's three.
+fn leaves<N: TipName, R: Wait>(
+    rt: &R,
+    alloc: Global,
+    opened: Open<'_>,
+    set: Prepared,
+    fails: bool,
+    calls: u64,
+    gate: u8,
+) -> Result<bool, Fail>
+    requires tip { (opened.table ≡ N.table) × (opened.found ≡ N.found) × (opened.logs ≡ N.logs) }
+    requires hash { sum_digest ≡ N.digest }
+    requires disk { (Some (told_by opened.disk) ≡ N.synced) × (opened.disk.faults ≡ N.faults) }
+    requires clock { (Some opened.clock.time ≡ N.time) × (None ≡ N.given) }
+{
+    let (store, mut pass) = opened.named::<N>();
+    let is_told = match store.commit(rt, alloc, &mut pass, set) {
+        Ok(receipt) => receipt.id == 1 && !fails,
+        Err(CommitError::DiskFault { placed }) => placed == Some(1) && fails,
+        Err(_) => false,
+    };
+    let (disk, _) = store.close(vec![in alloc; pass]?);
+    let holds = holds_its_octets(&disk, gate) && disk.time() == 3 + calls;
+    drop(disk);
+    Ok(is_told && holds)
+}
+
+// The call that fails, or none (0); how many are made behind the opening's; and what stands at the gate then: a transaction whose gate isn't written,
+// one whose gate isn't made durable, and one that is.
+const GATES: [(u64, u64, u8); 3] = [(8, 5, 0), (9, 6, 1), (0, 6, 1)];
+
+fn run_leaves<R: Wait>(
+    rt: &R,
+    alloc: Global,
+    fails: u64,
+    calls: u64,
+    gate: u8,
+) -> Result<bool, Fail> {
+    let set = setting(alloc, b"k", b"abc", Vec::new(alloc))?;
+    leaves::<Brand, R>(
+        rt,
+        alloc,
+        opened(alloc, &Sum, &[fails])?,
+        set,
+        fails > 0,
+        calls,
+        gate,
+    )
+}
+
+#[test]
+fn a_commit_leaves_its_octets_and_a_gate_that_fails_is_a_fault(
+    rt: HostRuntime,
+) -> Result<(), Fail> {
+    for (fails, calls, gate) in GATES {
+        assert!(rt;
+            run_leaves(&rt, rt.alloc(), fails, calls, gate)?,
+            "call {fails}"
+        );
+    }
+    Ok(())
+}

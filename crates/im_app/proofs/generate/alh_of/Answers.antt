@@ -1,12 +1,12 @@
-use Rattle.std.proofs.Common.{◌∙◌, arith}
+use Rattle.std.proofs.Common.{◌∙◌, ap, sym}
+use Rattle.std.specs.Prelude.{option_copied}
 use Rattle.im_app.proofs.GeneratedLemmas.{last-none, last-some}
 use Rattle.im_app.proofs.generate.alh_of.Goals as goal
 
-pub returns-then-count-eq0 : goal.returns-then-count-eq0
-returns-then-count-eq0 g c =
-    c.hash.ensures ∙ last-none (g.H.Hash32.digest c.args.hash.now) c.args.ledger.now.transactions (omega (arith, c.count-count.ensures))
+pub returns-in-Some : goal.returns-in-Some
+returns-in-Some g c = λ history are.
+    last-some (g.H.Hash32.digest c.args.hash.now) history c.args.alhs.now c.in-Some.alh.now are (sym c.last.ensures.value ∙ ap option_copied c.in-Some.is)
 
-pub returns : goal.returns
-returns g c =
-    c.alh.ensures (g.H.Hash32.digest c.args.hash.now) c.requires
-    ∙ last-some (g.H.Hash32.digest c.args.hash.now) c.args.ledger.now.transactions c.count-count.result c.count-count.ensures (omega arith)
+pub returns-in-None : goal.returns-in-None
+returns-in-None g c = λ history are.
+    c.hash.ensures ∙ last-none (g.H.Hash32.digest c.args.hash.now) history c.args.alhs.now are (sym c.last.ensures.value ∙ ap option_copied c.in-None.is)

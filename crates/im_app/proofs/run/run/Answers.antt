@@ -1,4 +1,4 @@
-use Rattle.std.proofs.Common.{◌≡◌, ℕ, List, ap, Option, Some, Err, inl, inr, refl}
+use Rattle.std.proofs.Common.{◌≡◌, ℕ, List, ap, Option, Some, Err, inl, inr, refl, subst}
 use Rattle.im_digest.specs.Digests.{Hash}
 use Rattle.im_disk.specs.Disk.{Told, after, seen}
 use Rattle.im_disk.proofs.Growing.{grows_none}
@@ -9,23 +9,24 @@ use Rattle.im_format.specs.Standing.{Stands}
 use Rattle.im_model.specs.declared.transactions.Transaction.{Transaction}
 use Rattle.im_mtree.specs.Checks.{first_fail}
 use Rattle.im_script.specs.declared.commands.Line.{Line}
+use Rattle.im_script.proofs.Unique.{script-unique}
 use Rattle.im_app.specs.Fates.{HasRunFate}
+use Rattle.im_app.specs.Runs.{HasOneSession, IsGiven}
 use Rattle.im_app.specs.Statuses.{EndsWriting}
 use Rattle.im_app.specs.declared.status.Status.{Status}
 use Rattle.im_app.specs.declared.status.Status.TheVariants as the
 use Rattle.im_app.proofs.FateLemmas.{Ends, ends-other, fate, unread-told, writing-run}
-use Rattle.im_app.proofs.ReportLemmas.{read-told}
-use Rattle.im_app.proofs.RunLemmas.{front-told, given-not, reading-for, same-found}
+use Rattle.im_app.proofs.RunLemmas.{alone-same, front-told, given-not, reading-for, read-told, same-found}
 use Rattle.im_app.proofs.run.run.Goals as goal
 
 pub returns-in-Ok-clause-front : goal.returns-in-Ok-clause-front
 returns-in-Ok-clause-front g c = λ why e.
     let given = c.in-Ok.ensures.given in
-    elim (c.run_lines.ensures.front given.0 why given.2 e) [
+    elim (c.run_script.ensures.front given.0 why given.2 e) [
       | inl none ↦ inl none
-      | inr front ↦ inr (front-told (g.H.Hash32.digest c.args.hash.now) (g.C.Clock.constant c.args.clock.now) c.args.logs why (g.S.Source.left c.args.source.now) given.0
-          (g.D.Disk.told c.args.disk) (g.D.Disk.told c.run_lines.result.disk) (g.C.Clock.given c.args.clock.now) (g.C.Clock.given c.run_lines.new.clock) (g.K.Sink.written c.args.sink.now) (g.K.Sink.written c.run_lines.new.sink)
-          (g.K.Sink.faults c.args.sink.now) (g.K.Sink.faults c.run_lines.new.sink) given.1 front)
+      | inr front ↦ inr (front-told (g.H.Hash32.digest c.args.hash.now) (g.C.Clock.constant c.args.clock) c.args.logs c.args.link why (g.S.Source.left c.args.source.now) given.0
+          (g.D.Disk.told c.args.disk) (g.D.Disk.told c.run_script.result.disk) (g.C.Clock.given c.args.clock) (g.C.Clock.given c.run_script.result.clock) (g.K.Sink.written c.args.sink.now) (g.K.Sink.written c.run_script.new.sink)
+          (g.K.Sink.faults c.args.sink.now) (g.K.Sink.faults c.run_script.new.sink) given.1 front)
     ]
 
 pub returns-in-Err-clause-front : goal.returns-in-Err-clause-front
@@ -35,22 +36,22 @@ returns-in-Err-clause-front g c = λ why e.
 pub returns-in-Ok-clause-untouched : goal.returns-in-Ok-clause-untouched
 returns-in-Ok-clause-untouched g c =
     let given = c.in-Ok.ensures.given in
-    given-not (g.S.Source.left c.args.source.now) given.0 c.in-Ok.lines.items
-    ((c.run_lines.new.sink ≡ c.args.sink.now) × ((c.run_lines.new.clock ≡ c.args.clock.now) × (c.run_lines.result.disk ≡ c.args.disk)))
+    given-not (g.S.Source.left c.args.source.now) given.0 c.in-Ok.script.phases.items
+    ((c.run_script.new.sink ≡ c.args.sink.now) × ((c.run_script.result.clock ≡ c.args.clock) × (c.run_script.result.disk ≡ c.args.disk)))
     given.1 given.2
 
 pub returns-in-Ok-clause-fate : goal.returns-in-Ok-clause-fate
 returns-in-Ok-clause-fate g c = λ no_read no_write no_device.
     let hash : Hash = g.H.Hash32.digest c.args.hash.now in
     let disk : Option Told = g.D.Disk.told c.args.disk in
-    let status : Status = c.run_lines.result.status in
+    let status : Status = c.run_script.result.status in
     let given = c.in-Ok.ensures.given in
     let script : List ℕ = given.0 in
-    let lines : List Line = c.in-Ok.lines.items in
-    let ran = c.run_lines.ensures in
+    let phases : List (List Line) = c.in-Ok.script.phases.items in
+    let ran = c.run_script.ensures in
     let ends : Ends hash disk status script = record {
-      given = λ e. (lines, given.2);
-      opened = λ d e. (lines, given.2);
+      given = λ e. (phases, given.2);
+      opened = λ d e. (phases, given.2);
       ends = writing-run status ran.ends;
       no_usage = λ e. ends-other EndsWriting status the.Usage ran.ends e (λ x. x);
       no_read = λ e. ends-other EndsWriting status the.ReadFault ran.ends e (λ x. x);
@@ -58,13 +59,25 @@ returns-in-Ok-clause-fate g c = λ no_read no_write no_device.
       no_device = λ e. no_device (ran.device e);
       bad = λ k e. absurd (ends-other EndsWriting status (the.Script k) ran.ends e (λ x. x));
       long = λ e. absurd (ends-other EndsWriting status the.Long ran.ends e (λ x. x));
-      damaged = λ d e. if_told (λ t. (first_fail (image_checks hash (seen t)) ≡ Err d) × (g.D.Disk.told c.run_lines.result.disk ≡ Some (after Synced t)))
+      damaged = λ d e. if_told (λ t. (first_fail (image_checks hash (seen t)) ≡ Err d) × (g.D.Disk.told c.run_script.result.disk ≡ Some (after Synced t)))
           (λ t. first_fail (image_checks hash (seen t)) ≡ Err d) (λ t p. p.0) disk (ran.damaged d e);
       whole = λ e. let w = ran.report script given.2 e in
-          if_told (λ t. Stands hash (seen t) w.report.report.found) (λ t. (found : List Transaction) × Stands hash (seen t) found) (λ t s. (w.report.report.found, s)) disk w.report.report.found_is;
+          if_told (λ t. Stands hash (seen t) w.report.found) (λ t. (found : List Transaction) × Stands hash (seen t) found) (λ t s. (w.report.found, s)) disk w.report.found_is;
       sound = ran.sound;
     } in
     read-told (g.S.Source.left c.args.source.now) script (HasRunFate hash disk status) given.1 (fate hash disk status script ends)
+
+-- the lines that are told of are those that were read
+pub returns-in-Ok-clause-disk_alone : goal.returns-in-Ok-clause-disk_alone
+returns-in-Ok-clause-disk_alone g c = λ want.
+    let given = c.in-Ok.ensures.given in
+    read-told (g.S.Source.left c.args.source.now) given.0
+    (λ script. (phases : List (List Line)) → IsGiven script phases → HasOneSession phases → g.D.Disk.faults c.run_script.result.disk ≡ g.D.Disk.faults c.args.disk) given.1
+    (λ phases told one. c.run_script.ensures.disk_alone want
+    (subst HasOneSession (script-unique given.0 phases c.in-Ok.script.phases.items told.read given.2.read) one))
+
+pub returns-in-Err-clause-disk_alone : goal.returns-in-Err-clause-disk_alone
+returns-in-Err-clause-disk_alone g c = λ want. alone-same (g.S.Source.left c.args.source.now) (g.D.Disk.faults c.args.disk)
 
 pub returns-in-Err-clause-fate : goal.returns-in-Err-clause-fate
 returns-in-Err-clause-fate g c = λ no_read no_write no_device.

@@ -3,12 +3,12 @@ use Rattle.std.specs.String.{string_bytes}
 use Rattle.im_disk.proofs.Growing.{grows_none}
 use Rattle.im_words.proofs.FormLemmas.{form_asks_so, show_asks, verify_asks}
 use Rattle.im_words.proofs.GenLemmas.{gen_asks_so}
-use Rattle.im_app.proofs.RunLemmas.{same-found, takes-none, usage-found}
+use Rattle.im_app.proofs.RunLemmas.{alone-same, same-found, takes-none, usage-found}
 use Rattle.im_app.proofs.top.top.Goals as goal
 
 pub returns-in-Ok-Run-clause-form : goal.returns-in-Ok-Run-clause-form
 returns-in-Ok-Run-clause-form g c = λ logs link form.
-    (c.run-status.ensures.never, form_asks_so (map string_bytes c.args.words.now) logs link form)
+    (c.run.ensures.never, form_asks_so (map string_bytes c.args.words.now) logs link form)
 
 pub returns-in-Ok-Verify-clause-form : goal.returns-in-Ok-Verify-clause-form
 returns-in-Ok-Verify-clause-form g c = λ logs link form.
@@ -50,7 +50,7 @@ returns-in-Ok-Gen-clause-gen_form g c = λ n form.
 
 pub returns-in-Ok-Run-clause-gen_form : goal.returns-in-Ok-Run-clause-gen_form
 returns-in-Ok-Run-clause-gen_form g c = λ n form.
-    (c.run-status.ensures.never, gen_asks_so (map string_bytes c.args.words.now) n form)
+    (c.run.ensures.never, gen_asks_so (map string_bytes c.args.words.now) n form)
 
 pub returns-in-Ok-Verify-clause-gen_form : goal.returns-in-Ok-Verify-clause-gen_form
 returns-in-Ok-Verify-clause-gen_form g c = λ n form.
@@ -108,3 +108,15 @@ returns-in-Err-Usage-clause-front g c = λ why asks e.
 pub returns-in-Err-Memory-clause-front : goal.returns-in-Err-Memory-clause-front
 returns-in-Err-Memory-clause-front g c = λ why asks e.
     inl (refl, (refl, same-found (g.H.Hash32.digest c.args.hash.now) why (g.D.Disk.told c.args.disk) (sym e)))
+
+pub returns-in-Ok-Verify-clause-disk_alone : goal.returns-in-Ok-Verify-clause-disk_alone
+returns-in-Ok-Verify-clause-disk_alone g c = λ asks want. alone-same (g.S.Source.left c.args.source.now) (g.D.Disk.faults c.args.disk)
+
+pub returns-in-Ok-Show-clause-disk_alone : goal.returns-in-Ok-Show-clause-disk_alone
+returns-in-Ok-Show-clause-disk_alone g c = λ asks want. alone-same (g.S.Source.left c.args.source.now) (g.D.Disk.faults c.args.disk)
+
+pub returns-in-Ok-Gen-clause-disk_alone : goal.returns-in-Ok-Gen-clause-disk_alone
+returns-in-Ok-Gen-clause-disk_alone g c = λ asks want. alone-same (g.S.Source.left c.args.source.now) (g.D.Disk.faults c.args.disk)
+
+pub returns-in-Err-Memory-clause-disk_alone : goal.returns-in-Err-Memory-clause-disk_alone
+returns-in-Err-Memory-clause-disk_alone g c = λ asks want. alone-same (g.S.Source.left c.args.source.now) (g.D.Disk.faults c.args.disk)

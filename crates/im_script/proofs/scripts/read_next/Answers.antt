@@ -14,4 +14,4 @@ returns-then-not-may_follow c =
     λ x h.
     let is = Finds-some _ c.in_ok-line.field-0 c.in-Some.line c.in-Some.is c.in_ok-line.ensures in
     let same = line-unique c.args.text.now x c.in-Some.line h.0 is in
-    both_ways c.may_follow.result c.if-not-may_follow.true (c.may_follow.ensures.1 (subst (λ (l : Line). MayFollow c.args.before.now l) same h.1))
+    both_ways c.may_follow.result c.if-not-may_follow.true (c.may_follow.ensures.1 (subst (λ (l : Line). MayFollow c.args.names.now l) same h.1))

@@ -1,13 +1,14 @@
-use Rattle.std.proofs.Common.{◌+◌, ◌≤◌, ℕ, List, length, ◌++◌}
-use Rattle.im_script.specs.declared.commands.Line.{Line}
-use Rattle.im_script.specs.Script.{IsScript, StopsAfter}
-use Rattle.im_script.proofs.ScriptLemmas.{ScriptBehind, StopsBehind}
+use Rattle.std.proofs.Common.{◌+◌, ◌≤◌, ℕ, length}
+use Rattle.im_script.specs.Script.{StopsAfter}
+use Rattle.im_script.proofs.NameLemmas.{HasNames}
+use Rattle.im_script.proofs.ScriptLemmas.{IsReadSoFar, StopsBehind}
 use Rattle.im_script.proofs.scripts.read_script.Given as goal
 
 abbrev pub invariant-loop-rest : goal.invariant-loop-rest
 invariant-loop-rest l = record {
-  read : (tail : List Line) → ScriptBehind l.lines.items l.rest tail → IsScript l.octets (l.lines.items ++ tail);
-  stops : (n : ℕ) → StopsBehind l.lines.items l.rest n → StopsAfter l.octets (l.number + n);
+  read : IsReadSoFar l.octets l.so_far l.rest;
+  stops : (n : ℕ) → StopsBehind l.so_far.names l.rest n → StopsAfter l.octets (l.number + n);
+  names : HasNames l.so_far;
   few : l.number + length l.rest ≤ length l.octets;
 }
 

@@ -1,0 +1,193 @@
+use Rattle.std.proofs.Common.{◌≡◌, length, ap, inl, inr, refl, sym, ◌∙◌, subst, Option, Err, Some}
+use Rattle.im_digest.specs.Digests.{Hash}
+use Rattle.im_disk.specs.Disk.{Told, after, seen}
+use Rattle.im_disk.specs.declared.calls.Call.TheVariants.{Synced}
+use Rattle.im_disk.proofs.Growing.{grows_none}
+use Rattle.im_format.specs.Batches.{gate_of}
+use Rattle.im_format.specs.Damages.{image_checks}
+use Rattle.im_mtree.specs.Checks.{first_fail}
+use Rattle.im_opening.specs.Cut.{WasBegun}
+use Rattle.im_opening.specs.declared.errors.OpenError.{OpenError}
+use Rattle.im_session.specs.declared.errors.LineError.TheVariants as fails
+use Rattle.im_store.specs.Names.{naming_of}
+use Rattle.im_app.specs.Runs.{opening_error}
+use Rattle.im_app.specs.Statuses.{status_by}
+use Rattle.im_app.proofs.FoundLemmas.{opened-keeps}
+use Rattle.im_app.proofs.RunLemmas.{damage-by, if-told, opening-by, same-found}
+use Rattle.im_app.proofs.ServedLemmas.{ran-alone, ran-constant, ran-device, ran-disk, ran-ends, ran-front, ran-grows, ran-keeps, ran-once, ran-over, ran-part, ran-report, ran-sink, ran-undamaged, ran-unharmed, ran-write}
+use Rattle.im_app.proofs.run.run_script.Goals as goal
+
+-- no memory for the list of passes: nothing was done
+pub returns-clause-front : goal.returns-clause-front
+returns-clause-front g c = λ octets why given e.
+    inl (refl, (refl, same-found (g.H.Hash32.digest c.args.hash.now) why (g.D.Disk.told c.args.disk) (sym e)))
+
+pub returns-clause-grows : goal.returns-clause-grows
+returns-clause-grows g c = grows_none (g.D.Disk.told c.args.disk)
+
+-- the disk wasn't opened
+pub returns-in-Err-clause-front : goal.returns-in-Err-clause-front
+returns-in-Err-clause-front g c = λ octets why given e.
+    let now : Option Told = g.D.Disk.told c.in-Err.failed.disk in
+    let by : c.in-Err.failed.why ≡ opening_error why = opening-by c.in-Err.failed.why why (sym c.status_of.ensures ∙ e) in
+    inl (
+      refl,
+      (
+        c.in-Err.ensures.back,
+        λ t found told stands.
+            (let B : OpenError → Type 0 = λ error. WasBegun error (gate_of (length stands.batches)) t now in
+            (c.in-Err.ensures.failed.off t found told stands, subst B by (c.in-Err.ensures.failed.begun t found told stands))),
+      ),
+    )
+
+pub returns-in-Err-clause-damaged : goal.returns-in-Err-clause-damaged
+returns-in-Err-clause-damaged g c = λ damage e.
+    let hash : Hash = g.H.Hash32.digest c.args.hash.now in
+    let now : Option Told = g.D.Disk.told c.in-Err.failed.disk in
+    if-told (g.D.Disk.told c.args.disk) (λ t. (first_fail (image_checks hash (seen t)) ≡ Err damage) × (now ≡ Some (after Synced t)))
+    (λ t told. c.in-Err.ensures.failed.damaged t damage told (damage-by c.in-Err.failed.why damage (sym c.status_of.ensures ∙ e)))
+
+pub returns-in-Err-clause-sound : goal.returns-in-Err-clause-sound
+returns-in-Err-clause-sound g c = λ damage t found told stands e.
+    c.in-Err.ensures.failed.sound t found damage told stands (damage-by c.in-Err.failed.why damage (sym c.status_of.ensures ∙ e))
+
+pub returns-in-Err-clause-any_moment : goal.returns-in-Err-clause-any_moment
+returns-in-Err-clause-any_moment g c = λ t found told stands.
+    opened-keeps (g.H.Hash32.digest c.args.hash.now) found t (g.D.Disk.told c.in-Err.failed.disk) (c.in-Err.ensures.failed.off t found told stands)
+
+pub returns-in-Err-clause-unharmed : goal.returns-in-Err-clause-unharmed
+returns-in-Err-clause-unharmed g c = λ t told none. c.in-Err.ensures.failed.unharmed t told none
+
+pub returns-in-Err-clause-grows : goal.returns-in-Err-clause-grows
+returns-in-Err-clause-grows g c = c.in-Err.ensures.failed.grows
+
+pub returns-in-Err-clause-device : goal.returns-in-Err-clause-device
+returns-in-Err-clause-device g c = λ e. c.in-Err.ensures.failed.device (opening-by c.in-Err.failed.why fails.DiskFault (sym c.status_of.ensures ∙ e))
+
+pub returns-in-Err-clause-disk_count : goal.returns-in-Err-clause-disk_count
+returns-in-Err-clause-disk_count g c = λ other want. c.in-Err.ensures.failed.others (λ is. other (c.status_of.ensures ∙ ap status_by is))
+
+pub returns-in-Err-clause-disk_alone : goal.returns-in-Err-clause-disk_alone
+returns-in-Err-clause-disk_alone g c = λ want one.
+    let by : c.in-Err.failed.why ≡ opening_error fails.Memory = opening-by c.in-Err.failed.why fails.Memory (sym c.status_of.ensures ∙ want) in
+    c.in-Err.ensures.failed.others (λ is. cc (is, by))
+
+-- the store was opened and served
+pub returns-in-Ok-open-clause-ends : goal.returns-in-Ok-open-clause-ends
+returns-in-Ok-open-clause-ends g c =
+    let opened = c.in-Ok-open.ensures in
+    let ran = ran-over g.D.Disk.told g.D.Disk.faults c.args.link (naming_of g.H.Hash32.digest g.D.Disk.told g.D.Disk.faults g.C.Clock.constant g.C.Clock.given c.in-Ok-open.opened) c.is_auto.result
+    c.is_auto.ensures opened.opens (ap g.H.Hash32.digest opened.given.0, opened.given.1) (ap g.C.Clock.constant opened.clock, ap g.C.Clock.given opened.clock) c.serve_script.ensures.served in
+    ran-ends ran
+
+pub returns-in-Ok-open-clause-report : goal.returns-in-Ok-open-clause-report
+returns-in-Ok-open-clause-report g c =
+    let opened = c.in-Ok-open.ensures in
+    let ran = ran-over g.D.Disk.told g.D.Disk.faults c.args.link (naming_of g.H.Hash32.digest g.D.Disk.told g.D.Disk.faults g.C.Clock.constant g.C.Clock.given c.in-Ok-open.opened) c.is_auto.result
+    c.is_auto.ensures opened.opens (ap g.H.Hash32.digest opened.given.0, opened.given.1) (ap g.C.Clock.constant opened.clock, ap g.C.Clock.given opened.clock) c.serve_script.ensures.served in
+    λ octets given e. ran-report ran octets given e
+
+pub returns-in-Ok-open-clause-part : goal.returns-in-Ok-open-clause-part
+returns-in-Ok-open-clause-part g c =
+    let opened = c.in-Ok-open.ensures in
+    let ran = ran-over g.D.Disk.told g.D.Disk.faults c.args.link (naming_of g.H.Hash32.digest g.D.Disk.told g.D.Disk.faults g.C.Clock.constant g.C.Clock.given c.in-Ok-open.opened) c.is_auto.result
+    c.is_auto.ensures opened.opens (ap g.H.Hash32.digest opened.given.0, opened.given.1) (ap g.C.Clock.constant opened.clock, ap g.C.Clock.given opened.clock) c.serve_script.ensures.served in
+    λ octets given e. ran-part ran octets given e
+
+pub returns-in-Ok-open-clause-front : goal.returns-in-Ok-open-clause-front
+returns-in-Ok-open-clause-front g c =
+    let opened = c.in-Ok-open.ensures in
+    let ran = ran-over g.D.Disk.told g.D.Disk.faults c.args.link (naming_of g.H.Hash32.digest g.D.Disk.told g.D.Disk.faults g.C.Clock.constant g.C.Clock.given c.in-Ok-open.opened) c.is_auto.result
+    c.is_auto.ensures opened.opens (ap g.H.Hash32.digest opened.given.0, opened.given.1) (ap g.C.Clock.constant opened.clock, ap g.C.Clock.given opened.clock) c.serve_script.ensures.served in
+    λ octets why given e. inr (ran-front ran octets why given e)
+
+pub returns-in-Ok-open-clause-damaged : goal.returns-in-Ok-open-clause-damaged
+returns-in-Ok-open-clause-damaged g c =
+    let opened = c.in-Ok-open.ensures in
+    let ran = ran-over g.D.Disk.told g.D.Disk.faults c.args.link (naming_of g.H.Hash32.digest g.D.Disk.told g.D.Disk.faults g.C.Clock.constant g.C.Clock.given c.in-Ok-open.opened) c.is_auto.result
+    c.is_auto.ensures opened.opens (ap g.H.Hash32.digest opened.given.0, opened.given.1) (ap g.C.Clock.constant opened.clock, ap g.C.Clock.given opened.clock) c.serve_script.ensures.served in
+    λ damage e. absurd (ran-undamaged ran damage e)
+
+pub returns-in-Ok-open-clause-sound : goal.returns-in-Ok-open-clause-sound
+returns-in-Ok-open-clause-sound g c =
+    let opened = c.in-Ok-open.ensures in
+    let ran = ran-over g.D.Disk.told g.D.Disk.faults c.args.link (naming_of g.H.Hash32.digest g.D.Disk.told g.D.Disk.faults g.C.Clock.constant g.C.Clock.given c.in-Ok-open.opened) c.is_auto.result
+    c.is_auto.ensures opened.opens (ap g.H.Hash32.digest opened.given.0, opened.given.1) (ap g.C.Clock.constant opened.clock, ap g.C.Clock.given opened.clock) c.serve_script.ensures.served in
+    λ damage t found told stands e. ran-undamaged ran damage e
+
+pub returns-in-Ok-open-clause-nothing : goal.returns-in-Ok-open-clause-nothing
+returns-in-Ok-open-clause-nothing g c =
+    let opened = c.in-Ok-open.ensures in
+    let ran = ran-over g.D.Disk.told g.D.Disk.faults c.args.link (naming_of g.H.Hash32.digest g.D.Disk.told g.D.Disk.faults g.C.Clock.constant g.C.Clock.given c.in-Ok-open.opened) c.is_auto.result
+    c.is_auto.ensures opened.opens (ap g.H.Hash32.digest opened.given.0, opened.given.1) (ap g.C.Clock.constant opened.clock, ap g.C.Clock.given opened.clock) c.serve_script.ensures.served in
+    λ damage e. absurd (ran-undamaged ran damage e)
+
+pub returns-in-Ok-open-clause-any_moment : goal.returns-in-Ok-open-clause-any_moment
+returns-in-Ok-open-clause-any_moment g c =
+    let opened = c.in-Ok-open.ensures in
+    let ran = ran-over g.D.Disk.told g.D.Disk.faults c.args.link (naming_of g.H.Hash32.digest g.D.Disk.told g.D.Disk.faults g.C.Clock.constant g.C.Clock.given c.in-Ok-open.opened) c.is_auto.result
+    c.is_auto.ensures opened.opens (ap g.H.Hash32.digest opened.given.0, opened.given.1) (ap g.C.Clock.constant opened.clock, ap g.C.Clock.given opened.clock) c.serve_script.ensures.served in
+    λ t found told stands. ran-keeps ran t found told stands
+
+pub returns-in-Ok-open-clause-unharmed : goal.returns-in-Ok-open-clause-unharmed
+returns-in-Ok-open-clause-unharmed g c =
+    let opened = c.in-Ok-open.ensures in
+    let ran = ran-over g.D.Disk.told g.D.Disk.faults c.args.link (naming_of g.H.Hash32.digest g.D.Disk.told g.D.Disk.faults g.C.Clock.constant g.C.Clock.given c.in-Ok-open.opened) c.is_auto.result
+    c.is_auto.ensures opened.opens (ap g.H.Hash32.digest opened.given.0, opened.given.1) (ap g.C.Clock.constant opened.clock, ap g.C.Clock.given opened.clock) c.serve_script.ensures.served in
+    λ t told none. ran-unharmed ran t told none
+
+pub returns-in-Ok-open-clause-grows : goal.returns-in-Ok-open-clause-grows
+returns-in-Ok-open-clause-grows g c =
+    let opened = c.in-Ok-open.ensures in
+    let ran = ran-over g.D.Disk.told g.D.Disk.faults c.args.link (naming_of g.H.Hash32.digest g.D.Disk.told g.D.Disk.faults g.C.Clock.constant g.C.Clock.given c.in-Ok-open.opened) c.is_auto.result
+    c.is_auto.ensures opened.opens (ap g.H.Hash32.digest opened.given.0, opened.given.1) (ap g.C.Clock.constant opened.clock, ap g.C.Clock.given opened.clock) c.serve_script.ensures.served in
+    ran-grows ran
+
+pub returns-in-Ok-open-clause-device : goal.returns-in-Ok-open-clause-device
+returns-in-Ok-open-clause-device g c =
+    let opened = c.in-Ok-open.ensures in
+    let ran = ran-over g.D.Disk.told g.D.Disk.faults c.args.link (naming_of g.H.Hash32.digest g.D.Disk.told g.D.Disk.faults g.C.Clock.constant g.C.Clock.given c.in-Ok-open.opened) c.is_auto.result
+    c.is_auto.ensures opened.opens (ap g.H.Hash32.digest opened.given.0, opened.given.1) (ap g.C.Clock.constant opened.clock, ap g.C.Clock.given opened.clock) c.serve_script.ensures.served in
+    λ e. ran-device ran e
+
+pub returns-in-Ok-open-clause-disk_count : goal.returns-in-Ok-open-clause-disk_count
+returns-in-Ok-open-clause-disk_count g c =
+    let opened = c.in-Ok-open.ensures in
+    let ran = ran-over g.D.Disk.told g.D.Disk.faults c.args.link (naming_of g.H.Hash32.digest g.D.Disk.told g.D.Disk.faults g.C.Clock.constant g.C.Clock.given c.in-Ok-open.opened) c.is_auto.result
+    c.is_auto.ensures opened.opens (ap g.H.Hash32.digest opened.given.0, opened.given.1) (ap g.C.Clock.constant opened.clock, ap g.C.Clock.given opened.clock) c.serve_script.ensures.served in
+    λ fault want. ran-disk ran fault want
+
+pub returns-in-Ok-open-clause-disk_alone : goal.returns-in-Ok-open-clause-disk_alone
+returns-in-Ok-open-clause-disk_alone g c =
+    let opened = c.in-Ok-open.ensures in
+    let ran = ran-over g.D.Disk.told g.D.Disk.faults c.args.link (naming_of g.H.Hash32.digest g.D.Disk.told g.D.Disk.faults g.C.Clock.constant g.C.Clock.given c.in-Ok-open.opened) c.is_auto.result
+    c.is_auto.ensures opened.opens (ap g.H.Hash32.digest opened.given.0, opened.given.1) (ap g.C.Clock.constant opened.clock, ap g.C.Clock.given opened.clock) c.serve_script.ensures.served in
+    λ want one. ran-alone ran want one
+
+pub returns-in-Ok-open-clause-write : goal.returns-in-Ok-open-clause-write
+returns-in-Ok-open-clause-write g c =
+    let opened = c.in-Ok-open.ensures in
+    let ran = ran-over g.D.Disk.told g.D.Disk.faults c.args.link (naming_of g.H.Hash32.digest g.D.Disk.told g.D.Disk.faults g.C.Clock.constant g.C.Clock.given c.in-Ok-open.opened) c.is_auto.result
+    c.is_auto.ensures opened.opens (ap g.H.Hash32.digest opened.given.0, opened.given.1) (ap g.C.Clock.constant opened.clock, ap g.C.Clock.given opened.clock) c.serve_script.ensures.served in
+    λ e. ran-write ran e
+
+pub returns-in-Ok-open-clause-sink_count : goal.returns-in-Ok-open-clause-sink_count
+returns-in-Ok-open-clause-sink_count g c =
+    let opened = c.in-Ok-open.ensures in
+    let ran = ran-over g.D.Disk.told g.D.Disk.faults c.args.link (naming_of g.H.Hash32.digest g.D.Disk.told g.D.Disk.faults g.C.Clock.constant g.C.Clock.given c.in-Ok-open.opened) c.is_auto.result
+    c.is_auto.ensures opened.opens (ap g.H.Hash32.digest opened.given.0, opened.given.1) (ap g.C.Clock.constant opened.clock, ap g.C.Clock.given opened.clock) c.serve_script.ensures.served in
+    λ e. ran-sink ran e
+
+pub returns-in-Ok-open-clause-sink_once : goal.returns-in-Ok-open-clause-sink_once
+returns-in-Ok-open-clause-sink_once g c =
+    let opened = c.in-Ok-open.ensures in
+    let ran = ran-over g.D.Disk.told g.D.Disk.faults c.args.link (naming_of g.H.Hash32.digest g.D.Disk.told g.D.Disk.faults g.C.Clock.constant g.C.Clock.given c.in-Ok-open.opened) c.is_auto.result
+    c.is_auto.ensures opened.opens (ap g.H.Hash32.digest opened.given.0, opened.given.1) (ap g.C.Clock.constant opened.clock, ap g.C.Clock.given opened.clock) c.serve_script.ensures.served in
+    ran-once ran
+
+pub returns-in-Ok-open-clause-clock : goal.returns-in-Ok-open-clause-clock
+returns-in-Ok-open-clause-clock g c =
+    let opened = c.in-Ok-open.ensures in
+    let ran = ran-over g.D.Disk.told g.D.Disk.faults c.args.link (naming_of g.H.Hash32.digest g.D.Disk.told g.D.Disk.faults g.C.Clock.constant g.C.Clock.given c.in-Ok-open.opened) c.is_auto.result
+    c.is_auto.ensures opened.opens (ap g.H.Hash32.digest opened.given.0, opened.given.1) (ap g.C.Clock.constant opened.clock, ap g.C.Clock.given opened.clock) c.serve_script.ensures.served in
+    ran-constant ran

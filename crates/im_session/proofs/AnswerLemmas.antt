@@ -1,0 +1,225 @@
+-- What the commands that show headers and proofs are answered.
+use Rattle.std.proofs.Common.{◌≡◌, ◌⊎◌, ◌<◌, ◌≤◌, ℕ, List, length, map, slice_index_or, take, Option, Some, None, codes, false, true, unwrap_or, refl, ap, ap₂, sym, ◌∙◌, subst, arith, inl, inr}
+use Rattle.std.proofs.lemmas.Bool.{both_ways}
+use Rattle.std.proofs.lemmas.List.{length-take-le}
+use Rattle.std.specs.Str.{bytes_eq}
+use Rattle.im_accept.proofs.ShownLemmas.{no-entry-closed}
+use Rattle.im_accept.specs.Messages.{IsReadBack, item_between}
+use Rattle.im_digest.specs.Digests.{Hash}
+use Rattle.im_dual.proofs.FrontLemmas.{front-anchor, front-between}
+use Rattle.im_model.proofs.HeaderLemmas.{header-prefix}
+use Rattle.im_model.specs.Entries.{entry_digest}
+use Rattle.im_model.specs.History.{header_of, transaction_of}
+use Rattle.im_model.specs.declared.entries.Entry.{Entry}
+use Rattle.im_model.specs.declared.headers.Header.{Header}
+use Rattle.im_model.specs.declared.transactions.Transaction.{Transaction}
+use Rattle.im_octet.proofs.Common.{bytes-other}
+use Rattle.im_proof.specs.Between.{anchor_between, dual_between, no_entry}
+use Rattle.im_proof.specs.Built.{path_of}
+use Rattle.im_proof.specs.declared.proofs.DualProof.{DualProof}
+use Rattle.im_report.proofs.PlacedLemmas.{beyond-not-placed, message-not-placed, no-entry-not-placed, order-not-placed, other-letter, shown-not-placed}
+use Rattle.im_report.specs.Replies.{advance_reply, beyond_reply, between_reply, header_reply, item_reply, item_shown, no_entry_reply, order_reply, prove_reply, shown_header, state_reply, tx_reply}
+use Rattle.im_report.specs.Report.{IsAnswer}
+use Rattle.im_script.specs.declared.commands.Command.TheVariants as asks
+use Rattle.im_session.proofs.ProvedLemmas.{advance_said, anchor_taken, dual_taken, entries_seen, few_taken, header_beyond, header_said, header_zero, item_said, no_item_said, prove_said, refused_said, state_empty, state_said, state_taken}
+use Rattle.im_session.proofs.ShowLemmas.{closed_again, shown_answered}
+use Rattle.im_session.specs.Answered.{IsAnswered}
+use Rattle.im_session.specs.Lines.{MayBecome}
+use Rattle.im_session.specs.Shown.{IsRefusedBetween}
+use Rattle.im_session.specs.declared.answers.Answer.{Answer}
+use Rattle.im_store.specs.Gains.{Gains}
+use Rattle.im_table.specs.Histories.{history_of}
+use Rattle.im_table.specs.Known.{KnownPass}
+use Rattle.im_table.specs.Passes.{Later}
+use Rattle.im_table.specs.declared.items.LogItem.{LogItem}
+use Rattle.im_wire.specs.Lines.{is_open}
+use Rattle.im_wire.specs.Messages.{HasMessage}
+use Rattle.im_wire.specs.Texts.{text}
+use Rattle.im_wire.specs.declared.messages.Message.{Message}
+use Rattle.im_wire.specs.declared.messages.Message.TheVariants as says
+
+-- A pass behind a look at what is durable, which gave this number, and behind further steps that placed and linked nothing.
+pub record HasLooked (old mid new : KnownPass) (number : ℕ) : Type 0 where
+  pub first : Later old mid
+  pub then : Later mid new
+  pub first_gains : Gains [] 0 0 old mid
+  pub then_gains : Gains [] 0 0 mid new
+  pub is : mid.view.least.durable ≡ number
+  pub above : old.view.least.durable ≤ number
+
+looked_durable : (old mid new : KnownPass) (number : ℕ) → HasLooked old mid new number → number ≤ new.view.least.durable
+looked_durable old mid new number l = let up = l.then.durable in omega (arith, l.is, up)
+
+-- the reply to `header`
+abbrev pub SaysHeader : Hash → KnownPass → ℕ → ℕ → List ℕ → Type 0
+SaysHeader hash p n k reply =
+    ((k ≡ 0) × (reply ≡ codes "refused order 0 0"))
+    ⊎ (((1 ≤ k) × (n < k) × (reply ≡ beyond_reply n))
+    ⊎ ((1 ≤ k) × (k ≤ n) × (k ≤ length p.view.seen) × (reply ≡ shown_header hash (header_of hash (history_of p.view.seen) k))))
+
+header_unplaced : (hash : Hash) (p : KnownPass) (n k : ℕ) (reply : List ℕ) → SaysHeader hash p n k reply → bytes_eq reply (tx_reply n) ≡ false
+header_unplaced hash p n k reply (inl (none, e)) = other-letter 114 _ reply n refl e
+header_unplaced hash p n k reply (inr (inl (some, beyond, e))) = ap (λ (r : List ℕ). bytes_eq r (tx_reply n)) e ∙ beyond-not-placed n n
+header_unplaced hash p n k reply (inr (inr (some, within, seen, e))) = ap (λ (r : List ℕ). bytes_eq r (tx_reply n)) e ∙ shown-not-placed hash (header_of hash (history_of p.view.seen) k) n
+
+header_each : (hash : Hash) (p : KnownPass) (n k : ℕ) (reply : List ℕ) → n ≤ p.view.least.durable → SaysHeader hash p n k reply → (items : List LogItem) → MayBecome p items → reply ≡ header_reply hash (take n (history_of items)) k
+header_each hash p n k reply durable (inl (none, e)) items m = e ∙ header_zero hash (take n (history_of items)) k none
+header_each hash p n k reply durable (inr (inl (some, beyond, e))) items m = e ∙ header_beyond hash p items n k m durable some beyond
+header_each hash p n k reply durable (inr (inr (some, within, seen, e))) items m = e ∙ header_said hash p items n k m durable some within seen
+
+pub header_answered : (hash : Hash) (old mid new : KnownPass) (k : ℕ) (answer : Answer) → HasLooked old mid new answer.number → SaysHeader hash new answer.number k answer.reply.items → IsAnswered hash old new (asks.Header k) answer
+header_answered hash old mid new k answer l says =
+    shown_answered hash old mid new (asks.Header k) answer l.first l.then l.first_gains l.then_gains l.is l.above (λ n f. refl) (header_unplaced hash new answer.number k answer.reply.items says)
+    (header_each hash new answer.number k answer.reply.items (looked_durable old mid new answer.number l) says) (λ items m. tt)
+
+-- the reply to `state`
+abbrev pub SaysState : Hash → KnownPass → ℕ → List ℕ → Type 0
+SaysState hash p n reply =
+    ((n ≡ 0) × (reply ≡ codes "refused empty"))
+    ⊎ ((1 ≤ n) × (n ≤ length p.view.seen) × (reply ≡ text (says.State (header_of hash (history_of p.view.seen) n))) × HasMessage reply (says.State (header_of hash (history_of p.view.seen) n)))
+
+state_unplaced : (hash : Hash) (p : KnownPass) (n : ℕ) (reply : List ℕ) → SaysState hash p n reply → bytes_eq reply (tx_reply n) ≡ false
+state_unplaced hash p n reply (inl (none, e)) = other-letter 114 _ reply n refl e
+state_unplaced hash p n reply (inr (some, seen, e, again)) = ap (λ (r : List ℕ). bytes_eq r (tx_reply n)) e ∙ message-not-placed (says.State (header_of hash (history_of p.view.seen) n)) n
+
+state_each : (hash : Hash) (p : KnownPass) (n : ℕ) (reply : List ℕ) → n ≤ p.view.least.durable → SaysState hash p n reply → (items : List LogItem) → MayBecome p items → reply ≡ state_reply hash (take n (history_of items))
+state_each hash p n reply durable (inl (none, e)) items m =
+    e ∙ state_empty hash (take n (history_of items)) (ap (λ (i : ℕ). length (take i (history_of items))) none)
+state_each hash p n reply durable (inr (some, seen, e, again)) items m = e ∙ state_said hash p items n m durable some seen
+
+state_again : (hash : Hash) (p : KnownPass) (n : ℕ) (reply : List ℕ) → n ≤ p.view.least.durable → SaysState hash p n reply → (items : List LogItem) → MayBecome p items
+    → IsReadBack hash (take n (history_of items)) asks.State reply
+state_again hash p n reply durable (inl (none, e)) items m = closed_again hash (take n (history_of items)) asks.State reply (ap is_open e)
+state_again hash p n reply durable (inr (some, seen, e, again)) items m =
+    λ _. subst (λ (x : Header). HasMessage reply (says.State x)) (state_taken hash p items n m durable some seen) again
+
+pub state_answered : (hash : Hash) (old mid new : KnownPass) (answer : Answer) → HasLooked old mid new answer.number → SaysState hash new answer.number answer.reply.items → IsAnswered hash old new asks.State answer
+state_answered hash old mid new answer l says =
+    let durable = looked_durable old mid new answer.number l in
+    shown_answered hash old mid new asks.State answer l.first l.then l.first_gains l.then_gains l.is l.above (λ n f. refl) (state_unplaced hash new answer.number answer.reply.items says)
+    (state_each hash new answer.number answer.reply.items durable says) (state_again hash new answer.number answer.reply.items durable says)
+
+-- two that are in order, and that the pass has seen
+pub record AreSeen (p : KnownPass) (n s t : ℕ) : Type 0 where
+  pub some : 1 ≤ s
+  pub order : s ≤ t
+  pub within : t ≤ n
+  pub seen : t ≤ length p.view.seen
+
+-- the reply to `prove`
+abbrev pub SaysProof : Hash → KnownPass → ℕ → ℕ → ℕ → List ℕ → Type 0
+SaysProof hash p n s t reply =
+    IsRefusedBetween n s t reply
+    ⊎ (AreSeen p n s t × (reply ≡ text (says.Dual (dual_between hash (history_of p.view.seen) s t))) × HasMessage reply (says.Dual (dual_between hash (history_of p.view.seen) s t)))
+
+proof_unplaced : (hash : Hash) (p : KnownPass) (n s t : ℕ) (reply : List ℕ) → SaysProof hash p n s t reply → bytes_eq reply (tx_reply n) ≡ false
+proof_unplaced hash p n s t reply (inl refused) = refused.unplaced
+proof_unplaced hash p n s t reply (inr (are, e, again)) = ap (λ (r : List ℕ). bytes_eq r (tx_reply n)) e ∙ message-not-placed (says.Dual (dual_between hash (history_of p.view.seen) s t)) n
+
+proof_each : (hash : Hash) (p : KnownPass) (n s t : ℕ) (reply : List ℕ) → n ≤ p.view.least.durable → SaysProof hash p n s t reply → (items : List LogItem) → MayBecome p items → reply ≡ prove_reply hash (take n (history_of items)) s t
+unfolding prove_reply
+proof_each hash p n s t reply durable (inl refused) items m =
+    refused_said p items n s t reply (text (says.Dual (dual_between hash (take n (history_of items)) s t))) m durable refused.says
+proof_each hash p n s t reply durable (inr (are, e, again)) items m = e ∙ prove_said hash p items n s t m durable are.some are.order are.within are.seen
+
+proof_again : (hash : Hash) (p : KnownPass) (n s t : ℕ) (reply : List ℕ) → n ≤ p.view.least.durable → SaysProof hash p n s t reply → (items : List LogItem) → MayBecome p items
+    → IsReadBack hash (take n (history_of items)) (asks.Prove s t) reply
+proof_again hash p n s t reply durable (inl refused) items m = closed_again hash (take n (history_of items)) (asks.Prove s t) reply refused.closed
+proof_again hash p n s t reply durable (inr (are, e, again)) items m =
+    λ _. subst (λ (d : DualProof). HasMessage reply (says.Dual d)) (dual_taken hash p items n s t m durable are.some are.order are.within are.seen) again
+
+pub proof_answered : (hash : Hash) (old mid new : KnownPass) (s t : ℕ) (answer : Answer) → HasLooked old mid new answer.number → SaysProof hash new answer.number s t answer.reply.items → IsAnswered hash old new (asks.Prove s t) answer
+proof_answered hash old mid new s t answer l says =
+    let durable = looked_durable old mid new answer.number l in
+    shown_answered hash old mid new (asks.Prove s t) answer l.first l.then l.first_gains l.then_gains l.is l.above (λ n f. refl) (proof_unplaced hash new answer.number s t answer.reply.items says)
+    (proof_each hash new answer.number s t answer.reply.items durable says) (proof_again hash new answer.number s t answer.reply.items durable says)
+
+-- the reply to `advance`
+abbrev pub advance_of : Hash → List Transaction → ℕ → ℕ → Message
+advance_of hash history s t = says.Advance (dual_between hash history s t) (anchor_between hash history s t)
+
+abbrev pub SaysAdvance : Hash → KnownPass → ℕ → ℕ → ℕ → List ℕ → Type 0
+SaysAdvance hash p n s t reply =
+    IsRefusedBetween n s t reply ⊎ (AreSeen p n s t × (reply ≡ text (advance_of hash (history_of p.view.seen) s t)) × HasMessage reply (advance_of hash (history_of p.view.seen) s t))
+
+advance_unplaced : (hash : Hash) (p : KnownPass) (n s t : ℕ) (reply : List ℕ) → SaysAdvance hash p n s t reply → bytes_eq reply (tx_reply n) ≡ false
+advance_unplaced hash p n s t reply (inl refused) = refused.unplaced
+advance_unplaced hash p n s t reply (inr (are, e, again)) = ap (λ (r : List ℕ). bytes_eq r (tx_reply n)) e ∙ message-not-placed (advance_of hash (history_of p.view.seen) s t) n
+
+advance_each : (hash : Hash) (p : KnownPass) (n s t : ℕ) (reply : List ℕ) → n ≤ p.view.least.durable → SaysAdvance hash p n s t reply → (items : List LogItem) → MayBecome p items → reply ≡ advance_reply hash (take n (history_of items)) s t
+unfolding advance_reply
+advance_each hash p n s t reply durable (inl refused) items m = refused_said p items n s t reply (text (advance_of hash (take n (history_of items)) s t)) m durable refused.says
+advance_each hash p n s t reply durable (inr (are, e, again)) items m = e ∙ advance_said hash p items n s t m durable are.some are.order are.within are.seen
+
+advance_again : (hash : Hash) (p : KnownPass) (n s t : ℕ) (reply : List ℕ) → n ≤ p.view.least.durable → SaysAdvance hash p n s t reply → (items : List LogItem) → MayBecome p items
+    → IsReadBack hash (take n (history_of items)) (asks.Advance s t) reply
+advance_again hash p n s t reply durable (inl refused) items m = closed_again hash (take n (history_of items)) (asks.Advance s t) reply refused.closed
+advance_again hash p n s t reply durable (inr (are, e, again)) items m =
+    let same : advance_of hash (history_of p.view.seen) s t ≡ advance_of hash (take n (history_of items)) s t =
+    ap₂ (λ (d : DualProof) (a : Option DualProof). says.Advance d a) (dual_taken hash p items n s t m durable are.some are.order are.within are.seen) (anchor_taken hash p items n s t m durable are.some are.order are.within are.seen) in
+    λ _. subst (HasMessage reply) same again
+
+pub advance_answered : (hash : Hash) (old mid new : KnownPass) (s t : ℕ) (answer : Answer) → HasLooked old mid new answer.number → SaysAdvance hash new answer.number s t answer.reply.items
+    → IsAnswered hash old new (asks.Advance s t) answer
+advance_answered hash old mid new s t answer l says =
+    let durable = looked_durable old mid new answer.number l in
+    shown_answered hash old mid new (asks.Advance s t) answer l.first l.then l.first_gains l.then_gains l.is l.above (λ n f. refl) (advance_unplaced hash new answer.number s t answer.reply.items says)
+    (advance_each hash new answer.number s t answer.reply.items durable says) (advance_again hash new answer.number s t answer.reply.items durable says)
+
+-- the reply to `item`
+abbrev pub SaysItem : Hash → KnownPass → ℕ → ℕ → ℕ → ℕ → List ℕ → Type 0
+SaysItem hash p n t i s reply =
+    IsRefusedBetween n t s reply
+    ⊎ ((AreSeen p n t s × (length (transaction_of (history_of p.view.seen) t).entries ≤ i) × (reply ≡ no_entry_reply (length (transaction_of (history_of p.view.seen) t).entries)))
+    ⊎ (AreSeen p n t s × (i < length (transaction_of (history_of p.view.seen) t).entries) × (reply ≡ text (item_between hash (history_of p.view.seen) t i s)) × HasMessage reply (item_between hash (history_of p.view.seen) t i s)))
+
+item_unplaced : (hash : Hash) (p : KnownPass) (n t i s : ℕ) (reply : List ℕ) → SaysItem hash p n t i s reply → bytes_eq reply (tx_reply n) ≡ false
+item_unplaced hash p n t i s reply (inl refused) = refused.unplaced
+item_unplaced hash p n t i s reply (inr (inl (are, beyond, e))) = ap (λ (r : List ℕ). bytes_eq r (tx_reply n)) e ∙ no-entry-not-placed (length (transaction_of (history_of p.view.seen) t).entries) n
+item_unplaced hash p n t i s reply (inr (inr (are, inside, e, again))) = ap (λ (r : List ℕ). bytes_eq r (tx_reply n)) e ∙ message-not-placed (item_between hash (history_of p.view.seen) t i s) n
+
+item_each : (hash : Hash) (p : KnownPass) (n t i s : ℕ) (reply : List ℕ) → n ≤ p.view.least.durable → SaysItem hash p n t i s reply → (items : List LogItem) → MayBecome p items
+    → reply ≡ item_reply hash (take n (history_of items)) t i s
+unfolding item_reply item_shown
+item_each hash p n t i s reply durable (inl refused) items m = refused_said p items n t s reply _ m durable refused.says
+item_each hash p n t i s reply durable (inr (inl (are, beyond, e))) items m = e ∙ no_item_said hash p items n t i s m durable are.some are.order are.within are.seen beyond
+item_each hash p n t i s reply durable (inr (inr (are, inside, e, again))) items m = e ∙ item_said hash p items n t i s m durable are.some are.order are.within are.seen inside
+
+-- the message is the same of the first n of each list
+item_same : (hash : Hash) (p : KnownPass) (n t i s : ℕ) → n ≤ p.view.least.durable → AreSeen p n t s → (items : List LogItem) → MayBecome p items
+    → item_between hash (history_of p.view.seen) t i s ≡ item_between hash (take n (history_of items)) t i s
+item_same hash p n t i s durable are items m =
+    let said : DualProof → List Entry → Message = λ dual entries. says.Item dual (slice_index_or entries i no_entry) i (path_of hash (map (entry_digest hash) entries) i) in
+    let within : t ≤ n = omega (arith, are.order, are.within) in
+    let seen : t ≤ length p.view.seen = omega (arith, are.order, are.seen) in
+    ap₂ said (dual_taken hash p items n t s m durable are.some are.order are.within are.seen) (entries_seen p items n t m are.some within seen)
+
+item_read : (hash : Hash) (p : KnownPass) (n t i s : ℕ) (reply : List ℕ) → n ≤ p.view.least.durable → SaysItem hash p n t i s reply → (items : List LogItem) → MayBecome p items
+    → is_open reply ≡ true → HasMessage reply (item_between hash (take n (history_of items)) t i s)
+item_read hash p n t i s reply durable (inl refused) items m = λ now. absurd (both_ways (is_open reply) refused.closed now)
+item_read hash p n t i s reply durable (inr (inl (are, beyond, e))) items m =
+    λ now. absurd (both_ways (is_open reply) (ap is_open e ∙ no-entry-closed (length (transaction_of (history_of p.view.seen) t).entries)) now)
+item_read hash p n t i s reply durable (inr (inr (are, inside, e, again))) items m = λ _. subst (HasMessage reply) (item_same hash p n t i s durable are items m) again
+
+pub item_answered_named : (hash : Hash) (old mid new : KnownPass) (t i s : ℕ) (answer : Answer) → HasLooked old mid new answer.number → SaysItem hash new answer.number t i s answer.reply.items
+    → IsAnswered hash old new (asks.Item t i (Some s)) answer
+item_answered_named hash old mid new t i s answer l says =
+    let durable = looked_durable old mid new answer.number l in
+    shown_answered hash old mid new (asks.Item t i (Some s)) answer l.first l.then l.first_gains l.then_gains l.is l.above (λ n f. refl) (item_unplaced hash new answer.number t i s answer.reply.items says)
+    (item_each hash new answer.number t i s answer.reply.items durable says) (item_read hash new answer.number t i s answer.reply.items durable says)
+
+-- under the last durable one
+pub item_answered_last : (hash : Hash) (old mid new : KnownPass) (t i : ℕ) (answer : Answer) → HasLooked old mid new answer.number → SaysItem hash new answer.number t i answer.number answer.reply.items
+    → IsAnswered hash old new (asks.Item t i None) answer
+item_answered_last hash old mid new t i answer l says =
+    let n : ℕ = answer.number in
+    let durable = looked_durable old mid new n l in
+    shown_answered hash old mid new (asks.Item t i None) answer l.first l.then l.first_gains l.then_gains l.is l.above (λ k f. refl) (item_unplaced hash new n t i n answer.reply.items says)
+    (item_each hash new n t i n answer.reply.items durable says)
+    (λ items m. (let size : length (take n (history_of items)) ≡ n = length-take-le n (history_of items) (few_taken new items n m durable) in
+    subst (λ (k : ℕ). is_open answer.reply.items ≡ true → HasMessage answer.reply.items (item_between hash (take n (history_of items)) t i k)) (sym size) (item_read hash new n t i n answer.reply.items durable says items m)))
+
+pub item_answered : (hash : Hash) (old mid new : KnownPass) (t i : ℕ) (under : Option ℕ) (answer : Answer) → HasLooked old mid new answer.number
+    → SaysItem hash new answer.number t i (unwrap_or under answer.number) answer.reply.items → IsAnswered hash old new (asks.Item t i under) answer
+item_answered hash old mid new t i None answer l says = item_answered_last hash old mid new t i answer l says
+item_answered hash old mid new t i (Some s) answer l says = item_answered_named hash old mid new t i s answer l says

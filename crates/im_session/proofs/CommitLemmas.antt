@@ -1,0 +1,76 @@
+-- What a commit's receipt or error makes of its line.
+use Rattle.std.proofs.Common.{◌≡◌, ◌≤◌, ◌+◌, ◌++◌, ◌∷◌, ℕ, ℤ, List, [], map, false, Option, Some, None, refl, ap, sym, ◌∙◌, subst, arith, append-nil}
+use Rattle.std.specs.Str.{bytes_eq}
+use Rattle.im_digest.specs.Digests.{Hash}
+use Rattle.im_draft.specs.Drafts.{entry_of, AreEntries, AreFree}
+use Rattle.im_draft.specs.declared.drafts.Draft.{Draft}
+use Rattle.im_report.proofs.PlacedLemmas.{place-not-placed}
+use Rattle.im_report.specs.Reads.{place_reply}
+use Rattle.im_report.specs.Replies.{tx_reply}
+use Rattle.im_script.specs.declared.commands.Command.TheVariants.{Set}
+use Rattle.im_session.proofs.StepLemmas.{late_stuck, refused_step, tx_step, unplaced_stuck}
+use Rattle.im_session.specs.Answered.{IsAnswered, IsRefusal, IsUnanswered, fault_of}
+use Rattle.im_session.specs.declared.answers.Answer.{Answer}
+use Rattle.im_session.specs.declared.errors.LineError.TheVariants as line
+use Rattle.im_store.specs.Commits.{Explains, HasPlaced, IsRefusedDurably, faults_of_error, number_told}
+use Rattle.im_store.specs.Gains.{Gains}
+use Rattle.im_store.specs.declared.errors.CommitError.{CommitError}
+use Rattle.im_store.specs.declared.errors.CommitError.TheVariants.{DiskFault, Exists, Full, Memory, Missing, Modified, Stopped}
+use Rattle.im_table.specs.Known.{KnownPass}
+use Rattle.im_table.specs.Passes.{Later}
+use Rattle.im_tx.specs.Asked.{Asked}
+use Rattle.im_versions.specs.declared.refusals.PlaceError.{PlaceError}
+use Rattle.im_versions.specs.declared.refusals.PlaceError.TheVariants as place
+
+-- a receipt: the reply is `tx` and its number; where its text can't be kept the transaction is one that isn't told
+pub receipt_answered : (hash : Hash) (time : Option ℤ) (asked : Asked) (old new : KnownPass) (answer : Answer) (drafts : List Draft) → AreFree drafts → AreEntries drafts → asked.entries ≡ map entry_of drafts
+    → HasPlaced time asked old new answer.number → answer.number ≤ new.view.least.durable → Later old new → Gains (answer.number ∷ []) 0 0 old new → answer.reply.items ≡ tx_reply answer.number
+    → IsAnswered hash old new (Set asked.pres drafts) answer
+receipt_answered hash time asked old new answer drafts free are same p durable l g says = record {
+  step = λ session. tx_step hash time asked old new answer.number session drafts answer.reply.items free are same p durable l g says;
+  else_stuck = λ session. late_stuck time asked old new answer.number session drafts line.Memory free are same p l g.own (omega (arith, g.leaves)) (omega (arith, g.faults));
+}
+
+-- and where its text couldn't be made
+pub receipt_unanswered : (time : Option ℤ) (asked : Asked) (old new : KnownPass) (n : ℕ) (drafts : List Draft) → AreFree drafts → AreEntries drafts → asked.entries ≡ map entry_of drafts
+    → HasPlaced time asked old new n → Later old new → Gains (n ∷ []) 0 0 old new → IsUnanswered old new (Set asked.pres drafts) line.Memory
+receipt_unanswered time asked old new n drafts free are same p l g session =
+    late_stuck time asked old new n session drafts line.Memory free are same p l g.own (omega (arith, g.leaves)) (omega (arith, g.faults))
+
+-- a refusal behind so many transactions, which are durable
+refusal_one : (hash : Hash) (asked : Asked) (old new : KnownPass) (why : PlaceError) (at : ℕ) (answer : Answer) (drafts : List Draft) → AreFree drafts → AreEntries drafts → (why ≡ place.Memory → ⊥)
+    → IsRefusedDurably asked old new why at → Later old new → Gains [] 0 0 old new → answer.number ≡ at → answer.reply.items ≡ place_reply why → IsAnswered hash old new (Set asked.pres drafts) answer
+refusal_one hash asked old new why at answer drafts free are known r l g number says =
+    let here : IsRefusedDurably asked old new why answer.number = subst (λ (n : ℕ). IsRefusedDurably asked old new why n) (sym number) r in
+    let other : bytes_eq answer.reply.items (tx_reply answer.number) ≡ false = ap (λ (t : List ℕ). bytes_eq t (tx_reply answer.number)) says ∙ place-not-placed why answer.number known in
+    record {
+      step = λ session. refused_step hash asked old new why answer.number session drafts answer.reply.items free are here l g says other;
+      else_stuck = λ session. unplaced_stuck asked old new session drafts line.Memory free are l g.own (omega (arith, g.leaves)) (omega (arith, g.faults));
+    }
+
+pub refusal_answered : (hash : Hash) (time : Option ℤ) (asked : Asked) (old new : KnownPass) (error : CommitError) (answer : Answer) (drafts : List Draft) → AreFree drafts → AreEntries drafts
+    → Explains time asked old new error → Later old new → Gains (number_told error) 0 (faults_of_error error) old new → IsRefusal error answer → IsAnswered hash old new (Set asked.pres drafts) answer
+refusal_answered hash time asked old new (Missing key at) answer drafts free are e l g says = refusal_one hash asked old new (place.Missing key) at answer drafts free are (λ q. cc q) e l g says.0 says.1
+refusal_answered hash time asked old new (Exists key tx at) answer drafts free are e l g says = refusal_one hash asked old new (place.Exists key tx) at answer drafts free are (λ q. cc q) e l g says.0 says.1
+refusal_answered hash time asked old new (Modified key tx at) answer drafts free are e l g says = refusal_one hash asked old new (place.Modified key tx) at answer drafts free are (λ q. cc q) e l g says.0 says.1
+refusal_answered hash time asked old new (Full at) answer drafts free are e l g says = refusal_one hash asked old new place.Full at answer drafts free are (λ q. cc q) e l g says.0 says.1
+refusal_answered hash time asked old new (DiskFault placed) answer drafts free are e l g says = absurd says
+refusal_answered hash time asked old new (Stopped faults placed) answer drafts free are e l g says = absurd says
+refusal_answered hash time asked old new (Memory placed) answer drafts free are e l g says = absurd says
+
+-- an error without a reply
+pub error_unanswered : (time : Option ℤ) (asked : Asked) (old new : KnownPass) (error : CommitError) (drafts : List Draft) → AreFree drafts → AreEntries drafts → asked.entries ≡ map entry_of drafts
+    → Explains time asked old new error → Later old new → Gains (number_told error) 0 (faults_of_error error) old new → IsUnanswered old new (Set asked.pres drafts) (fault_of error)
+error_unanswered time asked old new (Missing key at) drafts free are same e l g session = unplaced_stuck asked old new session drafts line.Memory free are l g.own (omega (arith, g.leaves)) (omega (arith, g.faults))
+error_unanswered time asked old new (Exists key tx at) drafts free are same e l g session = unplaced_stuck asked old new session drafts line.Memory free are l g.own (omega (arith, g.leaves)) (omega (arith, g.faults))
+error_unanswered time asked old new (Modified key tx at) drafts free are same e l g session = unplaced_stuck asked old new session drafts line.Memory free are l g.own (omega (arith, g.leaves)) (omega (arith, g.faults))
+error_unanswered time asked old new (Full at) drafts free are same e l g session = unplaced_stuck asked old new session drafts line.Memory free are l g.own (omega (arith, g.leaves)) (omega (arith, g.faults))
+error_unanswered time asked old new (DiskFault None) drafts free are same e l g session = unplaced_stuck asked old new session drafts line.DiskFault free are l g.own (omega (arith, g.leaves)) e.1
+error_unanswered time asked old new (DiskFault (Some n)) drafts free are same e l g session = late_stuck time asked old new n session drafts line.DiskFault free are same e.0 l g.own (omega (arith, g.leaves)) e.1
+error_unanswered time asked old new (Stopped faults None) drafts free are same e l g session =
+    unplaced_stuck asked old new session drafts line.DiskFault free are l g.own (omega (arith, g.leaves)) (let some = e.1.some in let known = e.1.known in omega (arith, some, known))
+error_unanswered time asked old new (Stopped faults (Some n)) drafts free are same e l g session =
+    late_stuck time asked old new n session drafts line.DiskFault free are same e.0 l g.own (omega (arith, g.leaves)) (let some = e.1.some in let known = e.1.known in omega (arith, some, known))
+error_unanswered time asked old new (Memory None) drafts free are same e l g session = unplaced_stuck asked old new session drafts line.Memory free are l g.own (omega (arith, g.leaves)) (omega (arith, g.faults))
+error_unanswered time asked old new (Memory (Some n)) drafts free are same e l g session =
+    late_stuck time asked old new n session drafts line.Memory free are same e l g.own (omega (arith, g.leaves)) (omega (arith, g.faults))

@@ -1,0 +1,26 @@
+use Rattle.std.proofs.Common.{rules, ◌≡◌, List, subst}
+use Rattle.im_script.specs.declared.commands.Line.{Line}
+use Rattle.im_session.specs.Runs.{HasRun, start_of}
+use Rattle.im_session.proofs.lines.run_session.Goals as goal
+
+-- the session without its lines is ready too
+pub run_lines-requires : goal.run_lines-requires
+run_lines-requires g c =
+    let r = c.requires.ready in
+    record { ready = record { pass = r.pass; weight = r.weight; none = r.none; linked_none = r.linked_none; told_none = r.told_none; texts = r.texts } }
+
+pub returns : goal.returns
+returns g c =
+    let r = c.run_lines.ensures in
+    let lines : c.replace-lines.result.items ≡ c.args.session.now.lines.items = search rules in
+    record {
+      done = record {
+        pass = r.pass.0;
+        weight = r.pass.1;
+        number = r.name;
+        seen = r.seen;
+        answers = r.ran.0;
+        texts = r.ran.1;
+        ran = subst (λ (ls : List Line). HasRun g.N.TipName.digest (start_of c.args.session.now) c.run_lines.new.session.pass ls r.ran.0 c.run_lines.result) lines r.ran.2;
+      };
+    }

@@ -1,0 +1,50 @@
+-- What the answer of one command, or want of one, makes of a pass.
+use Rattle.std.specs.Prelude.{◌≡◌, ℕ, List}
+use Rattle.im_digest.specs.Digests.{Hash}
+use Rattle.im_report.specs.Report.{Answered}
+use Rattle.im_script.specs.declared.commands.Command.{Command}
+use Rattle.im_script.specs.declared.commands.Line.{Line}
+use Rattle.im_session.specs.Lines.{IsStep, IsStuck}
+use Rattle.im_session.specs.declared.answers.Answer.{Answer}
+use Rattle.im_session.specs.declared.errors.LineError.{LineError}
+use Rattle.im_session.specs.declared.errors.LineError.TheVariants as line
+use Rattle.im_session.specs.declared.errors.LineError.TheVariants.{Memory}
+use Rattle.im_report.specs.Reads.{place_reply}
+use Rattle.im_store.specs.declared.errors.CommitError.{CommitError}
+use Rattle.im_store.specs.declared.errors.CommitError.TheVariants.{DiskFault, Exists, Full, Missing, Modified, Stopped}
+use Rattle.im_store.specs.declared.errors.CommitError.TheVariants as fails
+use Rattle.im_versions.specs.declared.refusals.PlaceError.TheVariants as place
+use Rattle.im_table.specs.Known.{KnownPass}
+
+-- a line of whatever session, with this command, and its answer
+abbrev pub as_answered : List ℕ → Command → Answer → Answered
+as_answered session command answer = record { line = record { session = session; command = command }; number = answer.number; reply = answer.reply.items }
+
+-- the command was answered; where its text can't be kept for want of memory, it is as if it had got no answer
+pub record IsAnswered (hash : Hash) (old new : KnownPass) (command : Command) (answer : Answer) : Type 0 where
+  pub step : (session : List ℕ) → IsStep hash old new (as_answered session command answer)
+  pub else_stuck : (session : List ℕ) → IsStuck old new (record { session = session; command = command }) Memory
+
+-- the reply of a commit that was refused behind so many transactions, which are its number; the device's answers and want of memory have none
+abbrev pub IsRefusal : CommitError → Answer → Type 0
+IsRefusal (Missing key at) answer = (answer.number ≡ at) × (answer.reply.items ≡ place_reply (place.Missing key))
+IsRefusal (Exists key tx at) answer = (answer.number ≡ at) × (answer.reply.items ≡ place_reply (place.Exists key tx))
+IsRefusal (Modified key tx at) answer = (answer.number ≡ at) × (answer.reply.items ≡ place_reply (place.Modified key tx))
+IsRefusal (Full at) answer = (answer.number ≡ at) × (answer.reply.items ≡ place_reply place.Full)
+IsRefusal (DiskFault placed) answer = ⊥
+IsRefusal (Stopped faults placed) answer = ⊥
+IsRefusal (fails.Memory placed) answer = ⊥
+
+-- why a commit without a receipt has no reply
+abbrev pub fault_of : CommitError → LineError
+fault_of (Missing key at) = Memory
+fault_of (Exists key tx at) = Memory
+fault_of (Modified key tx at) = Memory
+fault_of (Full at) = Memory
+fault_of (DiskFault placed) = line.DiskFault
+fault_of (Stopped faults placed) = line.DiskFault
+fault_of (fails.Memory placed) = Memory
+
+-- it got no answer
+abbrev pub IsUnanswered : KnownPass → KnownPass → Command → LineError → Type 0
+IsUnanswered old new command why = (session : List ℕ) → IsStuck old new (record { session = session; command = command }) why

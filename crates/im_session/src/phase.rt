@@ -1,0 +1,233 @@
+// Sessions on threads of their own, beside a linker and an indexer.
+ghost use Rattle.std.specs.Prelude.{◌≡◌, ◌<◌, ◌≤◌, ℕ, false, length, slice_index_or};
+ghost use Rattle.std.specs.List.{All};
+ghost use Rattle.im_session.specs.Phases.{AreDone};
+ghost use Rattle.im_session.specs.Runs.{IsDone, IsHelper, IsIdle, IsReady};
+ghost use denote.Param.Send.{IsSync};
+
+use crate::lines::run_session;
+use crate::sessions::Session;
+use im_digest::Hash32;
+use im_disk::disk::Disk;
+use im_edge::clock::Clock;
+use im_edge::gate::Gate;
+use im_store::store::Store;
+use im_table::law::Free;
+use im_table::pass::Pass;
+use im_table::tip_name::TipName;
+use std::alloc::Global;
+use std::sync::Wait;
+use std::sync::atomic::{AtomicBool, Ordering};
+use std::thread;
+use std::thread::{Threads, join};
+
+/// The most sessions that run at a time.
+pub(crate) const MOST_SESSIONS: usize = 8;
+
+// How many leaves the linker adds at a time.
+const LINKED_AT_ONCE: u64 = 16;
+
+// How many transactions the indexer takes at a time.
+const INDEXED_AT_ONCE: u64 = 64;
+
+/// What runs beside the sessions.
+#[derive(Drop)]
+pub(crate) struct Helpers {
+    /// The pass of the linker.
+    pub(crate) linker: Pass,
+    /// The pass of the indexer.
+    pub(crate) indexer: Pass,
+    /// Whether the linker links: else lines alone do.
+    pub(crate) links: bool,
+}
+
+// Links again and again, until all sessions have ended or memory runs out.
+fn link_on<H: Hash32, D: Disk, C: Clock, N: TipName, R: Wait>(
+    rt: &R,
+    alloc: Global,
+    store: &Store<'_, H, D, C, Free, N>,
+    ended: &AtomicBool,
+    mut pass: Pass,
+) -> Pass
+    requires { IsHelper N.table pass }
+    ensures { IsHelper N.table result }
+{
+    for _ in rt.forever() {
+        if ended.load(Ordering::SeqCst) {
+            break;
+        }
+        if store.link(rt, alloc, &mut pass, LINKED_AT_ONCE).is_err() {
+            break;
+        }
+        thread::yield_now();
+    }
+    pass
+}
+
+// Indexes again and again, until all sessions have ended or memory runs out.
+fn index_on<H: Hash32, D: Disk, C: Clock, N: TipName, R: Wait>(
+    rt: &R,
+    alloc: Global,
+    store: &Store<'_, H, D, C, Free, N>,
+    ended: &AtomicBool,
+    mut pass: Pass,
+) -> Pass
+    requires { IsIdle N.table pass }
+    ensures { IsIdle N.table result }
+{
+    for _ in rt.forever() {
+        if ended.load(Ordering::SeqCst) {
+            break;
+        }
+        if store.index(rt, alloc, &mut pass, INDEXED_AT_ONCE).is_err() {
+            break;
+        }
+        thread::yield_now();
+    }
+    pass
+}
+
+// The linker's work: none where lines alone link.
+fn link_where<H: Hash32, D: Disk, C: Clock, N: TipName, R: Wait>(
+    rt: &R,
+    alloc: Global,
+    store: &Store<'_, H, D, C, Free, N>,
+    ended: &AtomicBool,
+    pass: Pass,
+    links: bool,
+) -> Pass
+    requires { IsIdle N.table pass }
+    ensures helper { IsHelper N.table result }
+    ensures idle { links ≡ false → IsIdle N.table result }
+{
+    if links {
+        link_on(rt, alloc, store, ended, pass)
+    } else {
+        pass
+    }
+}
+
+// Each session runs its lines on a thread of its own; where a thread can't be started, the caller runs them.
+fn run_sessions<
+    H: Hash32 + Sync,
+    D: Disk + Send,
+    C: Clock + Send,
+    G: Gate + Sync,
+    N: TipName + Send + Sync,
+    R: Threads + Wait + Sync,
+>(rt: &R, alloc: Global, gate: &G, store: &Store<'_, H, D, C, Free, N>, sessions: &mut [Session])
+    requires { All (IsReady N.table) sessions.old }
+    ensures len { length sessions.new ≡ length sessions.old }
+    ensures done { (i : ℕ) (d : _) → i < length sessions.old → IsDone N.digest N.table (slice_index_or sessions.old i d) (slice_index_or sessions.new i d) }
+{
+    thread::for_each_mut(
+        rt,
+        sessions,
+        MOST_SESSIONS,
+        &|_, session: &mut Session|
+            requires { IsReady N.table session.old }
+            ensures { IsDone N.digest N.table session.old session.new }
+        { run_session(rt, alloc, gate, store, session) },
+    );
+}
+
+// Runs the sessions, and tells the helpers once all have ended.
+fn run_all<
+    H: Hash32 + Sync,
+    D: Disk + Send,
+    C: Clock + Send,
+    G: Gate + Sync,
+    N: TipName + Send + Sync,
+    R: Threads + Wait + Sync,
+>(
+    rt: &R,
+    alloc: Global,
+    gate: &G,
+    store: &Store<'_, H, D, C, Free, N>,
+    ended: &AtomicBool,
+    mut sessions: Vec<Session>,
+) -> Vec<Session>
+    requires { All (IsReady N.table) sessions.items }
+    ensures { AreDone N.digest N.table sessions.items result.items }
+{
+    run_sessions(rt, alloc, gate, store, sessions.as_mut_slice());
+    ended.store(true, Ordering::SeqCst);
+    sessions
+}
+
+// The linker and the indexer, side by side.
+fn help<
+    H: Hash32 + Sync,
+    D: Disk + Send,
+    C: Clock + Send,
+    N: TipName + Send + Sync,
+    R: Threads + Wait + Sync,
+>(
+    rt: &R,
+    alloc: Global,
+    store: &Store<'_, H, D, C, Free, N>,
+    ended: &AtomicBool,
+    helpers: Helpers,
+) -> (Pass, Pass)
+    requires { IsIdle N.table helpers.linker × IsIdle N.table helpers.indexer }
+    ensures linker { IsHelper N.table result.0 }
+    ensures idle { helpers.links ≡ false → IsIdle N.table result.0 }
+    ensures indexer { IsIdle N.table result.1 }
+{
+    let Helpers {
+        linker,
+        indexer,
+        links,
+    } = helpers;
+    join(
+        rt,
+        move || -> Pass
+            requires { IsIdle N.table linker }
+            ensures { IsHelper N.table result × (links ≡ false → IsIdle N.table result) }
+        { link_where(rt, alloc, store, ended, linker, links) },
+        move || -> Pass
+            requires { IsIdle N.table indexer }
+            ensures { IsIdle N.table result }
+        { index_on(rt, alloc, store, ended, indexer) },
+    )
+}
+
+/// Runs the sessions of a phase, each on a thread of its own, and beside them the linker and the indexer until all sessions have ended. No
+/// thread is needed: `join` can't be refused, and where one can't be started its work is done by the caller, the sessions' first.
+pub(crate) fn run_phase<
+    H: Hash32 + Sync,
+    D: Disk + Send,
+    C: Clock + Send,
+    G: Gate + Sync,
+    N: TipName + Send + Sync,
+    R: Threads + Wait + Sync,
+>(
+    rt: &R,
+    alloc: Global,
+    gate: &G,
+    store: &Store<'_, H, D, C, Free, N>,
+    sessions: Vec<Session>,
+    helpers: Helpers,
+) -> (Vec<Session>, Pass, Pass)
+    requires sessions { All (IsReady N.table) sessions.items }
+    requires helpers { IsIdle N.table helpers.linker × IsIdle N.table helpers.indexer }
+    ensures done { AreDone N.digest N.table sessions.items result.0.items }
+    ensures linker { IsHelper N.table result.1 }
+    ensures idle { helpers.links ≡ false → IsIdle N.table result.1 }
+    ensures indexer { IsIdle N.table result.2 }
+{
+    let flag = AtomicBool::new(false);
+    let ended = &flag;
+    let ((linker, indexer), sessions) = join(
+        rt,
+        move || -> (Pass, Pass)
+            requires { IsIdle N.table helpers.linker × IsIdle N.table helpers.indexer × IsSync R.row }
+            ensures { IsHelper N.table result.0 × (helpers.links ≡ false → IsIdle N.table result.0) × IsIdle N.table result.1 }
+        { help(rt, alloc, store, ended, helpers) },
+        move || -> Vec<Session>
+            requires { All (IsReady N.table) sessions.items }
+            ensures { AreDone N.digest N.table sessions.items result.items }
+        { run_all(rt, alloc, gate, store, ended, sessions) },
+    );
+    (sessions, linker, indexer)
+}

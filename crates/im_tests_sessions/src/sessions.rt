@@ -1,0 +1,161 @@
+//! Sessions of a script, through the top call: that they run side by side, and that what they place is told once each.
+
+use im_app::status::{Done, Status};
+use im_app::top::top;
+use im_digest::Sum;
+use im_disk::memory::MemDisk;
+use im_edge::clock::FixedClock;
+use im_edge::gate::{Gate, OpenGate, Point};
+use im_edge::keeper::MemKeeper;
+use im_edge::sink::Writing;
+use im_edge::source::Reading;
+use std::alloc::Global;
+use std::sync::Wait;
+use std::sync::atomic::{AtomicBool, Ordering};
+use std::test::Fail;
+use std::thread;
+use std::thread::Threads;
+
+// How often the session that comes first looks whether the other one was answered.
+const MOST_TURNS: u64 = 100_000_000;
+
+// The gate of two sessions with one line each. It holds up the first line that comes, until the other one was answered.
+struct Meeting {
+    came: AtomicBool,
+    answered: [AtomicBool; 2],
+    met: AtomicBool,
+}
+
+impl Meeting {
+    fn new() -> Meeting {
+        Meeting {
+            came: AtomicBool::new(false),
+            answered: [AtomicBool::new(false), AtomicBool::new(false)],
+            met: AtomicBool::new(false),
+        }
+    }
+
+    // Waits until this session's line was answered, for so many turns at most, and notes that it was.
+    fn wait_for(&self, session: usize) {
+        for _ in 0..MOST_TURNS {
+            if self.answered[session].load(Ordering::SeqCst) {
+                self.met.store(true, Ordering::SeqCst);
+                return;
+            }
+            thread::yield_now();
+        }
+    }
+}
+
+impl Gate for Meeting {
+    fn pause(&self, point: Point) {
+        match point {
+            Point::Before { session, .. } => {
+                let is_later = self.came.swap(true, Ordering::SeqCst);
+                if !is_later {
+                    self.wait_for(1 - usize::from(session.min(1)));
+                }
+            }
+            Point::After { session, .. } => {
+                self.answered[usize::from(session.min(1))].store(true, Ordering::SeqCst);
+            }
+        }
+    }
+}
+
+// Runs a script over an empty disk in memory, with a linker: how it ended, and what it wrote.
+fn ran<G: Gate + Sync, R: Threads + Wait + Sync>(
+    rt: &R,
+    alloc: Global,
+    script: &[u8],
+    gate: &G,
+) -> Result<(Status, Vec<u8>), Fail> {
+    let mut words = Vec::new(alloc);
+    for word in ["im", "run"] {
+        words.push(String::from_str(alloc, word)?)?;
+    }
+    let mut sink = Writing::new(Vec::new(alloc));
+    let Done { status, disk, .. } = top(
+        rt,
+        alloc,
+        words.as_slice(),
+        &Sum,
+        &mut Reading::new(script),
+        &mut sink,
+        MemDisk::new(alloc, Vec::new(alloc))?,
+        &mut MemKeeper::new(alloc),
+        FixedClock { time: 0 },
+        gate,
+    );
+    drop(disk);
+    let Writing { inner, .. } = sink;
+    Ok((status, inner))
+}
+
+// Were sessions run one behind the other, the line that is held up would hold up the other one, and nothing would be met.
+#[test]
+fn two_sessions_run_side_by_side(rt: HostRuntime) -> Result<(), Fail> {
+    let gate = Meeting::new();
+    let (status, report) = ran(&rt, rt.alloc(), b"a: set k=1\nb: set j=2\n", &gate)?;
+    let report = report.as_slice();
+    let is_told = report == b"a 1 tx 1\nb 2 tx 2\n".as_slice()
+        || report == b"a 2 tx 2\nb 1 tx 1\n".as_slice();
+    if status == Status::Ok && is_told && gate.met.load(Ordering::SeqCst) {
+        Ok(())
+    } else {
+        Err(Fail::new("the sessions didn't meet"))
+    }
+}
+
+// The script of sessions a and b, fifty lines each, by turns.
+fn fifty_each(alloc: Global) -> Result<Vec<u8>, Fail> {
+    let mut script = Vec::new(alloc);
+    for _ in 0..50 {
+        script.extend_from_slice(b"a: set k=1\nb: set k=1\n")?;
+    }
+    Ok(script)
+}
+
+// The number before a reply `tx` and behind it, where it is one of this session.
+fn number_of(line: &str, session: &str) -> Option<u64> {
+    let (name, rest) = line.split_once(' ')?;
+    let (number, reply) = rest.split_once(' ')?;
+    let told = reply.strip_prefix("tx ")?;
+    if name != session || told != number {
+        return None;
+    }
+    number.parse::<u64>().ok()
+}
+
+// Whether the replies of a session rise, and where each number is new it is noted.
+fn rises(report: &str, session: &str, first: usize, seen: &mut [bool]) -> bool {
+    let mut last = 0;
+    for line in report.lines().skip(first).step_by(2) {
+        let Some(number) = number_of(line, session) else {
+            return false;
+        };
+        if number <= last || number > 100 || seen[number as usize] {
+            return false;
+        }
+        seen[number as usize] = true;
+        last = number;
+    }
+    true
+}
+
+#[test]
+fn each_of_a_hundred_transactions_is_told_once(rt: HostRuntime) -> Result<(), Fail> {
+    let alloc = rt.alloc();
+    let (status, report) = ran(&rt, alloc, &fifty_each(alloc)?, &OpenGate)?;
+    let Ok(report) = str::from_utf8(report.as_slice()) else {
+        return Err(Fail::new("no text"));
+    };
+    let mut seen = [false; 101];
+    let risen = rises(report, "a", 0, &mut seen) && rises(report, "b", 1, &mut seen);
+    let all = seen.iter().skip(1).all(|is_told| *is_told);
+    if status == Status::Ok && report.lines().count() == 100 && risen && all {
+        Ok(())
+    } else {
+        Err(Fail::new("a number is told twice, or falls"))
+    }
+}
