@@ -1,33 +1,38 @@
 -- What the commands that show headers and proofs are answered.
-use Rattle.std.proofs.Common.{◌≡◌, ◌⊎◌, ◌<◌, ◌≤◌, ℕ, List, length, map, slice_index_or, take, Option, Some, None, codes, false, true, unwrap_or, refl, ap, ap₂, sym, ◌∙◌, subst, arith, inl, inr}
+use Rattle.std.proofs.Common.{◌≡◌, ◌⊎◌, ◌<◌, ◌≤◌, ℕ, List, [], length, map, slice_index_or, take, Option, Some, None, Result, IfErr, IsErrAnd, codes, false, true, unwrap_or, refl, ap, ap₂, sym, ◌∙◌, subst, arith, inl, inr}
 use Rattle.std.proofs.lemmas.Bool.{both_ways}
 use Rattle.std.proofs.lemmas.List.{length-take-le}
 use Rattle.std.specs.Str.{bytes_eq}
 use Rattle.im_accept.proofs.ShownLemmas.{no-entry-closed}
 use Rattle.im_accept.specs.Messages.{IsReadBack, item_between}
 use Rattle.im_digest.specs.Digests.{Hash}
-use Rattle.im_dual.proofs.FrontLemmas.{front-anchor, front-between}
-use Rattle.im_model.proofs.HeaderLemmas.{header-prefix}
 use Rattle.im_model.specs.Entries.{entry_digest}
 use Rattle.im_model.specs.History.{header_of, transaction_of}
 use Rattle.im_model.specs.declared.entries.Entry.{Entry}
 use Rattle.im_model.specs.declared.headers.Header.{Header}
 use Rattle.im_model.specs.declared.transactions.Transaction.{Transaction}
-use Rattle.im_octet.proofs.Common.{bytes-other}
 use Rattle.im_proof.specs.Between.{anchor_between, dual_between, no_entry}
 use Rattle.im_proof.specs.Built.{path_of}
 use Rattle.im_proof.specs.declared.proofs.DualProof.{DualProof}
-use Rattle.im_report.proofs.PlacedLemmas.{beyond-not-placed, message-not-placed, no-entry-not-placed, order-not-placed, other-letter, shown-not-placed}
-use Rattle.im_report.specs.Replies.{advance_reply, beyond_reply, between_reply, header_reply, item_reply, item_shown, no_entry_reply, order_reply, prove_reply, shown_header, state_reply, tx_reply}
-use Rattle.im_report.specs.Report.{IsAnswer}
+use Rattle.im_report.proofs.PlacedLemmas.{beyond-not-placed, message-not-placed, no-entry-not-placed, other-letter, shown-not-placed}
+use Rattle.im_report.specs.Replies.{advance_reply, beyond_reply, header_reply, item_reply, item_shown, no_entry_reply, prove_reply, shown_header, state_reply, tx_reply}
+use Rattle.im_script.specs.declared.commands.Command.{Command}
 use Rattle.im_script.specs.declared.commands.Command.TheVariants as asks
 use Rattle.im_session.proofs.ProvedLemmas.{advance_said, anchor_taken, dual_taken, entries_seen, few_taken, header_beyond, header_said, header_zero, item_said, no_item_said, prove_said, refused_said, state_empty, state_said, state_taken}
-use Rattle.im_session.proofs.ShowLemmas.{closed_again, shown_answered}
-use Rattle.im_session.specs.Answered.{IsAnswered}
+use Rattle.im_session.proofs.ShowLemmas.{closed_again, short_unanswered, shown_answered}
+use Rattle.im_session.specs.Answered.{IsAnswered, IsUnanswered}
 use Rattle.im_session.specs.Lines.{MayBecome}
 use Rattle.im_session.specs.Shown.{IsRefusedBetween}
 use Rattle.im_session.specs.declared.answers.Answer.{Answer}
+use Rattle.im_session.specs.declared.errors.LineError.{LineError}
+use Rattle.im_session.specs.declared.errors.LineError.TheVariants.{Memory}
+use Rattle.im_store.proofs.GainLemmas.{gains_before}
 use Rattle.im_store.specs.Gains.{Gains}
+use Rattle.im_store.specs.Loads.{SawDurable}
+use Rattle.im_store.specs.Reading.{AnswersAdvance, AnswersDual, AnswersEntry, AnswersHeader, AreDurable, HasFewer}
+use Rattle.im_store.specs.declared.answers.Advance.{Advance}
+use Rattle.im_store.specs.declared.answers.ProvedEntry.{ProvedEntry}
+use Rattle.im_table.proofs.PassLemmas.{later_both}
 use Rattle.im_table.specs.Histories.{history_of}
 use Rattle.im_table.specs.Known.{KnownPass}
 use Rattle.im_table.specs.Passes.{Later}
@@ -46,6 +51,19 @@ pub record HasLooked (old mid new : KnownPass) (number : ℕ) : Type 0 where
   pub then_gains : Gains [] 0 0 mid new
   pub is : mid.view.least.durable ≡ number
   pub above : old.view.least.durable ≤ number
+
+-- by the look, and by the steps that followed
+pub looked : (old mid new : KnownPass) (number : ℕ) → Later old mid → Gains [] 0 0 old mid → SawDurable old mid number × (mid.view.least.durable ≡ number) × (old.view.least.durable ≤ number) → Later mid new → Gains [] 0 0 mid new
+    → HasLooked old mid new number
+looked old mid new number l g saw m k = record { first = l; then = m; first_gains = g; then_gains = k; is = saw.1; above = saw.2 }
+
+pub looked_later : (old mid new : KnownPass) (number : ℕ) → HasLooked old mid new number → Later old new
+looked_later old mid new number l = later_both old mid new l.first l.then
+
+-- where memory ran out behind it
+pub looked_short : (old mid new : KnownPass) (number : ℕ) (command : Command) (given : Result Answer LineError) → HasLooked old mid new number → IsErrAnd given (λ why. why ≡ Memory) → IfErr given (λ why. IsUnanswered old new command why)
+looked_short old mid new number command given l short =
+    short_unanswered old new command given short (looked_later old mid new number l) (gains_before 0 0 old mid new l.first_gains l.then_gains)
 
 looked_durable : (old mid new : KnownPass) (number : ℕ) → HasLooked old mid new number → number ≤ new.view.least.durable
 looked_durable old mid new number l = let up = l.then.durable in omega (arith, l.is, up)
@@ -71,6 +89,12 @@ pub header_answered : (hash : Hash) (old mid new : KnownPass) (k : ℕ) (answer 
 header_answered hash old mid new k answer l says =
     shown_answered hash old mid new (asks.Header k) answer l.first l.then l.first_gains l.then_gains l.is l.above (λ n f. refl) (header_unplaced hash new answer.number k answer.reply.items says)
     (header_each hash new answer.number k answer.reply.items (looked_durable old mid new answer.number l) says) (λ items m. tt)
+
+-- where the store gave the header, and it is shown
+pub header_told : (hash : Hash) (old mid new : KnownPass) (k : ℕ) (answer : Answer) (header : Header) → HasLooked old mid new answer.number → 1 ≤ k → k ≤ answer.number → AnswersHeader hash mid new k header
+    → answer.reply.items ≡ shown_header hash header → IsAnswered hash old new (asks.Header k) answer
+header_told hash old mid new k answer header l some within a e =
+    header_answered hash old mid new k answer l (inr (inr (some, within, a.durable.seen, e ∙ ap (shown_header hash) a.header_is)))
 
 -- the reply to `state`
 abbrev pub SaysState : Hash → KnownPass → ℕ → List ℕ → Type 0
@@ -98,6 +122,12 @@ state_answered hash old mid new answer l says =
     let durable = looked_durable old mid new answer.number l in
     shown_answered hash old mid new asks.State answer l.first l.then l.first_gains l.then_gains l.is l.above (λ n f. refl) (state_unplaced hash new answer.number answer.reply.items says)
     (state_each hash new answer.number answer.reply.items durable says) (state_again hash new answer.number answer.reply.items durable says)
+
+pub state_told : (hash : Hash) (old mid new : KnownPass) (answer : Answer) (header : Header) → HasLooked old mid new answer.number → 1 ≤ answer.number → AnswersHeader hash mid new answer.number header
+    → answer.reply.items ≡ text (says.State header) → HasMessage answer.reply.items (says.State header) → IsAnswered hash old new asks.State answer
+state_told hash old mid new answer header l some a e again =
+    state_answered hash old mid new answer l
+    (inr (some, a.durable.seen, e ∙ ap (λ (h : Header). text (says.State h)) a.header_is, subst (λ (h : Header). HasMessage answer.reply.items (says.State h)) a.header_is again))
 
 -- two that are in order, and that the pass has seen
 pub record AreSeen (p : KnownPass) (n s t : ℕ) : Type 0 where
@@ -134,6 +164,16 @@ proof_answered hash old mid new s t answer l says =
     shown_answered hash old mid new (asks.Prove s t) answer l.first l.then l.first_gains l.then_gains l.is l.above (λ n f. refl) (proof_unplaced hash new answer.number s t answer.reply.items says)
     (proof_each hash new answer.number s t answer.reply.items durable says) (proof_again hash new answer.number s t answer.reply.items durable says)
 
+-- two that the store found durable
+are_seen : (mid new : KnownPass) (n s t : ℕ) → t ≤ n → AreDurable mid new s t → AreSeen new n s t
+are_seen mid new n s t within a = record { some = a.some; order = a.order; within = within; seen = a.seen }
+
+pub proof_told : (hash : Hash) (old mid new : KnownPass) (s t : ℕ) (answer : Answer) (dual : DualProof) → HasLooked old mid new answer.number → t ≤ answer.number → AnswersDual hash mid new s t dual
+    → answer.reply.items ≡ text (says.Dual dual) → HasMessage answer.reply.items (says.Dual dual) → IsAnswered hash old new (asks.Prove s t) answer
+proof_told hash old mid new s t answer dual l within a e again =
+    proof_answered hash old mid new s t answer l
+    (inr (are_seen mid new answer.number s t within a.durable, e ∙ ap (λ (d : DualProof). text (says.Dual d)) a.dual_is, subst (λ (d : DualProof). HasMessage answer.reply.items (says.Dual d)) a.dual_is again))
+
 -- the reply to `advance`
 abbrev pub advance_of : Hash → List Transaction → ℕ → ℕ → Message
 advance_of hash history s t = says.Advance (dual_between hash history s t) (anchor_between hash history s t)
@@ -165,6 +205,12 @@ advance_answered hash old mid new s t answer l says =
     let durable = looked_durable old mid new answer.number l in
     shown_answered hash old mid new (asks.Advance s t) answer l.first l.then l.first_gains l.then_gains l.is l.above (λ n f. refl) (advance_unplaced hash new answer.number s t answer.reply.items says)
     (advance_each hash new answer.number s t answer.reply.items durable says) (advance_again hash new answer.number s t answer.reply.items durable says)
+
+pub advance_told : (hash : Hash) (old mid new : KnownPass) (s t : ℕ) (answer : Answer) (advance : Advance) → HasLooked old mid new answer.number → t ≤ answer.number → AnswersAdvance hash mid new s t advance
+    → answer.reply.items ≡ text (says.Advance advance.dual advance.anchor) → HasMessage answer.reply.items (says.Advance advance.dual advance.anchor) → IsAnswered hash old new (asks.Advance s t) answer
+advance_told hash old mid new s t answer advance l within a e again =
+    let same : says.Advance advance.dual advance.anchor ≡ advance_of hash (history_of new.view.seen) s t = ap₂ (λ (d : DualProof) (x : Option DualProof). says.Advance d x) a.dual_is a.anchor_is in
+    advance_answered hash old mid new s t answer l (inr (are_seen mid new answer.number s t within a.durable, e ∙ ap text same, subst (HasMessage answer.reply.items) same again))
 
 -- the reply to `item`
 abbrev pub SaysItem : Hash → KnownPass → ℕ → ℕ → ℕ → ℕ → List ℕ → Type 0
@@ -223,3 +269,27 @@ pub item_answered : (hash : Hash) (old mid new : KnownPass) (t i : ℕ) (under :
     → SaysItem hash new answer.number t i (unwrap_or under answer.number) answer.reply.items → IsAnswered hash old new (asks.Item t i under) answer
 item_answered hash old mid new t i None answer l says = item_answered_last hash old mid new t i answer l says
 item_answered hash old mid new t i (Some s) answer l says = item_answered_named hash old mid new t i s answer l says
+
+-- the store gave the entry
+pub item_told : (hash : Hash) (old mid new : KnownPass) (t i : ℕ) (under : Option ℕ) (answer : Answer) (item : ProvedEntry) → HasLooked old mid new answer.number → unwrap_or under answer.number ≤ answer.number
+    → AnswersEntry hash mid new t i (unwrap_or under answer.number) item
+    → answer.reply.items ≡ text (says.Item item.dual item.entry item.index item.path) → HasMessage answer.reply.items (says.Item item.dual item.entry item.index item.path) → IsAnswered hash old new (asks.Item t i under) answer
+item_told hash old mid new t i under answer item l within a e again =
+    let s : ℕ = unwrap_or under answer.number in
+    let h : List Transaction = history_of new.view.seen in
+    let dual : DualProof = dual_between hash h t s in
+    let entry : Entry = slice_index_or (transaction_of h t).entries i no_entry in
+    let same : says.Item item.dual item.entry item.index item.path ≡ item_between hash h t i s =
+    ap (λ (d : DualProof). says.Item d item.entry item.index item.path) a.dual_is
+    ∙ (ap (λ (x : Entry). says.Item dual x item.index item.path) a.entry_is
+    ∙ (ap (λ (j : ℕ). says.Item dual entry j item.path) a.index_is ∙ ap (λ (p : List (List ℕ)). says.Item dual entry i p) a.path_is)) in
+    item_answered hash old mid new t i under answer l
+    (inr (inr (are_seen mid new answer.number t s within a.durable, a.within, e ∙ ap text same, subst (HasMessage answer.reply.items) same again)))
+
+-- the transaction has fewer entries
+pub no_item_told : (hash : Hash) (old mid new : KnownPass) (t i : ℕ) (under : Option ℕ) (answer : Answer) (width : ℕ) → HasLooked old mid new answer.number → unwrap_or under answer.number ≤ answer.number
+    → HasFewer mid new t i (unwrap_or under answer.number) width → answer.reply.items ≡ no_entry_reply width → IsAnswered hash old new (asks.Item t i under) answer
+no_item_told hash old mid new t i under answer width l within a e =
+    let few : length (transaction_of (history_of new.view.seen) t).entries ≤ i = omega (arith, a.width_is, a.fewer) in
+    item_answered hash old mid new t i under answer l
+    (inr (inl (are_seen mid new answer.number t (unwrap_or under answer.number) within a.durable, few, e ∙ ap no_entry_reply a.width_is)))

@@ -1,5 +1,5 @@
 -- What a commit's receipt or error makes of its line.
-use Rattle.std.proofs.Common.{◌≡◌, ◌≤◌, ◌+◌, ◌++◌, ◌∷◌, ℕ, ℤ, List, [], map, false, Option, Some, None, refl, ap, sym, ◌∙◌, subst, arith, append-nil}
+use Rattle.std.proofs.Common.{◌≡◌, ◌≤◌, ◌∷◌, ℕ, ℤ, List, [], map, false, Option, Some, None, ap, sym, ◌∙◌, subst, arith}
 use Rattle.std.specs.Str.{bytes_eq}
 use Rattle.im_digest.specs.Digests.{Hash}
 use Rattle.im_draft.specs.Drafts.{entry_of, AreEntries, AreFree}

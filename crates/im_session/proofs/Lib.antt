@@ -20,6 +20,7 @@ pub mod WriteLemmas
 pub mod ShowLemmas
 pub mod CommitLemmas
 pub mod ProvedLemmas
+pub mod RefusedLemmas
 pub mod AnswerLemmas
 pub mod ReadLemmas
 pub mod PlayedLemmas

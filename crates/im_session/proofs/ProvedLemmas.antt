@@ -2,12 +2,10 @@
 use Rattle.std.proofs.Common.{◌≡◌, ◌<◌, ◌≤◌, ◌-◌, ◌==◌, ◌||◌, ℕ, List, Bool, true, false, if◌then◌else◌, length, take, nat_lt, Option, ap, ap₂, sym, ◌∙◌, subst, arith, codes}
 use Rattle.std.proofs.lemmas.Bool.{le-ltb, lt-ltb, ne_eqb}
 use Rattle.std.proofs.lemmas.List.{get_or-take, length-take-le, take_all}
-use Rattle.std.specs.Str.{bytes_eq}
-use Rattle.im_accept.specs.Messages.{IsReadBack, item_between}
 use Rattle.im_digest.specs.Digests.{Hash}
 use Rattle.im_dual.proofs.FrontLemmas.{front-anchor, front-between}
 use Rattle.im_model.proofs.HeaderLemmas.{header-prefix}
-use Rattle.im_model.specs.History.{header_of, no_transaction, transaction_of, IsHistory}
+use Rattle.im_model.specs.History.{header_of, no_transaction, transaction_of}
 use Rattle.im_model.specs.declared.entries.Entry.{Entry}
 use Rattle.im_model.specs.declared.headers.Header.{Header}
 use Rattle.im_model.specs.declared.transactions.Transaction.{Transaction}
@@ -54,7 +52,7 @@ anchor_seen hash p items s t m some order within =
 pub few_taken : (p : KnownPass) (items : List LogItem) (n : ℕ) → MayBecome p items → n ≤ p.view.least.durable → n ≤ length (history_of items)
 few_taken p items n m durable = omega (arith, durable, m.enough, history_length items)
 
-not_zero : (k : ℕ) → 1 ≤ k → (k == 0) ≡ false
+pub not_zero : (k : ℕ) → 1 ≤ k → (k == 0) ≡ false
 not_zero k some = ne_eqb k 0 (λ e. let no : ⊥ = omega (arith, some, e) in no)
 
 -- what it has seen stands in the first n of each list, where these are durable

@@ -1,9 +1,18 @@
--- What is read beyond the last transaction.
-use Rattle.std.proofs.Common.{◌≡◌, ◌<◌, ◌∙◌, ℕ, List, length, arith, ap, subst, sym, inl, Option, Some}
-use Rattle.std.specs.Prelude.{IfSome}
+-- What is read behind the first transactions, and beyond the last.
+use Rattle.std.proofs.Common.{◌≡◌, ◌<◌, ◌≤◌, ◌∙◌, ℕ, List, length, take, arith, ap, subst, sym, inl, IfSome, Option, Some}
+use Rattle.std.proofs.lemmas.List.{length-take-le}
+use Rattle.im_index.specs.Indexed.{Indexed}
 use Rattle.im_model.specs.declared.transactions.Transaction.{Transaction}
 use Rattle.im_report.specs.Reads.{IsReadAt}
 use Rattle.im_report.specs.Replies.{beyond_reply}
+use Rattle.im_session.specs.Shown.{ShowsKeys}
+use Rattle.im_store.specs.Growth.{IsIndexed}
+use Rattle.im_store.specs.Loads.{SawIndexed}
+use Rattle.im_store.specs.Reading.{ExplainsSnapshot}
+use Rattle.im_store.specs.declared.errors.SnapshotError.TheVariants as snaps
+use Rattle.im_table.proofs.HistoryLemmas.{history_length}
+use Rattle.im_table.specs.Histories.{history_of}
+use Rattle.im_table.specs.Known.{KnownPass}
 
 -- what is said of a value that is given
 pub some-said : {T : Type 0} (P : T → Type 0) (given : Option T) (value : T) → given ≡ Some value → IfSome given P → P value
@@ -17,3 +26,22 @@ pub read-beyond : (history : List Transaction) (at : Option ℕ) (shows : List T
 read-beyond history at shows reply count n size named beyond e =
     let P : Option ℕ → Type 0 = λ a. IsReadAt history a shows reply in
     subst P (sym named) (inl (omega arith, e ∙ ap beyond_reply size))
+
+-- so many are shown
+pub keys_length : (p : KnownPass) (n : ℕ) (keys : Indexed) → ShowsKeys p n keys → n ≡ length (take n (history_of p.view.seen))
+keys_length p n keys shown = sym (length-take-le n (history_of p.view.seen) (omega (arith, shown.seen, history_length p.view.seen)))
+
+-- of a number that is known to be durable no call finds that it is beyond what is durable
+pub never_beyond : (old new : KnownPass) (n durable : ℕ) → n ≤ old.view.least.durable → ExplainsSnapshot old new n (snaps.Beyond durable) → ⊥
+never_beyond old new n durable known x = let least = x.0.least in let beyond = x.1 in omega (arith, known, least, beyond)
+
+-- nor, behind an index of n more, that fewer are indexed
+pub never_late : (old mid new : KnownPass) (n indexed before taken : ℕ) → n ≤ old.view.least.durable → IsIndexed old mid n before taken → ExplainsSnapshot mid new n (snaps.NotYet indexed) → ⊥
+never_late old mid new n indexed before taken known i x =
+    let first = i.saw.least in
+    let shown = i.shown in
+    let is = i.is in
+    let saw : SawIndexed mid new indexed = x.3 in
+    let least = saw.least in
+    let fewer : indexed < n = x.4 in
+    omega (arith, known, first, shown, is, least, fewer)

@@ -1,5 +1,5 @@
 -- What a command that places and links nothing is answered, and what it is where memory runs out.
-use Rattle.std.proofs.Common.{◌≡◌, ◌⊎◌, ◌-◌, inl, inr, ◌≤◌, ◌+◌, ◌++◌, ℕ, List, [], length, take, Option, Some, None, false, refl, ap, sym, ◌∙◌, subst, arith, append-nil}
+use Rattle.std.proofs.Common.{◌≡◌, ◌⊎◌, ◌-◌, inl, inr, ◌≤◌, ℕ, List, [], length, take, Option, Some, None, Result, IfErr, IsErrAnd, false, refl, ap, sym, ◌∙◌, subst, arith}
 use Rattle.std.proofs.lemmas.Bool.{both_ways}
 use Rattle.std.specs.Str.{bytes_eq}
 use Rattle.im_accept.specs.Messages.{IsReadBack}
@@ -9,6 +9,7 @@ use Rattle.im_draft.specs.declared.drafts.Draft.{Draft}
 use Rattle.im_draft.specs.declared.preconditions.Pre.{Pre}
 use Rattle.im_draft.specs.declared.refusals.PrepareError.{PrepareError}
 use Rattle.im_model.specs.declared.transactions.Transaction.{Transaction}
+use Rattle.im_octet.proofs.Common.{if-err}
 use Rattle.im_report.proofs.PlacedLemmas.{get-not-placed, history-not-placed, linked-not-placed, refused-not-placed, reserved-not-placed, scanned-not-placed}
 use Rattle.im_report.specs.Reads.{IsGetAnswer, IsHistoryAnswer, IsReadAt, IsScanAnswer}
 use Rattle.im_report.specs.Replies.{linked_reply, refused_reply, reserved_reply, tx_reply}
@@ -20,8 +21,9 @@ use Rattle.im_session.proofs.StepLemmas.{link_step, shown_step, slack_kept, stuc
 use Rattle.im_session.specs.Answered.{IsAnswered, IsUnanswered}
 use Rattle.im_session.specs.Lines.{IsShowing, MayBecome}
 use Rattle.im_session.specs.declared.answers.Answer.{Answer}
+use Rattle.im_session.specs.declared.errors.LineError.{LineError}
 use Rattle.im_session.specs.declared.errors.LineError.TheVariants.{Memory}
-use Rattle.im_store.proofs.GainLemmas.{gains_same, later_self}
+use Rattle.im_store.proofs.GainLemmas.{gains_before, gains_same, later_self}
 use Rattle.im_store.specs.Gains.{Gains}
 use Rattle.im_store.specs.Growth.{IsLinked}
 use Rattle.im_table.proofs.PassLemmas.{later_both}
@@ -45,17 +47,13 @@ floor_same (Advance s t) shows n f = refl
 floor_same (Item t i under) shows n f = refl
 floor_same (Link count) shows n f = absurd shows
 
--- two calls that placed and linked nothing
-pub gains_both : (old mid new : KnownPass) → Gains [] 0 0 old mid → Gains [] 0 0 mid new → Gains [] 0 0 old new
-gains_both old mid new g k = record {
-  own = k.own ∙ (append-nil mid.view.own ∙ g.own);
-  leaves = omega (arith, g.leaves, k.leaves);
-  faults = omega (arith, g.faults, k.faults);
-}
-
 -- where memory runs out, and nothing was placed or linked
 pub shown_unanswered : (old new : KnownPass) (command : Command) → Later old new → Gains [] 0 0 old new → IsUnanswered old new command Memory
 shown_unanswered old new command l g session = stuck_none old new (record { session = session; command = command }) 0 l g (slack_kept old new l g)
+
+pub short_unanswered : (old new : KnownPass) (command : Command) (given : Result Answer LineError) → IsErrAnd given (λ why. why ≡ Memory) → Later old new → Gains [] 0 0 old new
+    → IfErr given (λ why. IsUnanswered old new command why)
+short_unanswered old new command given short l g = if-err (λ why. IsUnanswered old new command why) given Memory short (shown_unanswered old new command l g)
 
 -- what is shown at a number that was durable as the line loaded it first
 pub shown_answered : (hash : Hash) (old mid new : KnownPass) (command : Command) (answer : Answer) → Later old mid → Later mid new → Gains [] 0 0 old mid → Gains [] 0 0 mid new
@@ -65,7 +63,7 @@ pub shown_answered : (hash : Hash) (old mid new : KnownPass) (command : Command)
     → IsAnswered hash old new command answer
 shown_answered hash old mid new command answer l m g k is above floor none said again = record {
   step = λ session. shown_step hash old mid new (record { line = record { session = session; command = command }; number = answer.number; reply = answer.reply.items }) l m g k is above none floor said again;
-  else_stuck = shown_unanswered old new command (later_both old mid new l m) (gains_both old mid new g k);
+  else_stuck = shown_unanswered old new command (later_both old mid new l m) (gains_before 0 0 old mid new g k);
 }
 
 -- a reply that isn't open needs no reading
@@ -106,16 +104,21 @@ unasked_answered hash old new pres drafts answer l g is above says =
     shown_answered hash old new new (Set pres drafts) answer l (later_self new) g (gains_same new) is above (λ n f. refl) (unasked_not_placed drafts answer.reply.items answer.number says)
     (λ items m. unasked_answer (history_of items) pres drafts answer.number answer.reply.items says) (λ items m. tt)
 
+-- `link`, where memory runs out behind it
+pub linked_unanswered : (old mid new : KnownPass) (count before size : ℕ) (given : Result Answer LineError) → IsErrAnd given (λ why. why ≡ Memory) → Later old mid → Later mid new → Gains [] 0 0 old mid
+    → IsLinked mid new count before size → Gains [] (size - before) 0 mid new → IfErr given (λ why. IsUnanswered old new (Link count) why)
+linked_unanswered old mid new count before size given short l m g linked k =
+    let gains : Gains [] (size - before) 0 old new = gains_before (size - before) 0 old mid new g k in
+    if-err (λ why. IsUnanswered old new (Link count) why) given Memory short
+    (λ session. stuck_none old new (record { session = session; command = Link count }) (size - before) (later_both old mid new l m) gains
+    (omega (arith, gains.leaves, l.linked, linked.known, linked.grows, linked.shown)))
+
 -- `link`
 pub linked_answered : (hash : Hash) (old mid new : KnownPass) (count before size : ℕ) (answer : Answer) → Later old mid → Later mid new → Gains [] 0 0 old mid → IsLinked mid new count before size
     → Gains [] (size - before) 0 mid new → mid.view.least.durable ≡ answer.number → old.view.least.durable ≤ answer.number → answer.reply.items ≡ linked_reply → IsAnswered hash old new (Link count) answer
 linked_answered hash old mid new count before size answer l m g linked k is above says =
     let whole : Later old new = later_both old mid new l m in
-    let gains : Gains [] (size - before) 0 old new = record {
-      own = k.own ∙ (append-nil mid.view.own ∙ g.own);
-      leaves = omega (arith, g.leaves, k.leaves);
-      faults = omega (arith, g.faults, k.faults);
-    } in
+    let gains : Gains [] (size - before) 0 old new = gains_before (size - before) 0 old mid new g k in
     let none : bytes_eq answer.reply.items (tx_reply answer.number) ≡ false = ap (λ (t : List ℕ). bytes_eq t (tx_reply answer.number)) says ∙ linked-not-placed answer.number in
     record {
       step = λ session. link_step hash old mid new (record { line = record { session = session; command = Link count }; number = answer.number; reply = answer.reply.items }) count before size l m g linked k is above refl none
