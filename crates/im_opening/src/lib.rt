@@ -2,6 +2,7 @@
 //! gate behind the batches that count, and the journal at rest with the history that was found.
 #![tactic(auto)]
 
+mod ahead;
 mod batches;
 mod ends;
 mod entries;
