@@ -12,6 +12,7 @@ pub mod opening;
 pub mod reading;
 mod records;
 mod repair;
+mod room;
 mod source;
 mod transactions;
 mod values;
