@@ -1,3 +1,4 @@
+pub mod Ahead
 pub mod Answers
 pub mod Cut
 pub mod Found

@@ -8,6 +8,7 @@ ghost use Rattle.im_opening.specs.Answers.{HasOpenCause, Judges};
 ghost use Rattle.im_opening.specs.Parts.{Shows, IsEntryAt, AreEntriesAt, entry_checks};
 
 use crate::errors::OpenError;
+use crate::room::room_for;
 use crate::source::RecordSource;
 use crate::values::read_value;
 use im_digest::{D32, Hash32};
@@ -114,9 +115,9 @@ pub(crate) fn read_entries<D: Disk, H: Hash32>(
     ensures cause { HasOpenCause (D.faults disk.old) (D.faults disk.new) result }
 {
     let mut keys = Keys::new(alloc);
-    let mut entries = Vec::new(alloc);
-    let mut digests = Vec::new(alloc);
-    let mut refs = Vec::new(alloc);
+    let mut entries = room_for(alloc, count as usize);
+    let mut digests = room_for(alloc, count as usize);
+    let mut refs = room_for(alloc, count as usize);
     let mut end = at;
     while entries.len() < count as usize {
         let read = read_entry(alloc, hash, disk, source, id, end, &mut keys)?;

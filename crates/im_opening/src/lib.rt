@@ -2,6 +2,7 @@
 //! gate behind the batches that count, and the journal at rest with the history that was found.
 #![tactic(auto)]
 
+mod ahead;
 mod batches;
 mod ends;
 mod entries;
@@ -11,6 +12,7 @@ pub mod opening;
 pub mod reading;
 mod records;
 mod repair;
+mod room;
 mod source;
 mod transactions;
 mod values;

@@ -13,6 +13,7 @@ ghost use Rattle.im_opening.specs.Opening.{IsOneHistory};
 ghost use Rattle.im_opening.specs.Opens.{FailsToOpen, AreOpened, Opens};
 ghost use Rattle.im_opening.specs.Reach.{txs_of};
 
+use crate::ahead::Ahead;
 use crate::errors::OpenError;
 use crate::found::FoundHistory;
 use crate::reading::{Opened, read_files};
@@ -65,8 +66,8 @@ fn open_files<D: Disk, H: Hash32>(
 /// where that is needed, and gives a journal at rest, which no call of the disk has failed, with the history that
 /// was found. A disk that isn't opened is handed back with the reason.
 ///
-/// One `sync`; the reads and hashes of `read_files`; and where the gate isn't closed, one `write_at` and one `sync`
-/// more.
+/// One `sync`; the hashes of `read_files`, and its reads, but that value logs are read ahead in pieces of 65,536 octets,
+/// with one `len` and one `read` for each piece; and where the gate isn't closed, one `write_at` and one `sync` more.
 ///
 /// # Errors
 ///
@@ -75,7 +76,7 @@ fn open_files<D: Disk, H: Hash32>(
 pub fn open<D: Disk, H: Hash32>(
     alloc: Global,
     hash: &H,
-    mut disk: D,
+    disk: D,
 ) -> Result<Recovered<D>, OpenFailed<D>>
     ensures opens { IfOk result (λ r. Opens D.told D.faults (H.digest hash.now) disk r.journal.disk r.journal.ends.commits (txs_of r.found.records.items)) }
     ensures rests { IfOk result (λ r. IsFound D.told (H.digest hash.now) r.journal r.found.records.items) }
@@ -89,10 +90,15 @@ pub fn open<D: Disk, H: Hash32>(
     ensures left { (t : Told) → D.told disk ≡ Some t
         → IfErr result (λ failed. WasLeft (H.digest hash.now) failed.error t (D.told failed.disk)) }
 {
-    let opened = match open_files(alloc, hash, &mut disk) {
+    let mut ahead = Ahead::new(alloc, disk);
+    let opened = match open_files(alloc, hash, &mut ahead) {
         Ok(opened) => opened,
-        Err(error) => return Err(OpenFailed { disk, error }),
+        Err(error) => {
+            let disk = ahead.into_disk();
+            return Err(OpenFailed { disk, error });
+        }
     };
+    let disk = ahead.into_disk();
     let Opened {
         found,
         batches: _,

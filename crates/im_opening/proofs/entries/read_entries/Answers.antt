@@ -94,9 +94,9 @@ returns-clause-distinct g c = apart-distinct c.loop-alloc.entries.items c.loop-a
 
 pub loop-alloc-init : goal.loop-alloc-init
 loop-alloc-init g c =
-    let none : c.new-entries.result.items ≡ [] = c.new-entries.ensures.items in
-    let no_refs : c.new-refs.result.items ≡ [] = c.new-refs.ensures.items in
-    let no_digests : c.new-digests.result.items ≡ [] = c.new-digests.ensures.items in
+    let none : c.room_for-entries.result.items ≡ [] = c.room_for-entries.ensures in
+    let no_refs : c.room_for-refs.result.items ≡ [] = c.room_for-refs.ensures in
+    let no_digests : c.room_for-digests.result.items ≡ [] = c.room_for-digests.ensures in
     let hash = g.H.Hash32.digest c.args.hash.now in
     record {
       told = refl;
@@ -108,13 +108,13 @@ loop-alloc-init g c =
       are = subst (All IsEntry) (sym none) (All-nil IsEntry);
       apart = subst (AreApart []) (sym none) tt;
       refer =
-          subst (λ (xs : List Entry). AreReferences hash c.args.id xs c.new-refs.result.items) (sym none)
+          subst (λ (xs : List Entry). AreReferences hash c.args.id xs c.room_for-refs.result.items) (sym none)
           (subst (λ (rs : List ValueRef). AreReferences hash c.args.id [] rs) (sym no_refs) tt);
       whole =
-          subst (λ (xs : List Entry). c.args.at ≡ c.args.at + length (entries_octets xs c.new-refs.result.items)) (sym none)
+          subst (λ (xs : List Entry). c.args.at ≡ c.args.at + length (entries_octets xs c.room_for-refs.result.items)) (sym none)
           (subst (λ (rs : List ValueRef). c.args.at ≡ c.args.at + length (entries_octets [] rs)) (sym no_refs) (omega arith));
       left = λ t is.
-          subst (λ (xs : List Entry). EntriesLeft hash (seen t) c.args.id c.args.at c.args.count xs c.new-refs.result.items c.args.at) (sym none)
+          subst (λ (xs : List Entry). EntriesLeft hash (seen t) c.args.id c.args.at c.args.count xs c.room_for-refs.result.items c.args.at) (sym none)
           (subst (λ (rs : List ValueRef). EntriesLeft hash (seen t) c.args.id c.args.at c.args.count [] rs c.args.at) (sym no_refs)
           (entries-first hash (seen t) c.args.id c.args.at c.args.count));
     }
