@@ -1,5 +1,5 @@
 -- What sessions made of a script over an opened store is what a run of it tells.
-use Rattle.std.proofs.Common.{◌≡◌, ◌≤◌, ◌+◌, ℤ, ℕ, suc, List, [], ◌∷◌, ◌++◌, length, map, take, drop, refl, arith, ap, subst, sym, ◌∙◌, inl, inr, ◌⊎◌, IfSome, Option, Some, Result, Ok, Err}
+use Rattle.std.proofs.Common.{◌≡◌, ◌≤◌, ◌+◌, ℤ, ℕ, suc, List, [], ◌∷◌, ◌++◌, length, get_or, map, take, drop, refl, arith, ap, subst, sym, ◌∙◌, inl, inr, ◌⊎◌, IfSome, Option, Some, Result, Ok, Err}
 use Rattle.std.proofs.lemmas.List.{length-take}
 use Rattle.std.proofs.lemmas.List.Elements.{All-cons, All-nil}
 use Rattle.std.specs.Option.{option_map}
@@ -58,7 +58,7 @@ pub one-session : (script : List (List Line)) (phases : List (List Outcome)) (un
 one-session script phases unrun is one =
     let P : Line → Type 0 = λ line. line.session ≡ one.0 in
     let each = phases-each P phases unrun (subst (λ (ls : List (List Line)). All P (lines_of ls)) is one.1) in
-    (one.0, λ i d lt. lines-each P _ (each i d lt))
+    (one.0, λ i d lt. lines-each P (get_or phases i d) (each i d lt))
 
 -- a disk got the calls of a batch as far as they came
 part-grows : (calls : List Call) (before now : Option Told) → MakesPart calls before now → Grows before now

@@ -25,10 +25,10 @@ pub record IsDamaged (hash : Hash) (disk : Option Told) (status : Status) : Type
 -- files stand for a history, and else their damage is told; a script with a bad line stops at the first one, and one
 -- too long is refused.
 pub record HasRunFate (hash : Hash) (disk : Option Told) (status : Status) (script : List ℕ) : Type 0 where
-  pub runs : (lines : List Line) → IsGiven script lines → (status ≡ Ok) ⊎ ((status ≡ Memory) ⊎ IsDamaged hash disk status)
-  pub stands : (lines : List Line) → IsGiven script lines → (t : Told) (found : List Transaction) → disk ≡ Some t → Stands hash (seen t) found
+  pub runs : (phases : List (List Line)) → IsGiven script phases → (status ≡ Ok) ⊎ ((status ≡ Memory) ⊎ IsDamaged hash disk status)
+  pub stands : (phases : List (List Line)) → IsGiven script phases → (t : Told) (found : List Transaction) → disk ≡ Some t → Stands hash (seen t) found
       → (status ≡ Ok) ⊎ (status ≡ Memory)
-  pub damaged : (lines : List Line) → IsGiven script lines → (t : Told) → disk ≡ Some t → ((found : List Transaction) → Stands hash (seen t) found → ⊥)
+  pub damaged : (phases : List (List Line)) → IsGiven script phases → (t : Told) → disk ≡ Some t → ((found : List Transaction) → Stands hash (seen t) found → ⊥)
       → (status ≡ Memory) ⊎ IsDamaged hash disk status
   pub stops : (n : ℕ) → length script ≤ 67108864 → StopsAfter script n → (status ≡ Script (n + 1)) ⊎ (status ≡ Memory)
   pub too_long : 67108864 < length script → (status ≡ Long) ⊎ (status ≡ Memory)

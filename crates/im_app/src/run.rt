@@ -1,4 +1,4 @@
-ghost use Rattle.std.specs.Prelude.{◌≡◌, ◌⊎◌, ℕ, ◌+◌, ◌≤◌, ◌<◌, [], length, List, true, IfErr, IfOk, IfSome, IsErrOf, OnOk, Err, Result, Some};
+ghost use Rattle.std.specs.Prelude.{◌≡◌, ◌⊎◌, ℕ, ◌+◌, ◌≤◌, ◌<◌, [], length, List, true, IfErr, IfOk, IfSome, IsErrOf, OnOk, Err, Result, Some, vec_capacity};
 ghost use Rattle.std.specs.List.{All};
 ghost use Rattle.im_disk.specs.Disk.{Told, after, seen};
 ghost use Rattle.im_disk.specs.declared.calls.Call.TheVariants.{Synced};
@@ -113,11 +113,11 @@ fn serve_script<
     links: bool,
 ) -> Done<D, C>
     requires marked { All (λ item. item.found ≡ true) opened.found }
-    requires passes { (passes.items ≡ []) × (1 ≤ passes.capacity) }
+    requires passes { (passes.items ≡ []) × (1 ≤ vec_capacity passes) }
     requires named { script.names.items ≡ names_of [] (lines_of script.phases.items) }
     requires few { length script.names.items ≤ 8 }
     ensures served { (end : Result Unit TheStopped) × (result.status ≡ status_behind end)
-        × Serves D.told D.faults links (naming_of H.digest D.told D.faults C.constant C.given opened) script.phases.items (K.written sink.old) (K.written sink.new) (K.faults sink.old) (K.faults sink.new) result.disk (C.constant result.clock) (C.given result.clock) end }
+        × Serves D.told D.faults links (naming_of H.digest D.told D.faults C.constant C.given opened.entry) script.phases.items (K.written sink.old) (K.written sink.new) (K.faults sink.old) (K.faults sink.new) result.disk (C.constant result.clock) (C.given result.clock) end }
 {
     let Served { disk, clock, end } = serve::<H, K, D, C, G, Brand, R>(
         rt, alloc, gate, sink, opened, passes, script, links,

@@ -20,9 +20,11 @@ use std::thread::Threads;
 const MOST_TURNS: u64 = 100_000_000;
 
 // The gate of two sessions with one line each. It holds up the first line that comes, until the other one was answered.
+#[derive(Drop)]
 struct Meeting {
     came: AtomicBool,
-    answered: [AtomicBool; 2],
+    first_answered: AtomicBool,
+    second_answered: AtomicBool,
     met: AtomicBool,
 }
 
@@ -30,15 +32,25 @@ impl Meeting {
     fn new() -> Meeting {
         Meeting {
             came: AtomicBool::new(false),
-            answered: [AtomicBool::new(false), AtomicBool::new(false)],
+            first_answered: AtomicBool::new(false),
+            second_answered: AtomicBool::new(false),
             met: AtomicBool::new(false),
         }
     }
 
-    // Waits until this session's line was answered, for so many turns at most, and notes that it was.
-    fn wait_for(&self, session: usize) {
+    // Whether a line of the first session was answered, or one of the other.
+    fn answered(&self, is_first: bool) -> &AtomicBool {
+        if is_first {
+            &self.first_answered
+        } else {
+            &self.second_answered
+        }
+    }
+
+    // Waits until that session's line was answered, for so many turns at most, and notes that it was.
+    fn wait_for(&self, is_first: bool) {
         for _ in 0..MOST_TURNS {
-            if self.answered[session].load(Ordering::SeqCst) {
+            if self.answered(is_first).load(Ordering::SeqCst) {
                 self.met.store(true, Ordering::SeqCst);
                 return;
             }
@@ -53,11 +65,11 @@ impl Gate for Meeting {
             Point::Before { session, .. } => {
                 let is_later = self.came.swap(true, Ordering::SeqCst);
                 if !is_later {
-                    self.wait_for(1 - usize::from(session.min(1)));
+                    self.wait_for(session != 0);
                 }
             }
             Point::After { session, .. } => {
-                self.answered[usize::from(session.min(1))].store(true, Ordering::SeqCst);
+                self.answered(session == 0).store(true, Ordering::SeqCst);
             }
         }
     }
@@ -127,22 +139,35 @@ fn number_of(line: &str, session: &str) -> Option<u64> {
     number.parse::<u64>().ok()
 }
 
-// Whether the replies of a session rise, and where each number is new it is noted.
-fn rises(report: &str, session: &str, first: usize, seen: &mut [bool]) -> bool {
+// Notes a number, where it is above the last one, at most 100, and new.
+fn is_noted(number: u64, last: u64, seen: &mut [bool; 101]) -> bool {
+    if number <= last || number > 100 || seen[number as usize] {
+        return false;
+    }
+    seen[number as usize] = true;
+    true
+}
+
+// Whether the replies of a session, every other line from the first or the second one on, rise, each with a new number, which is noted.
+fn rises(report: &str, session: &str, is_first: bool, seen: &mut [bool; 101]) -> bool {
+    let mut is_own = is_first;
     let mut last = 0;
-    for line in report.lines().skip(first).step_by(2) {
-        let Some(number) = number_of(line, session) else {
-            return false;
-        };
-        if number <= last || number > 100 || seen[number as usize] {
-            return false;
+    for line in report.lines() {
+        if is_own {
+            let Some(number) = number_of(line, session) else {
+                return false;
+            };
+            if !is_noted(number, last, seen) {
+                return false;
+            }
+            last = number;
         }
-        seen[number as usize] = true;
-        last = number;
+        is_own = !is_own;
     }
     true
 }
 
+// Each line's number is new, so where all numbers up to a hundred were noted there are as many lines.
 #[test]
 fn each_of_a_hundred_transactions_is_told_once(rt: HostRuntime) -> Result<(), Fail> {
     let alloc = rt.alloc();
@@ -151,9 +176,9 @@ fn each_of_a_hundred_transactions_is_told_once(rt: HostRuntime) -> Result<(), Fa
         return Err(Fail::new("no text"));
     };
     let mut seen = [false; 101];
-    let risen = rises(report, "a", 0, &mut seen) && rises(report, "b", 1, &mut seen);
+    let risen = rises(report, "a", true, &mut seen) && rises(report, "b", false, &mut seen);
     let all = seen.iter().skip(1).all(|is_told| *is_told);
-    if status == Status::Ok && report.lines().count() == 100 && risen && all {
+    if status == Status::Ok && risen && all {
         Ok(())
     } else {
         Err(Fail::new("a number is told twice, or falls"))

@@ -9,7 +9,7 @@ use Rattle.im_mtree.specs.Checks.{first_fail}
 use Rattle.im_opening.specs.Cut.{WasBegun}
 use Rattle.im_opening.specs.declared.errors.OpenError.{OpenError}
 use Rattle.im_session.specs.declared.errors.LineError.TheVariants as fails
-use Rattle.im_store.specs.Names.{naming_of}
+use Rattle.im_store.specs.Names.{Naming, naming_of}
 use Rattle.im_app.specs.Runs.{opening_error}
 use Rattle.im_app.specs.Statuses.{status_by}
 use Rattle.im_app.proofs.FoundLemmas.{opened-keeps}
@@ -73,121 +73,28 @@ returns-in-Err-clause-disk_alone g c = λ want one.
     c.in-Err.ensures.failed.others (λ is. cc (is, by))
 
 -- the store was opened and served
-pub returns-in-Ok-open-clause-ends : goal.returns-in-Ok-open-clause-ends
-returns-in-Ok-open-clause-ends g c =
+pub returns-in-Ok-open : goal.returns-in-Ok-open
+returns-in-Ok-open g c =
     let opened = c.in-Ok-open.ensures in
-    let ran = ran-over g.D.Disk.told g.D.Disk.faults c.args.link (naming_of g.H.Hash32.digest g.D.Disk.told g.D.Disk.faults g.C.Clock.constant g.C.Clock.given c.in-Ok-open.opened) c.is_auto.result
-    c.is_auto.ensures opened.opens (ap g.H.Hash32.digest opened.given.0, opened.given.1) (ap g.C.Clock.constant opened.clock, ap g.C.Clock.given opened.clock) c.serve_script.ensures.served in
-    ran-ends ran
-
-pub returns-in-Ok-open-clause-report : goal.returns-in-Ok-open-clause-report
-returns-in-Ok-open-clause-report g c =
-    let opened = c.in-Ok-open.ensures in
-    let ran = ran-over g.D.Disk.told g.D.Disk.faults c.args.link (naming_of g.H.Hash32.digest g.D.Disk.told g.D.Disk.faults g.C.Clock.constant g.C.Clock.given c.in-Ok-open.opened) c.is_auto.result
-    c.is_auto.ensures opened.opens (ap g.H.Hash32.digest opened.given.0, opened.given.1) (ap g.C.Clock.constant opened.clock, ap g.C.Clock.given opened.clock) c.serve_script.ensures.served in
-    λ octets given e. ran-report ran octets given e
-
-pub returns-in-Ok-open-clause-part : goal.returns-in-Ok-open-clause-part
-returns-in-Ok-open-clause-part g c =
-    let opened = c.in-Ok-open.ensures in
-    let ran = ran-over g.D.Disk.told g.D.Disk.faults c.args.link (naming_of g.H.Hash32.digest g.D.Disk.told g.D.Disk.faults g.C.Clock.constant g.C.Clock.given c.in-Ok-open.opened) c.is_auto.result
-    c.is_auto.ensures opened.opens (ap g.H.Hash32.digest opened.given.0, opened.given.1) (ap g.C.Clock.constant opened.clock, ap g.C.Clock.given opened.clock) c.serve_script.ensures.served in
-    λ octets given e. ran-part ran octets given e
-
-pub returns-in-Ok-open-clause-front : goal.returns-in-Ok-open-clause-front
-returns-in-Ok-open-clause-front g c =
-    let opened = c.in-Ok-open.ensures in
-    let ran = ran-over g.D.Disk.told g.D.Disk.faults c.args.link (naming_of g.H.Hash32.digest g.D.Disk.told g.D.Disk.faults g.C.Clock.constant g.C.Clock.given c.in-Ok-open.opened) c.is_auto.result
-    c.is_auto.ensures opened.opens (ap g.H.Hash32.digest opened.given.0, opened.given.1) (ap g.C.Clock.constant opened.clock, ap g.C.Clock.given opened.clock) c.serve_script.ensures.served in
-    λ octets why given e. inr (ran-front ran octets why given e)
-
-pub returns-in-Ok-open-clause-damaged : goal.returns-in-Ok-open-clause-damaged
-returns-in-Ok-open-clause-damaged g c =
-    let opened = c.in-Ok-open.ensures in
-    let ran = ran-over g.D.Disk.told g.D.Disk.faults c.args.link (naming_of g.H.Hash32.digest g.D.Disk.told g.D.Disk.faults g.C.Clock.constant g.C.Clock.given c.in-Ok-open.opened) c.is_auto.result
-    c.is_auto.ensures opened.opens (ap g.H.Hash32.digest opened.given.0, opened.given.1) (ap g.C.Clock.constant opened.clock, ap g.C.Clock.given opened.clock) c.serve_script.ensures.served in
-    λ damage e. absurd (ran-undamaged ran damage e)
-
-pub returns-in-Ok-open-clause-sound : goal.returns-in-Ok-open-clause-sound
-returns-in-Ok-open-clause-sound g c =
-    let opened = c.in-Ok-open.ensures in
-    let ran = ran-over g.D.Disk.told g.D.Disk.faults c.args.link (naming_of g.H.Hash32.digest g.D.Disk.told g.D.Disk.faults g.C.Clock.constant g.C.Clock.given c.in-Ok-open.opened) c.is_auto.result
-    c.is_auto.ensures opened.opens (ap g.H.Hash32.digest opened.given.0, opened.given.1) (ap g.C.Clock.constant opened.clock, ap g.C.Clock.given opened.clock) c.serve_script.ensures.served in
-    λ damage t found told stands e. ran-undamaged ran damage e
-
-pub returns-in-Ok-open-clause-nothing : goal.returns-in-Ok-open-clause-nothing
-returns-in-Ok-open-clause-nothing g c =
-    let opened = c.in-Ok-open.ensures in
-    let ran = ran-over g.D.Disk.told g.D.Disk.faults c.args.link (naming_of g.H.Hash32.digest g.D.Disk.told g.D.Disk.faults g.C.Clock.constant g.C.Clock.given c.in-Ok-open.opened) c.is_auto.result
-    c.is_auto.ensures opened.opens (ap g.H.Hash32.digest opened.given.0, opened.given.1) (ap g.C.Clock.constant opened.clock, ap g.C.Clock.given opened.clock) c.serve_script.ensures.served in
-    λ damage e. absurd (ran-undamaged ran damage e)
-
-pub returns-in-Ok-open-clause-any_moment : goal.returns-in-Ok-open-clause-any_moment
-returns-in-Ok-open-clause-any_moment g c =
-    let opened = c.in-Ok-open.ensures in
-    let ran = ran-over g.D.Disk.told g.D.Disk.faults c.args.link (naming_of g.H.Hash32.digest g.D.Disk.told g.D.Disk.faults g.C.Clock.constant g.C.Clock.given c.in-Ok-open.opened) c.is_auto.result
-    c.is_auto.ensures opened.opens (ap g.H.Hash32.digest opened.given.0, opened.given.1) (ap g.C.Clock.constant opened.clock, ap g.C.Clock.given opened.clock) c.serve_script.ensures.served in
-    λ t found told stands. ran-keeps ran t found told stands
-
-pub returns-in-Ok-open-clause-unharmed : goal.returns-in-Ok-open-clause-unharmed
-returns-in-Ok-open-clause-unharmed g c =
-    let opened = c.in-Ok-open.ensures in
-    let ran = ran-over g.D.Disk.told g.D.Disk.faults c.args.link (naming_of g.H.Hash32.digest g.D.Disk.told g.D.Disk.faults g.C.Clock.constant g.C.Clock.given c.in-Ok-open.opened) c.is_auto.result
-    c.is_auto.ensures opened.opens (ap g.H.Hash32.digest opened.given.0, opened.given.1) (ap g.C.Clock.constant opened.clock, ap g.C.Clock.given opened.clock) c.serve_script.ensures.served in
-    λ t told none. ran-unharmed ran t told none
-
-pub returns-in-Ok-open-clause-grows : goal.returns-in-Ok-open-clause-grows
-returns-in-Ok-open-clause-grows g c =
-    let opened = c.in-Ok-open.ensures in
-    let ran = ran-over g.D.Disk.told g.D.Disk.faults c.args.link (naming_of g.H.Hash32.digest g.D.Disk.told g.D.Disk.faults g.C.Clock.constant g.C.Clock.given c.in-Ok-open.opened) c.is_auto.result
-    c.is_auto.ensures opened.opens (ap g.H.Hash32.digest opened.given.0, opened.given.1) (ap g.C.Clock.constant opened.clock, ap g.C.Clock.given opened.clock) c.serve_script.ensures.served in
-    ran-grows ran
-
-pub returns-in-Ok-open-clause-device : goal.returns-in-Ok-open-clause-device
-returns-in-Ok-open-clause-device g c =
-    let opened = c.in-Ok-open.ensures in
-    let ran = ran-over g.D.Disk.told g.D.Disk.faults c.args.link (naming_of g.H.Hash32.digest g.D.Disk.told g.D.Disk.faults g.C.Clock.constant g.C.Clock.given c.in-Ok-open.opened) c.is_auto.result
-    c.is_auto.ensures opened.opens (ap g.H.Hash32.digest opened.given.0, opened.given.1) (ap g.C.Clock.constant opened.clock, ap g.C.Clock.given opened.clock) c.serve_script.ensures.served in
-    λ e. ran-device ran e
-
-pub returns-in-Ok-open-clause-disk_count : goal.returns-in-Ok-open-clause-disk_count
-returns-in-Ok-open-clause-disk_count g c =
-    let opened = c.in-Ok-open.ensures in
-    let ran = ran-over g.D.Disk.told g.D.Disk.faults c.args.link (naming_of g.H.Hash32.digest g.D.Disk.told g.D.Disk.faults g.C.Clock.constant g.C.Clock.given c.in-Ok-open.opened) c.is_auto.result
-    c.is_auto.ensures opened.opens (ap g.H.Hash32.digest opened.given.0, opened.given.1) (ap g.C.Clock.constant opened.clock, ap g.C.Clock.given opened.clock) c.serve_script.ensures.served in
-    λ fault want. ran-disk ran fault want
-
-pub returns-in-Ok-open-clause-disk_alone : goal.returns-in-Ok-open-clause-disk_alone
-returns-in-Ok-open-clause-disk_alone g c =
-    let opened = c.in-Ok-open.ensures in
-    let ran = ran-over g.D.Disk.told g.D.Disk.faults c.args.link (naming_of g.H.Hash32.digest g.D.Disk.told g.D.Disk.faults g.C.Clock.constant g.C.Clock.given c.in-Ok-open.opened) c.is_auto.result
-    c.is_auto.ensures opened.opens (ap g.H.Hash32.digest opened.given.0, opened.given.1) (ap g.C.Clock.constant opened.clock, ap g.C.Clock.given opened.clock) c.serve_script.ensures.served in
-    λ want one. ran-alone ran want one
-
-pub returns-in-Ok-open-clause-write : goal.returns-in-Ok-open-clause-write
-returns-in-Ok-open-clause-write g c =
-    let opened = c.in-Ok-open.ensures in
-    let ran = ran-over g.D.Disk.told g.D.Disk.faults c.args.link (naming_of g.H.Hash32.digest g.D.Disk.told g.D.Disk.faults g.C.Clock.constant g.C.Clock.given c.in-Ok-open.opened) c.is_auto.result
-    c.is_auto.ensures opened.opens (ap g.H.Hash32.digest opened.given.0, opened.given.1) (ap g.C.Clock.constant opened.clock, ap g.C.Clock.given opened.clock) c.serve_script.ensures.served in
-    λ e. ran-write ran e
-
-pub returns-in-Ok-open-clause-sink_count : goal.returns-in-Ok-open-clause-sink_count
-returns-in-Ok-open-clause-sink_count g c =
-    let opened = c.in-Ok-open.ensures in
-    let ran = ran-over g.D.Disk.told g.D.Disk.faults c.args.link (naming_of g.H.Hash32.digest g.D.Disk.told g.D.Disk.faults g.C.Clock.constant g.C.Clock.given c.in-Ok-open.opened) c.is_auto.result
-    c.is_auto.ensures opened.opens (ap g.H.Hash32.digest opened.given.0, opened.given.1) (ap g.C.Clock.constant opened.clock, ap g.C.Clock.given opened.clock) c.serve_script.ensures.served in
-    λ e. ran-sink ran e
-
-pub returns-in-Ok-open-clause-sink_once : goal.returns-in-Ok-open-clause-sink_once
-returns-in-Ok-open-clause-sink_once g c =
-    let opened = c.in-Ok-open.ensures in
-    let ran = ran-over g.D.Disk.told g.D.Disk.faults c.args.link (naming_of g.H.Hash32.digest g.D.Disk.told g.D.Disk.faults g.C.Clock.constant g.C.Clock.given c.in-Ok-open.opened) c.is_auto.result
-    c.is_auto.ensures opened.opens (ap g.H.Hash32.digest opened.given.0, opened.given.1) (ap g.C.Clock.constant opened.clock, ap g.C.Clock.given opened.clock) c.serve_script.ensures.served in
-    ran-once ran
-
-pub returns-in-Ok-open-clause-clock : goal.returns-in-Ok-open-clause-clock
-returns-in-Ok-open-clause-clock g c =
-    let opened = c.in-Ok-open.ensures in
-    let ran = ran-over g.D.Disk.told g.D.Disk.faults c.args.link (naming_of g.H.Hash32.digest g.D.Disk.told g.D.Disk.faults g.C.Clock.constant g.C.Clock.given c.in-Ok-open.opened) c.is_auto.result
-    c.is_auto.ensures opened.opens (ap g.H.Hash32.digest opened.given.0, opened.given.1) (ap g.C.Clock.constant opened.clock, ap g.C.Clock.given opened.clock) c.serve_script.ensures.served in
-    ran-constant ran
+    let n : Naming = naming_of g.H.Hash32.digest g.D.Disk.told g.D.Disk.faults g.C.Clock.constant g.C.Clock.given c.in-Ok-open.opened in
+    let ran = ran-over g.D.Disk.told g.D.Disk.faults c.args.link n c.is_auto.result c.is_auto.ensures opened.opens (ap g.H.Hash32.digest opened.given.0, opened.given.1)
+    (ap g.C.Clock.constant opened.clock, ap g.C.Clock.given opened.clock) c.serve_script.ensures.served in
+    record {
+      ends = ran-ends ran;
+      report = λ octets given e. ran-report ran octets given e;
+      part = λ octets given e. ran-part ran octets given e;
+      front = λ octets why given e. inr (ran-front ran octets why given e);
+      damaged = λ damage e. absurd (ran-undamaged ran damage e);
+      sound = λ damage t found told stands e. ran-undamaged ran damage e;
+      nothing = λ damage e. absurd (ran-undamaged ran damage e);
+      any_moment = λ t found told stands. ran-keeps ran t found told stands;
+      unharmed = λ t told none. ran-unharmed ran t told none;
+      grows = ran-grows ran;
+      device = λ e. ran-device ran e;
+      disk_count = λ fault want. ran-disk ran fault want;
+      disk_alone = λ want one. ran-alone ran want one;
+      write = λ e. ran-write ran e;
+      sink_count = λ e. ran-sink ran e;
+      sink_once = ran-once ran;
+      clock = ran-constant ran;
+    }
