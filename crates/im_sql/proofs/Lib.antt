@@ -1,0 +1,13 @@
+pub mod AnswerLemmas
+pub mod WriteLemmas
+pub mod FitLemmas
+pub mod WorkLemmas
+pub mod PutLemmas
+pub mod RowsLemmas
+pub mod NextLemmas
+pub mod LookLemmas
+pub mod CountLemmas
+pub mod ShortLemmas
+pub mod GoingLemmas
+pub mod CreateLemmas
+pub mod NameLemmas

@@ -1,0 +1,4 @@
+pub mod Writing
+pub mod Working
+pub mod Entries
+pub mod Ranges
