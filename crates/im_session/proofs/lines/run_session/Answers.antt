@@ -3,16 +3,10 @@ use Rattle.im_script.specs.declared.commands.Line.{Line}
 use Rattle.im_session.specs.Runs.{HasRun, start_of}
 use Rattle.im_session.proofs.lines.run_session.Goals as goal
 
--- the session without its lines is ready too
-pub run_lines-requires : goal.run_lines-requires
-run_lines-requires g c =
-    let r = c.requires.ready in
-    record { ready = record { pass = r.pass; weight = r.weight; none = r.none; linked_none = r.linked_none; told_none = r.told_none; texts = r.texts } }
-
 pub returns : goal.returns
 returns g c =
     let r = c.run_lines.ensures in
-    let lines : c.replace-lines.result.items ≡ c.args.session.now.lines.items = search rules in
+    let lines : c.replace.result.items ≡ c.args.session.now.lines.items = search rules in
     record {
       done = record {
         pass = r.pass.0;
