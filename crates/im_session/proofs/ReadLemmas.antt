@@ -1,5 +1,5 @@
 -- What is read behind the first transactions, and beyond the last.
-use Rattle.std.proofs.Common.{◌≡◌, ◌<◌, ◌≤◌, ◌∙◌, ℕ, List, length, take, arith, ap, subst, sym, inl, IfSome, Option, Some}
+use Rattle.std.proofs.Common.{◌≡◌, ◌<◌, ◌≤◌, ◌∙◌, ℕ, List, length, take, arith, ap, subst, sym, inl, IfNone, IfSome, Option, None, Some}
 use Rattle.std.proofs.lemmas.List.{length-take-le}
 use Rattle.im_index.specs.Indexed.{Indexed}
 use Rattle.im_model.specs.declared.transactions.Transaction.{Transaction}
@@ -18,6 +18,12 @@ use Rattle.im_table.specs.Known.{KnownPass}
 pub some-said : {T : Type 0} (P : T → Type 0) (given : Option T) (value : T) → given ≡ Some value → IfSome given P → P value
 some-said {T} P given value is said =
     let Q : Option T → Type 0 = λ o. IfSome o P in
+    subst Q is said
+
+-- and of none
+pub none-said : {T : Type 0} (P : Type 0) (given : Option T) → given ≡ None → IfNone given P → P
+none-said {T} P given is said =
+    let Q : Option T → Type 0 = λ o. IfNone o P in
     subst Q is said
 
 -- a number beyond the last transaction is refused
