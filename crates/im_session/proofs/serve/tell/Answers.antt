@@ -60,8 +60,8 @@ returns-in-Err-clause-wrote g c = λ outcomes texts ends.
     (subst (λ (r : Result Unit TheFault). OnErr r (Rose faults_before faults_now)) c.in-Err.is w.failed) w.once
 
 -- the lines that are told are as many as have texts
-pub write_front-requires-clause-many : goal.write_front-requires-clause-many
-write_front-requires-clause-many g c =
+pub write_front-wrote-requires-clause-many : goal.write_front-wrote-requires-clause-many
+write_front-wrote-requires-clause-many g c =
     let order : List ℕ = c.args.played.order.items in
     let ended = c.args.played.ended.items in
     front_many order ended c.front_of-count.result.count c.front_of-count.ensures.many c.front_of-count.ensures.within
