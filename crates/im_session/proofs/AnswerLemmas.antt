@@ -270,12 +270,17 @@ pub item_answered : (hash : Hash) (old mid new : KnownPass) (t i : ℕ) (under :
 item_answered hash old mid new t i None answer l says = item_answered_last hash old mid new t i answer l says
 item_answered hash old mid new t i (Some s) answer l says = item_answered_named hash old mid new t i s answer l says
 
+-- the numbers are refused
+pub item_refused : (hash : Hash) (old mid new : KnownPass) (t i s : ℕ) (under : Option ℕ) (answer : Answer) → HasLooked old mid new answer.number → s ≡ unwrap_or under answer.number
+    → IsRefusedBetween answer.number t s answer.reply.items → IsAnswered hash old new (asks.Item t i under) answer
+item_refused hash old mid new t i s under answer l is refused =
+    item_answered hash old mid new t i under answer l (subst (λ (k : ℕ). SaysItem hash new answer.number t i k answer.reply.items) is (inl refused))
+
 -- the store gave the entry
-pub item_told : (hash : Hash) (old mid new : KnownPass) (t i : ℕ) (under : Option ℕ) (answer : Answer) (item : ProvedEntry) → HasLooked old mid new answer.number → unwrap_or under answer.number ≤ answer.number
-    → AnswersEntry hash mid new t i (unwrap_or under answer.number) item
+pub item_told : (hash : Hash) (old mid new : KnownPass) (t i s : ℕ) (under : Option ℕ) (answer : Answer) (item : ProvedEntry) → HasLooked old mid new answer.number → s ≡ unwrap_or under answer.number → s ≤ answer.number
+    → AnswersEntry hash mid new t i s item
     → answer.reply.items ≡ text (says.Item item.dual item.entry item.index item.path) → HasMessage answer.reply.items (says.Item item.dual item.entry item.index item.path) → IsAnswered hash old new (asks.Item t i under) answer
-item_told hash old mid new t i under answer item l within a e again =
-    let s : ℕ = unwrap_or under answer.number in
+item_told hash old mid new t i s under answer item l is within a e again =
     let h : List Transaction = history_of new.view.seen in
     let dual : DualProof = dual_between hash h t s in
     let entry : Entry = slice_index_or (transaction_of h t).entries i no_entry in
@@ -284,12 +289,14 @@ item_told hash old mid new t i under answer item l within a e again =
     ∙ (ap (λ (x : Entry). says.Item dual x item.index item.path) a.entry_is
     ∙ (ap (λ (j : ℕ). says.Item dual entry j item.path) a.index_is ∙ ap (λ (p : List (List ℕ)). says.Item dual entry i p) a.path_is)) in
     item_answered hash old mid new t i under answer l
-    (inr (inr (are_seen mid new answer.number t s within a.durable, a.within, e ∙ ap text same, subst (HasMessage answer.reply.items) same again)))
+    (subst (λ (k : ℕ). SaysItem hash new answer.number t i k answer.reply.items) is
+    (inr (inr (are_seen mid new answer.number t s within a.durable, a.within, e ∙ ap text same, subst (HasMessage answer.reply.items) same again))))
 
 -- the transaction has fewer entries
-pub no_item_told : (hash : Hash) (old mid new : KnownPass) (t i : ℕ) (under : Option ℕ) (answer : Answer) (width : ℕ) → HasLooked old mid new answer.number → unwrap_or under answer.number ≤ answer.number
-    → HasFewer mid new t i (unwrap_or under answer.number) width → answer.reply.items ≡ no_entry_reply width → IsAnswered hash old new (asks.Item t i under) answer
-no_item_told hash old mid new t i under answer width l within a e =
+pub no_item_told : (hash : Hash) (old mid new : KnownPass) (t i s : ℕ) (under : Option ℕ) (answer : Answer) (width : ℕ) → HasLooked old mid new answer.number → s ≡ unwrap_or under answer.number → s ≤ answer.number
+    → HasFewer mid new t i s width → answer.reply.items ≡ no_entry_reply width → IsAnswered hash old new (asks.Item t i under) answer
+no_item_told hash old mid new t i s under answer width l is within a e =
     let few : length (transaction_of (history_of new.view.seen) t).entries ≤ i = omega (arith, a.width_is, a.fewer) in
     item_answered hash old mid new t i under answer l
-    (inr (inl (are_seen mid new answer.number t (unwrap_or under answer.number) within a.durable, few, e ∙ ap no_entry_reply a.width_is)))
+    (subst (λ (k : ℕ). SaysItem hash new answer.number t i k answer.reply.items) is
+    (inr (inl (are_seen mid new answer.number t s within a.durable, few, e ∙ ap no_entry_reply a.width_is))))

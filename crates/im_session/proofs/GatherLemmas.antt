@@ -1,5 +1,5 @@
 -- Passes that are handed out to sessions, and taken in again.
-use Rattle.std.proofs.Common.{◌≡◌, ℕ, suc, ◌+◌, ◌-◌, ◌<◌, ◌≤◌, ◌++◌, List, [], ◌∷◌, length, refl, ap, ap₂, sym, ◌∙◌, subst, arith, get_or, append-nil, length-append, Option}
+use Rattle.std.proofs.Common.{◌≡◌, ℕ, suc, ◌+◌, ◌-◌, ◌<◌, ◌≤◌, ◌++◌, List, [], ◌∷◌, length, map, refl, ap, ap₂, sym, ◌∙◌, subst, arith, get_or, append-nil, length-append, Option}
 use Rattle.std.specs.Prelude.{All}
 use Rattle.std.specs.List.{sum_by}
 use Rattle.std.proofs.lemmas.List.{length-map, map-append}
@@ -7,9 +7,10 @@ use Rattle.std.proofs.lemmas.List.Elements.{All-push}
 use Rattle.std.proofs.lemmas.List.Sums.{sum_by-cons, sum_by_push}
 use mathlib.Core.List.{IsPrefix}
 use Rattle.im_digest.specs.Digests.{Hash}
+use Rattle.im_script.specs.declared.commands.Line.{Line}
 use Rattle.im_session.specs.Gathered.{AreGathered, AreHanded, faults_of, leaves_of, own_of, weight_of}
 use Rattle.im_session.specs.Phases.{AreDone, HasGrown}
-use Rattle.im_session.specs.Runs.{Start, start_of}
+use Rattle.im_session.specs.Runs.{IsReady, Start, start_of}
 use Rattle.im_session.specs.declared.errors.LineError.{LineError}
 use Rattle.im_session.specs.declared.sessions.Ended.{Ended}
 use Rattle.im_session.specs.declared.sessions.Session.{Session}
@@ -123,6 +124,21 @@ handed_push table first old new count h is more weight seen least own leaves fau
   faults = omega (arith, faults, h.faults);
 }
 
+-- it is where the pass was that it was split off
+abbrev pub BeginsAt : KnownPass → Session → Type 0
+BeginsAt p s = (s.pass.view.seen ≡ p.view.seen) × (s.pass.view.least ≡ p.view.least)
+
+-- one session more begins
+pub begun_push : (table : TableId) (first : KnownPass) (before after : List Session) (s : Session) (hands : List (List Line)) (mine : List Line) → after ≡ before ++ s ∷ [] → All (IsReady table) before → All (BeginsAt first) before
+    → map (λ (x : Session). x.lines.items) before ≡ hands → IsReady table s → BeginsAt first s → s.lines.items ≡ mine
+    → All (IsReady table) after × All (BeginsAt first) after × (map (λ (x : Session). x.lines.items) after ≡ hands ++ mine ∷ [])
+begun_push table first before after s hands mine is ready begins lines this here own = (
+  subst (All (IsReady table)) (sym is) (All-push (IsReady table) before s ready this),
+  subst (All (BeginsAt first)) (sym is) (All-push (BeginsAt first) before s begins here),
+  ap (map (λ (x : Session). x.lines.items)) is ∙ map-append (λ (x : Session). x.lines.items) before (s ∷ [])
+      ∙ (ap (λ (ls : List (List Line)). ls ++ s.lines.items ∷ []) lines ∙ ap (λ (l : List Line). hands ++ l ∷ []) own),
+)
+
 -- what was handed out took nothing with it
 pub handed_grown : (table : TableId) (old new : KnownPass) (count : ℕ) → AreHanded table old new count → HasGrown old new
 handed_grown table old new count h = record {
@@ -133,7 +149,7 @@ handed_grown table old new count h = record {
 }
 
 -- where sessions begin whose passes are copies of one
-pub starts_of : (p : KnownPass) (sessions : List Session) → All (λ s. (s.pass.view.seen ≡ p.view.seen) × (s.pass.view.least ≡ p.view.least)) sessions
+pub starts_of : (p : KnownPass) (sessions : List Session) → All (BeginsAt p) sessions
     → All (λ s. start_of s ≡ record { low = p.view.least.durable; floor = p.view.least.linked }) sessions
 starts_of p sessions copies = λ i d lt. ap (λ (l : Least). let t : Start = record { low = l.durable; floor = l.linked } in t) (copies i d lt).1
 

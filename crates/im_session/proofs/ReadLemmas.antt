@@ -1,5 +1,5 @@
 -- What is read behind the first transactions, and beyond the last.
-use Rattle.std.proofs.Common.{◌≡◌, ◌<◌, ◌≤◌, ◌∙◌, ℕ, List, length, take, arith, ap, subst, sym, inl, IfSome, Option, Some}
+use Rattle.std.proofs.Common.{◌≡◌, ◌<◌, ◌≤◌, ◌∙◌, ℕ, List, length, take, arith, ap, subst, sym, inl, IfNone, IfSome, Option, None, Some}
 use Rattle.std.proofs.lemmas.List.{length-take-le}
 use Rattle.im_index.specs.Indexed.{Indexed}
 use Rattle.im_model.specs.declared.transactions.Transaction.{Transaction}
@@ -20,6 +20,12 @@ some-said {T} P given value is said =
     let Q : Option T → Type 0 = λ o. IfSome o P in
     subst Q is said
 
+-- and of none
+pub none-said : {T : Type 0} (P : Type 0) (given : Option T) → given ≡ None → IfNone given P → P
+none-said {T} P given is said =
+    let Q : Option T → Type 0 = λ o. IfNone o P in
+    subst Q is said
+
 -- a number beyond the last transaction is refused
 pub read-beyond : (history : List Transaction) (at : Option ℕ) (shows : List Transaction → List ℕ → Type 0) (reply : List ℕ) (count n : ℕ)
     → count ≡ length history → at ≡ Some n → count < n → reply ≡ beyond_reply count → IsReadAt history at shows reply
@@ -35,13 +41,13 @@ keys_length p n keys shown = sym (length-take-le n (history_of p.view.seen) (ome
 pub never_beyond : (old new : KnownPass) (n durable : ℕ) → n ≤ old.view.least.durable → ExplainsSnapshot old new n (snaps.Beyond durable) → ⊥
 never_beyond old new n durable known x = let least = x.0.least in let beyond = x.1 in omega (arith, known, least, beyond)
 
--- nor, behind an index of n more, that fewer are indexed
-pub never_late : (old mid new : KnownPass) (n indexed before taken : ℕ) → n ≤ old.view.least.durable → IsIndexed old mid n before taken → ExplainsSnapshot mid new n (snaps.NotYet indexed) → ⊥
-never_late old mid new n indexed before taken known i x =
+-- nor, behind an index of so many more, n of them or more, that fewer are indexed
+pub never_late : (old mid new : KnownPass) (n most indexed before taken : ℕ) → n ≤ old.view.least.durable → n ≤ most → IsIndexed old mid most before taken → ExplainsSnapshot mid new n (snaps.NotYet indexed) → ⊥
+never_late old mid new n most indexed before taken known enough i x =
     let first = i.saw.least in
     let shown = i.shown in
     let is = i.is in
     let saw : SawIndexed mid new indexed = x.3 in
     let least = saw.least in
     let fewer : indexed < n = x.4 in
-    omega (arith, known, first, shown, is, least, fewer)
+    omega (arith, known, enough, first, shown, is, least, fewer)

@@ -77,14 +77,16 @@ pub(crate) fn answer_header<H: Hash32, D: Disk, C: Clock, N: TipName, R: Wait>(
     ensures err { IfErr result (λ why. IsUnanswered pass.old pass.new (says.Header k) why) }
 {
     let number = store.tip(pass);
-    let reply = if k == 0 {
-        Vec::from_slice(alloc, b"refused order 0 0")?
-    } else if number < k {
-        beyond_text(alloc, number)?
-    } else {
-        let header = proved(store.header(rt, alloc, pass, k))?;
-        header_shown(alloc, &alh(store.hash(), &header), &header)?
-    };
+    if k == 0 {
+        let reply = Vec::from_slice(alloc, b"refused order 0 0")?;
+        return Ok(Answer { number, reply });
+    }
+    if number < k {
+        let reply = beyond_text(alloc, number)?;
+        return Ok(Answer { number, reply });
+    }
+    let header = proved(store.header(rt, alloc, pass, k))?;
+    let reply = header_shown(alloc, &alh(store.hash(), &header), &header)?;
     Ok(Answer { number, reply })
 }
 
@@ -101,12 +103,12 @@ pub(crate) fn answer_state<H: Hash32, D: Disk, C: Clock, N: TipName, R: Wait>(
     ensures err { IfErr result (λ why. IsUnanswered pass.old pass.new says.State why) }
 {
     let number = store.tip(pass);
-    let reply = if number == 0 {
-        Vec::from_slice(alloc, b"refused empty")?
-    } else {
-        let header = proved(store.header(rt, alloc, pass, number))?;
-        message_text(alloc, Message::State { header })?
-    };
+    if number == 0 {
+        let reply = Vec::from_slice(alloc, b"refused empty")?;
+        return Ok(Answer { number, reply });
+    }
+    let header = proved(store.header(rt, alloc, pass, number))?;
+    let reply = message_text(alloc, Message::State { header })?;
     Ok(Answer { number, reply })
 }
 
@@ -185,31 +187,30 @@ pub(crate) fn answer_item<H: Hash32, D: Disk, C: Clock, N: TipName, R: Wait>(
     alloc: Global,
     store: &Store<'_, H, D, C, Free, N>,
     pass: &mut Pass,
-    number: u64,
+    t: u64,
     index: u32,
     under: Option<u64>,
 ) -> Result<Answer, LineError>
     requires pass { IsPassOf N.table pass.old }
     ensures later { Later pass.old pass.new }
-    ensures ok { IfOk result (λ answer. IsAnswered N.digest pass.old pass.new (says.Item number index under) answer) }
-    ensures err { IfErr result (λ why. IsUnanswered pass.old pass.new (says.Item number index under) why) }
+    ensures ok { IfOk result (λ answer. IsAnswered N.digest pass.old pass.new (says.Item t index under) answer) }
+    ensures err { IfErr result (λ why. IsUnanswered pass.old pass.new (says.Item t index under) why) }
 {
-    let count = store.tip(pass);
-    let state = under.unwrap_or(count);
-    if let Some(reply) = refused_between(alloc, count, number, state)? {
-        return Ok(Answer {
-            number: count,
-            reply,
-        });
+    let number = store.tip(pass);
+    let state = under.unwrap_or(number);
+    if let Some(reply) = refused_between(alloc, number, t, state)? {
+        return Ok(Answer { number, reply });
     }
-    let reply = match store.item(rt, alloc, pass, number, index, state) {
-        Ok(proved) => entry_text(alloc, proved)?,
-        Err(ItemError::NoEntry { width }) => no_entry_text(alloc, u64::from(width))?,
-        Err(ItemError::Memory) => return Err(LineError::Memory),
+    match store.item(rt, alloc, pass, t, index, state) {
+        Ok(proved) => {
+            let reply = entry_text(alloc, proved)?;
+            Ok(Answer { number, reply })
+        }
+        Err(ItemError::NoEntry { width }) => {
+            let reply = no_entry_text(alloc, u64::from(width))?;
+            Ok(Answer { number, reply })
+        }
+        Err(ItemError::Memory) => Err(LineError::Memory),
         Err(ItemError::Order { .. } | ItemError::Beyond { .. }) => unreachable!(),
-    };
-    Ok(Answer {
-        number: count,
-        reply,
-    })
+    }
 }

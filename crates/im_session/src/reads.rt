@@ -28,6 +28,9 @@ use im_view::view::KvView;
 use std::alloc::{AllocError, Global};
 use std::sync::Wait;
 
+// As many transactions as there may be: so many are indexed at once where a read finds too few.
+const MOST_INDEXED: u64 = 1_048_576;
+
 // Want of memory is the only error of a view.
 fn in_memory(_: ViewError) -> AllocError {
     AllocError
@@ -98,7 +101,7 @@ fn history_shown<V: KvView>(
     history_text(alloc, versions.as_slice())
 }
 
-// What stands of the keys behind the first n transactions. Where too few are indexed, it indexes n more once, which are enough, and asks again.
+// What stands of the keys behind the first n transactions. Where too few are indexed, it indexes once, as many as there may be, and asks again.
 fn keys_at<H: Hash32, D: Disk, C: Clock, N: TipName, R: Wait>(
     rt: &R,
     alloc: Global,
@@ -118,7 +121,7 @@ fn keys_at<H: Hash32, D: Disk, C: Clock, N: TipName, R: Wait>(
         Err(SnapshotError::Memory) => return Err(AllocError),
         Err(SnapshotError::Beyond { .. }) => unreachable!(),
     }
-    store.index(rt, alloc, pass, n)?;
+    store.index(rt, alloc, pass, MOST_INDEXED.max(n))?;
     match store.snapshot(rt, alloc, pass, n) {
         Ok(keys) => Ok(keys),
         Err(SnapshotError::Memory) => Err(AllocError),

@@ -58,8 +58,10 @@ fn tell<K: Sink>(sink: &mut K, played: Played) -> Result<(), Stopped>
     ensures by { EndsBy (stop_of played.order.items played.ended.items) result }
 {
     let Played { order, ended } = played;
-    let Front { count, why } = front_of(&order, &ended);
-    let wrote = write_front(sink, &order[..count], &ended);
+    let lines = order.as_slice();
+    let sessions = ended.as_slice();
+    let Front { count, why } = front_of(lines, sessions);
+    let wrote = write_front(sink, &lines[..count], sessions);
     drop(order);
     drop(ended);
     match why {

@@ -1,9 +1,8 @@
 use Rattle.std.proofs.Common.{rules, ◌≡◌, ◌+◌, ◌<◌, ◌++◌, ◌∷◌, [], ◌∙◌, ℕ, List, length, map, refl, ap, sym, subst, arith, append_assoc, length-append}
 use Rattle.std.specs.List.{All}
-use Rattle.std.proofs.lemmas.List.{length-map, map-append}
-use Rattle.std.proofs.lemmas.List.Elements.{All-push}
+use Rattle.std.proofs.lemmas.List.{length-map}
 use Rattle.im_script.specs.declared.commands.Line.{Line}
-use Rattle.im_session.proofs.GatherLemmas.{all_of, handed_none, handed_push, inside}
+use Rattle.im_session.proofs.GatherLemmas.{BeginsAt, all_of, begun_push, handed_none, handed_push, inside}
 use Rattle.im_session.specs.Gathered.{AreHanded}
 use Rattle.im_session.specs.Runs.{IsReady}
 use Rattle.im_session.specs.declared.sessions.Session.{Session}
@@ -18,7 +17,7 @@ loop-mine-init g c = record {
   number = refl;
   left = handed_none g.N.TipName.table c.args.main.now c.requires.pass;
   ready = subst (All (IsReady g.N.TipName.table)) (sym c.requires.none.0) (λ i d lt. absurd (omega arith));
-  begins = subst (All (λ (s : Session). (s.pass.view.seen ≡ c.args.main.now.view.seen) × (s.pass.view.least ≡ c.args.main.now.view.least))) (sym c.requires.none.0) (λ i d lt. absurd (omega arith));
+  begins = subst (All (BeginsAt c.args.main.now)) (sym c.requires.none.0) (λ i d lt. absurd (omega arith));
   lines = ap (map (λ (s : Session). s.lines.items)) c.requires.none.0;
   room = c.requires.none.1;
 }
@@ -26,6 +25,13 @@ loop-mine-init g c = record {
 -- the number is below that of the lists
 pub bounds-run-number : goal.bounds-run-number
 bounds-run-number g c =
+    let i = c.loop-mine.invariant in
+    let rest : List (List Line) = c.next.new.self.rest.items in
+    let all : c.args.lines.items ≡ c.loop-mine.yielded ++ c.in-Some.mine ∷ rest = i.all ∙ ap (λ (l : List (List Line)). c.loop-mine.yielded ++ l) c.in-Some.ensures.steps.0 in
+    omega (arith, i.number, inside c.args.lines.items c.loop-mine.yielded rest c.in-Some.mine all, c.requires.room.0)
+
+pub overflow_cast-number : goal.overflow_cast-number
+overflow_cast-number g c =
     let i = c.loop-mine.invariant in
     let rest : List (List Line) = c.next.new.self.rest.items in
     let all : c.args.lines.items ≡ c.loop-mine.yielded ++ c.in-Some.mine ∷ rest = i.all ∙ ap (λ (l : List (List Line)). c.loop-mine.yielded ++ l) c.in-Some.ensures.steps.0 in
@@ -65,29 +71,23 @@ loop-mine-preserved g c =
     let new : KnownPass = c.pass.new.pass in
     let mine : List Line = c.in-Some.mine in
     let rest : List (List Line) = c.next.new.self.rest.items in
-    let before : List Session = c.loop-mine.sessions.items in
     let p = c.pass.ensures in
     let all : c.args.lines.items ≡ c.loop-mine.yielded ++ mine ∷ rest = i.all ∙ ap (λ (l : List (List Line)). c.loop-mine.yielded ++ l) c.in-Some.ensures.steps.0 in
     let more = inside c.args.lines.items c.loop-mine.yielded rest mine all in
-    let s : Session = c.push_reserved.args.value in
-    let pushed : c.push_reserved.new.self.items ≡ before ++ s ∷ [] = c.push_reserved.ensures.items in
-    let ready : IsReady table s = record { pass = p.given.0; weight = p.given.1; none = p.none.0; linked_none = p.none.1; told_none = p.none.2; texts = search rules } in
-    let Begins : Session → Type 0 = λ x. (x.pass.view.seen ≡ first.view.seen) × (x.pass.view.least ≡ first.view.least) in
-    let begins : Begins s = (p.copy.0 ∙ i.left.seen, p.copy.1 ∙ i.left.least) in
-    let lines : s.lines.items ≡ mine = search rules in
     let handed : AreHanded table first new (length c.loop-mine.yielded + 1) =
     handed_push table first old new (length c.loop-mine.yielded) i.left p.left.0 (omega (arith, i.left.weight, more, c.requires.room.1)) p.left.1 p.same.0 p.same.1 p.gains.own p.gains.leaves p.gains.faults in
     let count : length c.loop-mine.yielded + 1 ≡ length (c.loop-mine.yielded ++ mine ∷ []) = omega (arith, length-append c.loop-mine.yielded (mine ∷ [])) in
+    let begun = begun_push table first c.loop-mine.sessions.items c.push_reserved.new.self.items _ c.loop-mine.yielded mine c.push_reserved.ensures.items i.ready i.begins i.lines
+    (record { pass = p.given.0; weight = p.given.1; none = p.none.0; linked_none = p.none.1; told_none = p.none.2; texts = search rules }) (p.copy.0 ∙ i.left.seen, p.copy.1 ∙ i.left.least) (search rules) in
     record {
       can = tt;
       finite = tt;
       all = all ∙ sym (append_assoc c.loop-mine.yielded (mine ∷ []) rest);
       number = omega (arith, i.number, count);
       left = subst (λ (n : ℕ). AreHanded table first new n) count handed;
-      ready = subst (All (IsReady table)) (sym pushed) (All-push (IsReady table) before s i.ready ready);
-      begins = subst (All Begins) (sym pushed) (All-push Begins before s i.begins begins);
-      lines = ap (map (λ (x : Session). x.lines.items)) pushed ∙ map-append (λ (x : Session). x.lines.items) before (s ∷ [])
-          ∙ (ap (λ (ls : List (List Line)). ls ++ s.lines.items ∷ []) i.lines ∙ ap (λ (l : List Line). c.loop-mine.yielded ++ l ∷ []) lines);
+      ready = begun.0;
+      begins = begun.1;
+      lines = begun.2;
       room = omega (arith, i.room, c.push_reserved.ensures.capacity);
     }
 

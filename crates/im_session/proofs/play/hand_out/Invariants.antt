@@ -1,6 +1,7 @@
 use Rattle.std.proofs.Common.{◌≡◌, ◌≤◌, ◌++◌, length, map}
 use Rattle.std.specs.List.{All}
 use Rattle.std.specs.Prelude.{vec_capacity}
+use Rattle.im_session.proofs.GatherLemmas.{BeginsAt}
 use Rattle.im_session.specs.Gathered.{AreHanded}
 use Rattle.im_session.specs.Runs.{IsReady}
 use Rattle.im_session.specs.declared.sessions.Session.{Session}
@@ -14,7 +15,7 @@ invariant-loop-mine g l = record {
   number : l.number ≡ length l.yielded;
   left : AreHanded g.N.TipName.table l.initial.main l.main (length l.yielded);
   ready : All (IsReady g.N.TipName.table) l.sessions.items;
-  begins : All (λ (s : Session). (s.pass.view.seen ≡ l.initial.main.view.seen) × (s.pass.view.least ≡ l.initial.main.view.least)) l.sessions.items;
+  begins : All (BeginsAt l.initial.main) l.sessions.items;
   lines : map (λ (s : Session). s.lines.items) l.sessions.items ≡ l.yielded;
   room : length l.fn.lines.items ≤ vec_capacity l.sessions;
 }

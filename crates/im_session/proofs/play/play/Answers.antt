@@ -11,19 +11,19 @@ use Rattle.im_table.specs.Known.{KnownPass, TableId}
 use Rattle.im_session.proofs.play.play.Goals as goal
 
 -- as many sessions as names begin, and the weight is enough for them
-pub hand_out-requires-clause-room : goal.hand_out-requires-clause-room
-hand_out-requires-clause-room g c =
+pub hand_out-sessions-requires-clause-room : goal.hand_out-sessions-requires-clause-room
+hand_out-sessions-requires-clause-room g c =
     let many = hands_many c.args.names.now c.args.phase c.in_ok-order.order.items c.in_ok-order.lines.items c.in_ok-order.ensures.dealt in
     (omega (arith, many, c.requires.few), omega (arith, many, c.requires.few, c.requires.pass.1, c.pass-linker.ensures.left.1, c.pass-indexer.ensures.left.1))
 
-pub hand_out-requires-clause-none : goal.hand_out-requires-clause-none
-hand_out-requires-clause-none g c =
+pub hand_out-sessions-requires-clause-none : goal.hand_out-sessions-requires-clause-none
+hand_out-sessions-requires-clause-none g c =
     let many = hands_many c.args.names.now c.args.phase c.in_ok-order.order.items c.in_ok-order.lines.items c.in_ok-order.ensures.dealt in
     (c.in_ok-order.ensures.none.0, omega (arith, many, c.in_ok-order.ensures.room.0))
 
 -- the helpers' passes are new
-pub run_phase-requires-clause-helpers : goal.run_phase-requires-clause-helpers
-run_phase-requires-clause-helpers g c =
+pub run_phase-sessions-requires-clause-helpers : goal.run_phase-sessions-requires-clause-helpers
+run_phase-sessions-requires-clause-helpers g c =
     let one = c.pass-linker.ensures in
     let two = c.pass-indexer.ensures in (
       record { helper = record { pass = one.given.0; weight = one.given.1; none = one.none.0; calm = one.none.2 }; leaves = one.none.1 },
@@ -31,11 +31,11 @@ run_phase-requires-clause-helpers g c =
     )
 
 -- as many sessions have ended
-pub gather-requires-clause-passes : goal.gather-requires-clause-passes
-gather-requires-clause-passes g c = done_passes g.N.TipName.digest g.N.TipName.table c.hand_out-sessions.result.items c.run_phase-sessions.result.0.items c.run_phase-sessions.ensures.done
+pub gather-ended-requires-clause-passes : goal.gather-ended-requires-clause-passes
+gather-ended-requires-clause-passes g c = done_passes g.N.TipName.digest g.N.TipName.table c.hand_out-sessions.result.items c.run_phase-sessions.result.0.items c.run_phase-sessions.ensures.done
 
-pub gather-requires-clause-room : goal.gather-requires-clause-room
-gather-requires-clause-room g c =
+pub gather-ended-requires-clause-room : goal.gather-ended-requires-clause-room
+gather-ended-requires-clause-room g c =
     let hands : List (List Line) = c.in_ok-order.lines.items in
     let before : List Session = c.hand_out-sessions.result.items in
     let dealt = hands_many c.args.names.now c.args.phase c.in_ok-order.order.items hands c.in_ok-order.ensures.dealt in

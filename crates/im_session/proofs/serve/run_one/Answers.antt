@@ -24,11 +24,11 @@ returns-in-Ok-clause-ran g c =
     (g.K.Sink.faults c.args.sink.now) (g.K.Sink.faults c.tell.new.sink) c.tell.result p.1 p.4 p.3 c.tell.ensures.by (c.tell.ensures.wrote p.0 p.2 p.3)
 
 -- there was no memory for its lists
-pub returns-clause-ran : goal.returns-clause-ran
-returns-clause-ran g c =
+pub returns-in-Err-clause-ran : goal.returns-in-Err-clause-ran
+returns-in-Err-clause-ran g c =
     let written = g.K.Sink.written c.args.sink.now in
     let faults : ℕ = g.K.Sink.faults c.args.sink.now in
-    let same : c.play.new.main ≡ c.args.main.now = search rules in
+    let same : c.play.new.main ≡ c.args.main.now = c.in-Err.ensures.nothing in
     let some : c.args.phase ≡ [] → ⊥ = λ none. search rules in
     subst (λ (p : KnownPass). RunsPhase g.N.TipName.digest c.args.links c.args.main.now p c.args.phase written written faults faults (Err (stops.Line Memory))) (sym same)
     (ran_refused g.N.TipName.digest c.args.links c.args.main.now c.args.phase written faults some)

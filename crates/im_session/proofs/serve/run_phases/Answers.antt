@@ -1,6 +1,6 @@
 use Rattle.std.proofs.Common.{rules, ◌≡◌, ◌≢◌, ◌++◌, ◌∷◌, [], ◌∙◌, ℕ, List, length, ap, sym, subst, arith, append_assoc, append-nil, Result, Err, Ok}
 use Rattle.std.specs.Prelude.{AllPairs}
-use Rattle.im_script.specs.Script.{lines_of}
+use Rattle.im_script.specs.Script.{lines_of, names_of}
 use Rattle.im_script.specs.declared.commands.Line.{Line}
 use Rattle.im_script.proofs.NameLemmas.{names-all, names-apart}
 use Rattle.im_session.proofs.ServeLemmas.{phase_named, script_none, well_done, well_next, well_none, well_stops}
@@ -15,12 +15,12 @@ run_one-requires-clause-named g c =
     let rest : List (List Line) = c.next.new.self.rest.items in
     let all : c.args.script.phases.items ≡ c.loop-phase.yielded ++ c.in-Some.phase ∷ rest =
     c.loop-phase.invariant.all ∙ ap (λ (l : List (List Line)). c.loop-phase.yielded ++ l) c.in-Some.ensures.steps.0 in
-    subst (λ (names : List (List ℕ)). AreNamed names c.in-Some.phase) (sym c.requires.named)
+    subst (λ (names : List (List ℕ)). AreNamed names c.in-Some.phase) {x = names_of [] (lines_of c.args.script.phases.items)} (search rules)
     (phase_named c.args.script.phases.items c.loop-phase.yielded rest c.in-Some.phase all)
 
 pub run_one-requires-clause-apart : goal.run_one-requires-clause-apart
 run_one-requires-clause-apart g c =
-    subst (λ (names : List (List ℕ)). AllPairs (λ a b. a ≢ b) names) (sym c.requires.named)
+    subst (λ (names : List (List ℕ)). AllPairs (λ a b. a ≢ b) names) {x = names_of [] (lines_of c.args.script.phases.items)} (search rules)
     (names-apart [] (lines_of c.args.script.phases.items) (λ i j d lt less. absurd (omega (arith, less))))
 
 pub loop-phase-init : goal.loop-phase-init

@@ -1,9 +1,11 @@
-use Rattle.std.proofs.Common.{rules, ◌≡◌, ◌∷◌, [], ℤ, List, Option, length, ap, subst, sym, arith}
+use Rattle.std.proofs.Common.{rules, ◌≡◌, ◌∷◌, [], ℤ, List, Option, true, length, ap, subst, sym, arith}
+use Rattle.std.specs.List.{All}
 use Rattle.im_session.proofs.ServeLemmas.{serves_of}
 use Rattle.im_session.specs.Served.{Serves}
 use Rattle.im_store.specs.Closing.{ClosesStore}
 use Rattle.im_store.specs.Names.{Naming, naming_of}
 use Rattle.im_table.specs.Known.{KnownPass}
+use Rattle.im_table.specs.declared.items.LogItem.{LogItem}
 use Rattle.im_session.proofs.serve.serve.Goals as goal
 
 pub returns : goal.returns
@@ -27,9 +29,10 @@ returns g c =
     let closes = subst (λ (ps : List KnownPass). ClosesStore (λ _. Unit {0}) g.D.Disk.told g.D.Disk.faults n.digest n.logs n.found n.synced n.faults n.time n.given ps disk (g.C.Clock.constant clock) (g.C.Clock.given clock)) passes
     c.close-disk.ensures in
     let store = c.named-store.ensures in
+    let marked = subst (All (λ (item : LogItem). item.found ≡ true)) c.requires.tip.1 c.requires.marked in
     let serves = serves_of g.D.Disk.told g.D.Disk.faults c.args.links n first now c.args.script.phases.items (g.K.Sink.written c.args.sink.now) (g.K.Sink.written c.run_phases-end.new.sink)
     (g.K.Sink.faults c.args.sink.now) (g.K.Sink.faults c.run_phases-end.new.sink) disk (g.C.Clock.constant clock) (g.C.Clock.given clock) c.run_phases-end.result c.run_phases-end.ensures.ran closes
-    store.durable store.known.0 store.none.0 store.none.1 store.none.2 c.run_phases-end.ensures.pass.1 (search rules) in
+    store.durable store.known.0 store.none.0 store.none.1 store.none.2 c.run_phases-end.ensures.pass.1 marked in
     record {
       served = subst (λ (m : Naming). Serves g.D.Disk.told g.D.Disk.faults c.args.links m c.args.script.phases.items (g.K.Sink.written c.args.sink.now) (g.K.Sink.written c.run_phases-end.new.sink)
           (g.K.Sink.faults c.args.sink.now) (g.K.Sink.faults c.run_phases-end.new.sink) disk (g.C.Clock.constant clock) (g.C.Clock.given clock) c.run_phases-end.result) (sym named) serves;

@@ -1,0 +1,43 @@
+use Rattle.std.proofs.Common.{◌∙◌, ap, arith, inl, inr}
+use Rattle.std.proofs.lemmas.Result.{IfOk-at_ok}
+use Rattle.im_digest.specs.Digests.{Hash}
+use Rattle.im_model.specs.Headers.{alh}
+use Rattle.im_model.specs.declared.headers.Header.{Header}
+use Rattle.im_session.proofs.AnswerLemmas.{header_answered, header_told, looked}
+use Rattle.im_session.proofs.RefusedLemmas.{header_short}
+use Rattle.im_store.proofs.GainLemmas.{gains_same, later_self}
+use Rattle.im_store.specs.Reading.{AnswersHeader}
+use Rattle.im_table.proofs.PassLemmas.{later_both}
+use Rattle.im_session.proofs.proofs.answer_header.Goals as goal
+
+-- there is no header 0
+pub returns-then-k-eq0-clause-ok : goal.returns-then-k-eq0-clause-ok
+returns-then-k-eq0-clause-ok g c =
+    let t = c.tip-number.ensures in
+    header_answered g.N.TipName.digest c.args.pass.now c.tip-number.new.pass c.tip-number.new.pass c.args.k (record { number = c.tip-number.result; reply = c.in_ok-reply.reply })
+    (looked c.args.pass.now c.tip-number.new.pass c.tip-number.new.pass c.tip-number.result t.later t.gains t.durable (later_self c.tip-number.new.pass) (gains_same c.tip-number.new.pass)) (inl (omega arith, c.in_ok-reply.ensures.items))
+
+-- it is beyond the last
+pub returns-then-number-k-clause-ok : goal.returns-then-number-k-clause-ok
+returns-then-number-k-clause-ok g c =
+    let t = c.tip-number.ensures in
+    header_answered g.N.TipName.digest c.args.pass.now c.tip-number.new.pass c.tip-number.new.pass c.args.k (record { number = c.tip-number.result; reply = c.in_ok-reply-2.reply })
+    (looked c.args.pass.now c.tip-number.new.pass c.tip-number.new.pass c.tip-number.result t.later t.gains t.durable (later_self c.tip-number.new.pass) (gains_same c.tip-number.new.pass)) (inr (inl (omega arith, omega arith, c.in_ok-reply-2.ensures)))
+
+pub proved-requires : goal.proved-requires
+proved-requires g c = record {
+  memory = header_short c.tip-number.new.pass c.header.new.pass c.args.k c.header.result (omega arith) (omega (arith, c.tip-number.ensures.durable.1)) c.header.ensures.err;
+}
+
+pub returns-clause-later : goal.returns-clause-later
+returns-clause-later g c = later_both c.args.pass.now c.tip-number.new.pass c.header.new.pass c.tip-number.ensures.later c.header.ensures.later
+
+-- it is shown
+pub returns-clause-ok : goal.returns-clause-ok
+returns-clause-ok g c =
+    let t = c.tip-number.ensures in
+    let header : Header = c.in_ok-header.header in
+    let told = IfOk-at_ok (λ (h : Header). AnswersHeader g.N.TipName.digest c.tip-number.new.pass c.header.new.pass c.args.k h) c.in_ok-header.ensures.same c.header.ensures.ok in
+    header_told g.N.TipName.digest c.args.pass.now c.tip-number.new.pass c.header.new.pass c.args.k (record { number = c.tip-number.result; reply = c.in_ok-reply-3.reply }) header
+    (looked c.args.pass.now c.tip-number.new.pass c.header.new.pass c.tip-number.result t.later t.gains t.durable c.header.ensures.later c.header.ensures.gains) (omega arith) (omega arith) told
+    (c.in_ok-reply-3.ensures g.N.TipName.digest (c.alh.ensures ∙ ap (λ (x : Hash). alh x header) c.hash.ensures))

@@ -1,0 +1,38 @@
+use Rattle.std.proofs.Common.{◌≤◌, arith, inl}
+use Rattle.std.proofs.lemmas.Result.{IfOk-at_ok}
+use Rattle.im_proof.specs.declared.proofs.DualProof.{DualProof}
+use Rattle.im_session.proofs.AnswerLemmas.{looked, proof_answered, proof_told}
+use Rattle.im_session.proofs.ReadLemmas.{none-said, some-said}
+use Rattle.im_session.proofs.RefusedLemmas.{prove_short}
+use Rattle.im_store.proofs.GainLemmas.{gains_same, later_self}
+use Rattle.im_store.specs.Reading.{AnswersDual}
+use Rattle.im_table.proofs.PassLemmas.{later_both}
+use Rattle.im_session.proofs.proofs.answer_prove.Goals as goal
+
+-- the numbers are refused
+pub returns-in-Some-clause-ok : goal.returns-in-Some-clause-ok
+returns-in-Some-clause-ok g c =
+    let t = c.tip-number.ensures in
+    proof_answered g.N.TipName.digest c.args.pass.now c.tip-number.new.pass c.tip-number.new.pass c.args.s c.args.t (record { number = c.tip-number.result; reply = c.in-Some.reply })
+    (looked c.args.pass.now c.tip-number.new.pass c.tip-number.new.pass c.tip-number.result t.later t.gains t.durable (later_self c.tip-number.new.pass) (gains_same c.tip-number.new.pass))
+    (inl (some-said _ _ c.in-Some.reply c.in-Some.is c.in_ok-reply.ensures.refused))
+
+pub proved-requires : goal.proved-requires
+proved-requires g c =
+    let ordered = none-said ((1 ≤ c.args.s) × (c.args.s ≤ c.args.t) × (c.args.t ≤ c.tip-number.result)) _ c.in_default.is c.in_ok-reply.ensures.taken in
+    record {
+      memory = prove_short c.tip-number.new.pass c.prove.new.pass c.args.s c.args.t c.prove.result ordered.0 ordered.1 (omega (arith, ordered.2, c.tip-number.ensures.durable.1)) c.prove.ensures.err;
+    }
+
+pub returns-clause-later : goal.returns-clause-later
+returns-clause-later g c = later_both c.args.pass.now c.tip-number.new.pass c.prove.new.pass c.tip-number.ensures.later c.prove.ensures.later
+
+-- they are proved
+pub returns-clause-ok : goal.returns-clause-ok
+returns-clause-ok g c =
+    let t = c.tip-number.ensures in
+    let ordered = none-said ((1 ≤ c.args.s) × (c.args.s ≤ c.args.t) × (c.args.t ≤ c.tip-number.result)) _ c.in_default.is c.in_ok-reply.ensures.taken in
+    let shown = c.in_ok-reply-2.ensures in
+    let proof = IfOk-at_ok (λ (x : DualProof). AnswersDual g.N.TipName.digest c.tip-number.new.pass c.prove.new.pass c.args.s c.args.t x) c.in_ok-dual.ensures.same c.prove.ensures.ok in
+    proof_told g.N.TipName.digest c.args.pass.now c.tip-number.new.pass c.prove.new.pass c.args.s c.args.t (record { number = c.tip-number.result; reply = c.in_ok-reply-2.reply }) c.in_ok-dual.dual
+    (looked c.args.pass.now c.tip-number.new.pass c.prove.new.pass c.tip-number.result t.later t.gains t.durable c.prove.ensures.later c.prove.ensures.gains) ordered.2 proof shown.text shown.again
