@@ -13,7 +13,7 @@ use Rattle.im_session.specs.declared.errors.LineError.TheVariants as fails
 use Rattle.im_session.specs.declared.serve.Stopped.{Stopped}
 use Rattle.im_session.specs.declared.serve.Stopped.TheVariants as stops
 use Rattle.im_words.specs.declared.Link.{Link}
-use Rattle.im_app.specs.Runs.{HasOneSession, IsGiven, LeavesFound, WritesFront, opening_error}
+use Rattle.im_app.specs.Runs.{HasOneSession, IsGiven, LeavesFound, WritesFront, WritesPart, WritesReport, opening_error}
 use Rattle.im_app.specs.Statuses.{EndsReading, EndsWriting, status_behind, status_by, status_for}
 use Rattle.im_app.specs.declared.status.Status.{Status}
 use Rattle.im_app.specs.declared.status.Status.TheVariants as the
@@ -125,6 +125,33 @@ front-told hash constant logs link why left script before now times_before times
   script_is = same-script left script w.script is w.script_is;
   report = w.report;
   wrote = w.wrote;
+}
+
+pub whole-told : (hash : Hash) (constant : Option ℤ) (logs : ℕ) (link : Link) (left : Option (List ℕ)) (script : List ℕ) (before now : Option Told) (times_before times_now : Option (List ℤ)) (sink_before sink_now : Option (List ℕ)) (faults_before faults_now : ℕ)
+    → IfSome left (λ octets. octets ≡ script)
+    → WritesReport hash constant logs link (Some script) before now times_before times_now sink_before sink_now faults_before faults_now
+    → WritesReport hash constant logs link left before now times_before times_now sink_before sink_now faults_before faults_now
+whole-told hash constant logs link left script before now times_before times_now sink_before sink_now faults_before faults_now is w = record {
+  script = w.script;
+  script_is = same-script left script w.script is w.script_is;
+  report = w.report;
+  all = w.all;
+  wrote = w.wrote;
+  whole = w.whole;
+  here = w.here;
+}
+
+pub part-told : (hash : Hash) (constant : Option ℤ) (logs : ℕ) (link : Link) (left : Option (List ℕ)) (script : List ℕ) (before now : Option Told) (times_before times_now : Option (List ℤ)) (sink_before sink_now : Option (List ℕ)) (faults_before faults_now : ℕ)
+    → IfSome left (λ octets. octets ≡ script)
+    → WritesPart hash constant logs link (Some script) before now times_before times_now sink_before sink_now faults_before faults_now
+    → WritesPart hash constant logs link left before now times_before times_now sink_before sink_now faults_before faults_now
+part-told hash constant logs link left script before now times_before times_now sink_before sink_now faults_before faults_now is w = record {
+  script = w.script;
+  script_is = same-script left script w.script is w.script_is;
+  report = w.report;
+  wrote = w.wrote;
+  whole = w.whole;
+  here = w.here;
 }
 
 -- nothing was taken

@@ -16,8 +16,22 @@ use Rattle.im_app.specs.Statuses.{EndsWriting}
 use Rattle.im_app.specs.declared.status.Status.{Status}
 use Rattle.im_app.specs.declared.status.Status.TheVariants as the
 use Rattle.im_app.proofs.FateLemmas.{Ends, ends-other, fate, unread-told, writing-run}
-use Rattle.im_app.proofs.RunLemmas.{alone-same, front-told, given-not, reading-for, read-told, same-found}
+use Rattle.im_app.proofs.RunLemmas.{alone-same, front-told, given-not, part-told, reading-for, read-told, same-found, whole-told}
 use Rattle.im_app.proofs.run.run.Goals as goal
+
+pub returns-in-Ok-clause-report : goal.returns-in-Ok-clause-report
+returns-in-Ok-clause-report g c = λ e.
+    let given = c.in-Ok.ensures.given in
+    whole-told (g.H.Hash32.digest c.args.hash.now) (g.C.Clock.constant c.args.clock) c.args.logs c.args.link (g.S.Source.left c.args.source.now) given.0
+    (g.D.Disk.told c.args.disk) (g.D.Disk.told c.run_script.result.disk) (g.C.Clock.given c.args.clock) (g.C.Clock.given c.run_script.result.clock) (g.K.Sink.written c.args.sink.now) (g.K.Sink.written c.run_script.new.sink)
+    (g.K.Sink.faults c.args.sink.now) (g.K.Sink.faults c.run_script.new.sink) given.1 (c.run_script.ensures.report given.0 given.2 e)
+
+pub returns-in-Ok-clause-part : goal.returns-in-Ok-clause-part
+returns-in-Ok-clause-part g c = λ e.
+    let given = c.in-Ok.ensures.given in
+    part-told (g.H.Hash32.digest c.args.hash.now) (g.C.Clock.constant c.args.clock) c.args.logs c.args.link (g.S.Source.left c.args.source.now) given.0
+    (g.D.Disk.told c.args.disk) (g.D.Disk.told c.run_script.result.disk) (g.C.Clock.given c.args.clock) (g.C.Clock.given c.run_script.result.clock) (g.K.Sink.written c.args.sink.now) (g.K.Sink.written c.run_script.new.sink)
+    (g.K.Sink.faults c.args.sink.now) (g.K.Sink.faults c.run_script.new.sink) given.1 (c.run_script.ensures.part given.0 given.2 e)
 
 pub returns-in-Ok-clause-front : goal.returns-in-Ok-clause-front
 returns-in-Ok-clause-front g c = λ why e.

@@ -18,12 +18,12 @@ use Rattle.im_app.proofs.ServedLemmas.{ran-alone, ran-constant, ran-device, ran-
 use Rattle.im_app.proofs.run.run_script.Goals as goal
 
 -- no memory for the list of passes: nothing was done
-pub returns-clause-front : goal.returns-clause-front
-returns-clause-front g c = λ octets why given e.
+pub returns-in_default-clause-front : goal.returns-in_default-clause-front
+returns-in_default-clause-front g c = λ octets why given e.
     inl (refl, (refl, same-found (g.H.Hash32.digest c.args.hash.now) why (g.D.Disk.told c.args.disk) (sym e)))
 
-pub returns-clause-grows : goal.returns-clause-grows
-returns-clause-grows g c = grows_none (g.D.Disk.told c.args.disk)
+pub returns-in_default-clause-grows : goal.returns-in_default-clause-grows
+returns-in_default-clause-grows g c = grows_none (g.D.Disk.told c.args.disk)
 
 -- the disk wasn't opened
 pub returns-in-Err-clause-front : goal.returns-in-Err-clause-front

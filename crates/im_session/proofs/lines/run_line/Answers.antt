@@ -33,6 +33,6 @@ returns-in_err-text-clause-err g c =
 pub returns-clause-ok : goal.returns-clause-ok
 returns-clause-ok g c =
     let answered = c.in_ok-number.ensures.ok in
-    let a : Answered = as_answered c.args.line.session c.args.line.command (record { number = c.in_ok-number.number; reply = c.in_ok-number.reply }) in
+    let a : Answered = as_answered c.args.line.session c.args.line.command c.in_ok-number.field-0 in
     let same : c.push_reserved.new.self.items ≡ c.args.texts.now.items ++ answer_line a ∷ [] = search rules in
     (a, refl, answered.step c.args.line.session, same)

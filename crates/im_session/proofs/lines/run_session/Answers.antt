@@ -5,8 +5,8 @@ use Rattle.im_session.proofs.lines.run_session.Goals as goal
 
 pub returns : goal.returns
 returns g c =
-    let r = c.run_lines.ensures in
-    let lines : c.replace.result.items ≡ c.args.session.now.lines.items = search rules in
+    let r = c.run_lines-session.ensures in
+    let lines : c.replace-lines.result.items ≡ c.args.session.now.lines.items = search rules in
     record {
       done = record {
         pass = r.pass.0;
@@ -15,6 +15,6 @@ returns g c =
         seen = r.seen;
         answers = r.ran.0;
         texts = r.ran.1;
-        ran = subst (λ (ls : List Line). HasRun g.N.TipName.digest (start_of c.args.session.now) c.run_lines.new.session.pass ls r.ran.0 c.run_lines.result) lines r.ran.2;
+        ran = subst (λ (ls : List Line). HasRun g.N.TipName.digest (start_of c.args.session.now) c.run_lines-session.new.session.pass ls r.ran.0 c.run_lines-session.result) lines r.ran.2;
       };
     }

@@ -34,5 +34,5 @@ returns-clause-ok g c =
     let ordered = none-said ((1 ≤ c.args.s) × (c.args.s ≤ c.args.t) × (c.args.t ≤ c.tip-number.result)) _ c.in_default.is c.in_ok-reply.ensures.taken in
     let shown = c.in_ok-reply-2.ensures in
     let proof = IfOk-at_ok (λ (x : Advance). AnswersAdvance g.N.TipName.digest c.tip-number.new.pass c.advance.new.pass c.args.s c.args.t x) c.in_ok-dual.ensures.same c.advance.ensures.ok in
-    advance_told g.N.TipName.digest c.args.pass.now c.tip-number.new.pass c.advance.new.pass c.args.s c.args.t (record { number = c.tip-number.result; reply = c.in_ok-reply-2.reply }) (record { dual = c.in_ok-dual.dual; anchor = c.in_ok-dual.anchor })
+    advance_told g.N.TipName.digest c.args.pass.now c.tip-number.new.pass c.advance.new.pass c.args.s c.args.t (record { number = c.tip-number.result; reply = c.in_ok-reply-2.reply }) c.in_ok-dual.field-0
     (looked c.args.pass.now c.tip-number.new.pass c.advance.new.pass c.tip-number.result t.later t.gains t.durable c.advance.ensures.later c.advance.ensures.gains) ordered.2 proof shown.text shown.again
