@@ -8,8 +8,7 @@ pub enum Point {
     After { session: u8, line: u64 },
 }
 
-/// What a session can call before and after each line, and what may hold it up there. No session calls it
-/// yet.
+/// What a session calls before and after each line, and what may hold it up there.
 pub trait Gate {
     /// Returns once the session may go on from this point.
     fn pause(&self, point: Point);
