@@ -1,5 +1,5 @@
 -- What the commands that show headers and proofs are answered.
-use Rattle.std.proofs.Common.{◌≡◌, ◌⊎◌, ◌<◌, ◌≤◌, ℕ, List, [], length, map, slice_index_or, take, Option, Some, None, Result, IfErr, IsErrAnd, codes, false, true, unwrap_or, refl, ap, ap₂, sym, ◌∙◌, subst, arith, inl, inr}
+use Rattle.std.proofs.Common.{◌≡◌, ◌⊎◌, ◌<◌, ◌≤◌, ℕ, List, [], length, map, slice_index_or, take, Option, Some, None, codes, false, true, unwrap_or, refl, ap, ap₂, sym, ◌∙◌, subst, arith, inl, inr}
 use Rattle.std.proofs.lemmas.Bool.{both_ways}
 use Rattle.std.proofs.lemmas.List.{length-take-le}
 use Rattle.std.specs.Str.{bytes_eq}
@@ -16,23 +16,18 @@ use Rattle.im_proof.specs.Built.{path_of}
 use Rattle.im_proof.specs.declared.proofs.DualProof.{DualProof}
 use Rattle.im_report.proofs.PlacedLemmas.{beyond-not-placed, message-not-placed, no-entry-not-placed, other-letter, shown-not-placed}
 use Rattle.im_report.specs.Replies.{advance_reply, beyond_reply, header_reply, item_reply, item_shown, no_entry_reply, prove_reply, shown_header, state_reply, tx_reply}
-use Rattle.im_script.specs.declared.commands.Command.{Command}
 use Rattle.im_script.specs.declared.commands.Command.TheVariants as asks
 use Rattle.im_session.proofs.ProvedLemmas.{advance_said, anchor_taken, dual_taken, entries_seen, few_taken, header_beyond, header_said, header_zero, item_said, no_item_said, prove_said, refused_said, state_empty, state_said, state_taken}
-use Rattle.im_session.proofs.ShowLemmas.{closed_again, short_unanswered, shown_answered}
-use Rattle.im_session.specs.Answered.{IsAnswered, IsUnanswered}
+use Rattle.im_session.proofs.ShowLemmas.{closed_again, shown_answered}
+use Rattle.im_session.specs.Answered.{IsAnswered}
 use Rattle.im_session.specs.Lines.{MayBecome}
 use Rattle.im_session.specs.Shown.{IsRefusedBetween}
 use Rattle.im_session.specs.declared.answers.Answer.{Answer}
-use Rattle.im_session.specs.declared.errors.LineError.{LineError}
-use Rattle.im_session.specs.declared.errors.LineError.TheVariants.{Memory}
-use Rattle.im_store.proofs.GainLemmas.{gains_before}
 use Rattle.im_store.specs.Gains.{Gains}
 use Rattle.im_store.specs.Loads.{SawDurable}
 use Rattle.im_store.specs.Reading.{AnswersAdvance, AnswersDual, AnswersEntry, AnswersHeader, AreDurable, HasFewer}
 use Rattle.im_store.specs.declared.answers.Advance.{Advance}
 use Rattle.im_store.specs.declared.answers.ProvedEntry.{ProvedEntry}
-use Rattle.im_table.proofs.PassLemmas.{later_both}
 use Rattle.im_table.specs.Histories.{history_of}
 use Rattle.im_table.specs.Known.{KnownPass}
 use Rattle.im_table.specs.Passes.{Later}
@@ -56,14 +51,6 @@ pub record HasLooked (old mid new : KnownPass) (number : ℕ) : Type 0 where
 pub looked : (old mid new : KnownPass) (number : ℕ) → Later old mid → Gains [] 0 0 old mid → SawDurable old mid number × (mid.view.least.durable ≡ number) × (old.view.least.durable ≤ number) → Later mid new → Gains [] 0 0 mid new
     → HasLooked old mid new number
 looked old mid new number l g saw m k = record { first = l; then = m; first_gains = g; then_gains = k; is = saw.1; above = saw.2 }
-
-pub looked_later : (old mid new : KnownPass) (number : ℕ) → HasLooked old mid new number → Later old new
-looked_later old mid new number l = later_both old mid new l.first l.then
-
--- where memory ran out behind it
-pub looked_short : (old mid new : KnownPass) (number : ℕ) (command : Command) (given : Result Answer LineError) → HasLooked old mid new number → IsErrAnd given (λ why. why ≡ Memory) → IfErr given (λ why. IsUnanswered old new command why)
-looked_short old mid new number command given l short =
-    short_unanswered old new command given short (looked_later old mid new number l) (gains_before 0 0 old mid new l.first_gains l.then_gains)
 
 looked_durable : (old mid new : KnownPass) (number : ℕ) → HasLooked old mid new number → number ≤ new.view.least.durable
 looked_durable old mid new number l = let up = l.then.durable in omega (arith, l.is, up)

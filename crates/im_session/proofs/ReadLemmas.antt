@@ -1,15 +1,11 @@
 -- What is read behind the first transactions, and beyond the last.
-use Rattle.std.proofs.Common.{◌≡◌, ◌<◌, ◌≤◌, ◌∙◌, ℕ, List, length, take, arith, ap, subst, sym, inl, IfNone, IfSome, Option, None, Some}
+use Rattle.std.proofs.Common.{◌≡◌, ◌<◌, ◌∙◌, ℕ, List, length, take, arith, ap, subst, sym, inl, IfNone, IfSome, Option, None, Some}
 use Rattle.std.proofs.lemmas.List.{length-take-le}
 use Rattle.im_index.specs.Indexed.{Indexed}
 use Rattle.im_model.specs.declared.transactions.Transaction.{Transaction}
 use Rattle.im_report.specs.Reads.{IsReadAt}
 use Rattle.im_report.specs.Replies.{beyond_reply}
 use Rattle.im_session.specs.Shown.{ShowsKeys}
-use Rattle.im_store.specs.Growth.{IsIndexed}
-use Rattle.im_store.specs.Loads.{SawIndexed}
-use Rattle.im_store.specs.Reading.{ExplainsSnapshot}
-use Rattle.im_store.specs.declared.errors.SnapshotError.TheVariants as snaps
 use Rattle.im_table.proofs.HistoryLemmas.{history_length}
 use Rattle.im_table.specs.Histories.{history_of}
 use Rattle.im_table.specs.Known.{KnownPass}
@@ -36,18 +32,3 @@ read-beyond history at shows reply count n size named beyond e =
 -- so many are shown
 pub keys_length : (p : KnownPass) (n : ℕ) (keys : Indexed) → ShowsKeys p n keys → n ≡ length (take n (history_of p.view.seen))
 keys_length p n keys shown = sym (length-take-le n (history_of p.view.seen) (omega (arith, shown.seen, history_length p.view.seen)))
-
--- of a number that is known to be durable no call finds that it is beyond what is durable
-pub never_beyond : (old new : KnownPass) (n durable : ℕ) → n ≤ old.view.least.durable → ExplainsSnapshot old new n (snaps.Beyond durable) → ⊥
-never_beyond old new n durable known x = let least = x.0.least in let beyond = x.1 in omega (arith, known, least, beyond)
-
--- nor, behind an index of so many more, n of them or more, that fewer are indexed
-pub never_late : (old mid new : KnownPass) (n most indexed before taken : ℕ) → n ≤ old.view.least.durable → n ≤ most → IsIndexed old mid most before taken → ExplainsSnapshot mid new n (snaps.NotYet indexed) → ⊥
-never_late old mid new n most indexed before taken known enough i x =
-    let first = i.saw.least in
-    let shown = i.shown in
-    let is = i.is in
-    let saw : SawIndexed mid new indexed = x.3 in
-    let least = saw.least in
-    let fewer : indexed < n = x.4 in
-    omega (arith, known, enough, first, shown, is, least, fewer)

@@ -9,8 +9,7 @@ use Rattle.im_report.proofs.PlacedLemmas.{beyond-not-placed, order-not-placed}
 use Rattle.im_report.specs.Replies.{beyond_reply, order_reply, tx_reply}
 use Rattle.im_session.proofs.ProvedLemmas.{not_zero}
 use Rattle.im_session.specs.Shown.{IsRefusedBetween}
-use Rattle.im_store.specs.Reading.{ExplainsEntry, ExplainsHeader, ExplainsProve, IsBeyond}
-use Rattle.im_store.specs.declared.errors.ItemError.TheVariants as items
+use Rattle.im_store.specs.Reading.{ExplainsHeader, ExplainsProve, IsBeyond}
 use Rattle.im_store.specs.declared.errors.ProveError.{ProveError}
 use Rattle.im_store.specs.declared.errors.ProveError.TheVariants as proves
 use Rattle.im_table.specs.Known.{KnownPass}
@@ -68,10 +67,3 @@ prove_short old new s t given some order known = IfErr-weaker given _ _ short
     short (proves.Order a b) x = absurd (not_unordered s t some order x.2)
     short (proves.Beyond durable) x = absurd (not_beyond old new s t durable known x)
     short proves.Memory x = refl
-
--- nor is an entry refused by the numbers
-pub entry_ordered : (old new : KnownPass) (t i s a b : ℕ) → 1 ≤ t → t ≤ s → ExplainsEntry old new t i s (items.Order a b) → ⊥
-entry_ordered old new t i s a b some order x = not_unordered t s some order x.2
-
-pub entry_durable : (old new : KnownPass) (t i s durable : ℕ) → s ≤ old.view.least.durable → ExplainsEntry old new t i s (items.Beyond durable) → ⊥
-entry_durable old new t i s durable known x = not_beyond old new t s durable known x

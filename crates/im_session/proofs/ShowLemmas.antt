@@ -104,15 +104,6 @@ unasked_answered hash old new pres drafts answer l g is above says =
     shown_answered hash old new new (Set pres drafts) answer l (later_self new) g (gains_same new) is above (λ n f. refl) (unasked_not_placed drafts answer.reply.items answer.number says)
     (λ items m. unasked_answer (history_of items) pres drafts answer.number answer.reply.items says) (λ items m. tt)
 
--- `link`, where memory runs out behind it
-pub linked_unanswered : (old mid new : KnownPass) (count before size : ℕ) (given : Result Answer LineError) → IsErrAnd given (λ why. why ≡ Memory) → Later old mid → Later mid new → Gains [] 0 0 old mid
-    → IsLinked mid new count before size → Gains [] (size - before) 0 mid new → IfErr given (λ why. IsUnanswered old new (Link count) why)
-linked_unanswered old mid new count before size given short l m g linked k =
-    let gains : Gains [] (size - before) 0 old new = gains_before (size - before) 0 old mid new g k in
-    if-err (λ why. IsUnanswered old new (Link count) why) given Memory short
-    (λ session. stuck_none old new (record { session = session; command = Link count }) (size - before) (later_both old mid new l m) gains
-    (omega (arith, gains.leaves, l.linked, linked.known, linked.grows, linked.shown)))
-
 -- `link`
 pub linked_answered : (hash : Hash) (old mid new : KnownPass) (count before size : ℕ) (answer : Answer) → Later old mid → Later mid new → Gains [] 0 0 old mid → IsLinked mid new count before size
     → Gains [] (size - before) 0 mid new → mid.view.least.durable ≡ answer.number → old.view.least.durable ≤ answer.number → answer.reply.items ≡ linked_reply → IsAnswered hash old new (Link count) answer

@@ -3,7 +3,6 @@ use Rattle.std.specs.Prelude.{◌≡◌, ℕ, List}
 use Rattle.im_digest.specs.Digests.{Hash}
 use Rattle.im_report.specs.Report.{Answered}
 use Rattle.im_script.specs.declared.commands.Command.{Command}
-use Rattle.im_script.specs.declared.commands.Line.{Line}
 use Rattle.im_session.specs.Lines.{IsStep, IsStuck}
 use Rattle.im_session.specs.declared.answers.Answer.{Answer}
 use Rattle.im_session.specs.declared.errors.LineError.{LineError}

@@ -1,5 +1,5 @@
 -- What one line does to the pass of its session.
-use Rattle.std.specs.Prelude.{◌≡◌, ◌⊎◌, ◌≤◌, ◌+◌, ◌++◌, ℕ, List, length, take, IsTrue, IfSome, Option, Some}
+use Rattle.std.specs.Prelude.{◌≡◌, ◌≤◌, ◌+◌, ◌++◌, ℕ, List, length, take, IsTrue, IfSome, Option, Some}
 use mathlib.Core.List.{IsPrefix}
 use Rattle.im_digest.specs.Digests.{Hash}
 use Rattle.im_accept.specs.Messages.{IsReadBack}
