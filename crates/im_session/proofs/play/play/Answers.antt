@@ -26,7 +26,8 @@ hand_out-sessions-requires-clause-none g c =
 pub run_phase-sessions-requires-clause-helpers : goal.run_phase-sessions-requires-clause-helpers
 run_phase-sessions-requires-clause-helpers g c =
     let one = c.pass-linker.ensures in
-    let two = c.pass-indexer.ensures in (
+    let two = c.pass-indexer.ensures in
+    λ lives outlive. (
       record { helper = record { pass = one.given.0; weight = one.given.1; none = one.none.0; calm = one.none.2 }; leaves = one.none.1 },
       record { helper = record { pass = two.given.0; weight = two.given.1; none = two.none.0; calm = two.none.2 }; leaves = two.none.1 },
     )
