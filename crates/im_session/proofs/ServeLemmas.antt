@@ -206,9 +206,9 @@ phase_named script before after phase is =
     let all : All P (lines_of before ++ (phase ++ lines_of after)) = subst (All P) lines (names-all [] (lines_of script)) in
     all-left P phase (lines_of after) (all-right P (lines_of before) (phase ++ lines_of after) all)
 
-pub script_none : (script : List (List Line)) → length script ≡ 0 → script ≡ []
-script_none [] none = refl
-script_none (phase ∷ script) none = absurd (omega (arith, none))
+pub list_none : {X : Type 0} (xs : List X) → length xs ≡ 0 → xs ≡ []
+list_none [] none = refl
+list_none (x ∷ xs) none = absurd (omega (arith, none))
 
 -- ---- phase behind phase
 

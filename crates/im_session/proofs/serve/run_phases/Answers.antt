@@ -3,7 +3,7 @@ use Rattle.std.specs.Prelude.{AllPairs}
 use Rattle.im_script.specs.Script.{lines_of, names_of}
 use Rattle.im_script.specs.declared.commands.Line.{Line}
 use Rattle.im_script.proofs.NameLemmas.{names-all, names-apart}
-use Rattle.im_session.proofs.ServeLemmas.{phase_named, script_none, well_done, well_next, well_none, well_stops}
+use Rattle.im_session.proofs.ServeLemmas.{list_none, phase_named, well_done, well_next, well_none, well_stops}
 use Rattle.im_session.specs.Dealing.{AreNamed}
 use Rattle.im_session.specs.Served.{RunsPhases}
 use Rattle.im_session.specs.declared.serve.Stopped.{Stopped}
@@ -11,16 +11,16 @@ use Rattle.im_session.proofs.serve.run_phases.Goals as goal
 
 -- the lines of each phase have names among those of the script, which are apart
 pub run_one-requires-clause-named : goal.run_one-requires-clause-named
-run_one-requires-clause-named g c =
+run_one-requires-clause-named g c κs within =
     let rest : List (List Line) = c.next.new.self.rest.items in
     let all : c.args.script.phases.items ≡ c.loop-phase.yielded ++ c.in-Some.phase ∷ rest =
     c.loop-phase.invariant.all ∙ ap (λ (l : List (List Line)). c.loop-phase.yielded ++ l) c.in-Some.ensures.steps.0 in
-    subst (λ (names : List (List ℕ)). AreNamed names c.in-Some.phase) {x = names_of [] (lines_of c.args.script.phases.items)} (search rules)
+    subst (λ (names : List (List ℕ)). AreNamed names c.in-Some.phase) {x = names_of [] (lines_of c.args.script.phases.items)} {y = c.deref.result.now} (sym c.requires.named ∙ sym c.deref.ensures.value)
     (phase_named c.args.script.phases.items c.loop-phase.yielded rest c.in-Some.phase all)
 
 pub run_one-requires-clause-apart : goal.run_one-requires-clause-apart
-run_one-requires-clause-apart g c =
-    subst (λ (names : List (List ℕ)). AllPairs (λ a b. a ≢ b) names) {x = names_of [] (lines_of c.args.script.phases.items)} (search rules)
+run_one-requires-clause-apart g c κs within =
+    subst (λ (names : List (List ℕ)). AllPairs (λ a b. a ≢ b) names) {x = names_of [] (lines_of c.args.script.phases.items)} {y = c.deref.result.now} (sym c.requires.named ∙ sym c.deref.ensures.value)
     (names-apart [] (lines_of c.args.script.phases.items) (λ i j d lt less. absurd (omega (arith, less))))
 
 pub loop-phase-init : goal.loop-phase-init
@@ -65,4 +65,4 @@ returns-clause-ran g c =
     let i = c.loop-phase.invariant in
     let rest = c.loop-phase.phase-iterator.rest in
     let none : length rest.items ≡ 0 = search rules in
-    well_done c.args.script.phases.items (i.all ∙ ap (λ (l : List (List Line)). c.loop-phase.yielded ++ l) (script_none rest.items none) ∙ append-nil c.loop-phase.yielded) i.well
+    well_done c.args.script.phases.items (i.all ∙ ap (λ (l : List (List Line)). c.loop-phase.yielded ++ l) (list_none rest.items none) ∙ append-nil c.loop-phase.yielded) i.well

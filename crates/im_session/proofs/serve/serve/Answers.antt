@@ -20,7 +20,7 @@ returns g c =
       time = g.N.TipName.time;
       given = g.N.TipName.given;
     } in
-    let named : naming_of g.H.Hash32.digest g.D.Disk.told g.D.Disk.faults g.C.Clock.constant g.C.Clock.given c.args.opened ≡ n = cc (c.requires.tip, c.requires.hash, c.requires.disk, c.requires.clock) in
+    let named : naming_of g.H.Hash32.digest g.D.Disk.told g.D.Disk.faults g.C.Clock.constant g.C.Clock.given c.args.opened ≡ n = cc (c.requires.tip.0, c.requires.tip.1, c.requires.tip.2, c.requires.hash, c.requires.disk.0, c.requires.disk.1, c.requires.clock.0, c.requires.clock.1) in
     let first : KnownPass = c.named-store.result.1 in
     let now : KnownPass = c.run_phases-end.new.main in
     let disk = c.close-disk.result.0 in
