@@ -179,16 +179,18 @@ fn help<
         indexer,
         links,
     } = helpers;
-    join(
+    side_by_side(
         rt,
-        move || -> Pass
-            requires { IsIdle N.table linker }
+        &|pass: Pass| -> Pass
+            requires { IsIdle N.table pass }
             ensures { IsHelper N.table result × (links ≡ false → IsIdle N.table result) }
-        { link_where(rt, alloc, store, ended, linker, links) },
-        move || -> Pass
-            requires { IsIdle N.table indexer }
+        { link_where(rt, alloc, store, ended, pass, links) },
+        linker,
+        &|pass: Pass| -> Pass
+            requires { IsIdle N.table pass }
             ensures { IsIdle N.table result }
-        { index_on(rt, alloc, store, ended, indexer) },
+        { index_on(rt, alloc, store, ended, pass) },
+        indexer,
     )
 }
 
@@ -218,16 +220,47 @@ pub(crate) fn run_phase<
 {
     let flag = AtomicBool::new(false);
     let ended = &flag;
-    let ((linker, indexer), sessions) = join(
+    let ((linker, indexer), sessions) = side_by_side(
         rt,
-        move || -> (Pass, Pass)
-            requires { IsIdle N.table helpers.linker × IsIdle N.table helpers.indexer × IsSync R.row }
+        &|helpers: Helpers| -> (Pass, Pass)
+            requires { IsIdle N.table helpers.linker × IsIdle N.table helpers.indexer }
             ensures { IsHelper N.table result.0 × (helpers.links ≡ false → IsIdle N.table result.0) × IsIdle N.table result.1 }
         { help(rt, alloc, store, ended, helpers) },
-        move || -> Vec<Session>
+        helpers,
+        &|sessions: Vec<Session>| -> Vec<Session>
             requires { All (IsReady N.table) sessions.items }
             ensures { AreDone N.digest N.table sessions.items result.items }
         { run_all(rt, alloc, gate, store, ended, sessions) },
+        sessions,
     );
     (sessions, linker, indexer)
+}
+
+// Calls f with a on a thread of its own, or last where none can be started, and g with b on this one. `join` tells nothing of closures that hold a
+// value whose type has a lifetime, as a store's: those that it gets here hold lent functions alone.
+fn side_by_side<
+    R: Threads,
+    A: Send + Drop,
+    B: Drop,
+    X: Send,
+    Y,
+    F: Fn(A) -> X + Sync,
+    G: Fn(B) -> Y,
+>(rt: &R, f: &F, a: A, g: &G, b: B) -> (X, Y)
+    requires first { F.pre f.now a }
+    requires second { G.pre g.now b }
+    ensures first { F.post f.now a result.0 }
+    ensures second { G.post g.now b result.1 }
+{
+    join(
+        rt,
+        move || -> X
+            requires { F.pre f.now a }
+            ensures { F.post f.entry.now a result }
+        { f(a) },
+        move || -> Y
+            requires { G.pre g.now b }
+            ensures { G.post g.entry.now b result }
+        { g(b) },
+    )
 }
