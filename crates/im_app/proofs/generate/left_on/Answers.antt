@@ -12,6 +12,6 @@ returns-in-Ok g c = λ history stands.
     let hash : Hash = g.H.Hash32.digest c.args.hash.now in
     let same : txs_of c.in-Ok.recovered.found.records.items ≡ history = c.in-Ok.ensures.opens.one _ history refl stands in
     let alhs : c.in-Ok.recovered.found.alhs.items ≡ alhs_of hash history = c.in-Ok.ensures.found.alhs ∙ ap (λ (h : List Transaction). alhs_of hash h) same in (
-      omega (arith, c.len.ensures, c.in-Ok.recovered.found.alhs.ok.0, ap length alhs, length-alhs_of hash history),
+      omega (arith, c.len-count.ensures, c.in-Ok.recovered.found.alhs.ok.0, ap length alhs, length-alhs_of hash history),
       c.alh_of-alh.ensures history (c.deref.ensures.value ∙ alhs),
     )
