@@ -2,7 +2,7 @@ use Rattle.std.proofs.Common.{rules, ◌≡◌, ◌≢◌, ◌++◌, ◌∷◌, 
 use Rattle.std.specs.Prelude.{AllPairs}
 use Rattle.im_script.specs.Script.{lines_of, names_of}
 use Rattle.im_script.specs.declared.commands.Line.{Line}
-use Rattle.im_script.proofs.NameLemmas.{names-all, names-apart}
+use Rattle.im_script.proofs.NameLemmas.{names-apart}
 use Rattle.im_session.proofs.ServeLemmas.{list_none, phase_named, well_done, well_next, well_none, well_stops}
 use Rattle.im_session.specs.Dealing.{AreNamed}
 use Rattle.im_session.specs.Served.{RunsPhases}

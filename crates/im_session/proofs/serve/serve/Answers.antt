@@ -1,4 +1,4 @@
-use Rattle.std.proofs.Common.{rules, ◌≡◌, ◌∷◌, [], ℤ, List, Option, true, length, ap, subst, sym, arith}
+use Rattle.std.proofs.Common.{rules, ◌≡◌, ◌∷◌, [], List, true, length, ap, subst, sym, arith}
 use Rattle.std.specs.List.{All}
 use Rattle.im_session.proofs.ServeLemmas.{serves_of}
 use Rattle.im_session.specs.Served.{Serves}
