@@ -1,4 +1,4 @@
-use Rattle.std.proofs.Common.{rules, ◌≡◌, ◌+◌, ◌++◌, ◌∷◌, [], ◌∙◌, List, length, refl, ap, sym, subst, arith, append_assoc, length-append}
+use Rattle.std.proofs.Common.{rules, ◌≡◌, ◌++◌, ◌∷◌, [], ◌∙◌, List, length, refl, ap, sym, subst, arith, append_assoc, length-append}
 use Rattle.std.specs.List.{All}
 use Rattle.im_session.proofs.GatherLemmas.{TakesIn, all_of, gathered_many, gathered_none, gathered_push, inside, middle}
 use Rattle.im_session.specs.Gathered.{AreGathered}
