@@ -49,8 +49,8 @@ def start(words, folder, **more):
     return subprocess.Popen(words, cwd=folder, stdin=pipe, stdout=pipe, stderr=pipe, **more)
 
 
-def run(script, folder, **more):
-    return Ended(start([PROGRAM, "run"], folder, **more), script)
+def run(script, folder, options=(), **more):
+    return Ended(start([PROGRAM, "run", *options], folder, **more), script)
 
 
 def verify(stream, folder, **more):
