@@ -38,11 +38,12 @@ fn play_all<R: Threads + Wait + Sync>(
         if line.mark == "$" {
             number = number.saturating_add(1);
             let lines = lines_of(alloc, case, &case[at..])?;
-            if let Err(stop) = stage.play(rt, Run {
+            let run = Run {
                 alloc,
                 named,
                 lines: &lines,
-            }) {
+            };
+            if let Err(stop) = stage.play(rt, run) {
                 return tell(alloc, number, stop);
             }
         }

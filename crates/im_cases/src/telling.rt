@@ -6,12 +6,16 @@ use crate::reader::{Script, read};
 use crate::texts::{Named, line_at};
 use crate::wrong::{Fault, Wrong};
 use std::alloc::Global;
+use std::io;
 use std::sync::Wait;
 use std::thread::Threads;
-use std::io;
 
 /// Runs the cases of a file, tells each difference and at the end how many agree, and says whether all do.
-pub fn tell(rt: &(impl Print + Alloc<A = Global> + Threads + Wait + Sync), name: &str, octets: &[u8]) -> io::Result<bool> {
+pub fn tell(
+    rt: &(impl Print + Alloc<A = Global> + Threads + Wait + Sync),
+    name: &str,
+    octets: &[u8],
+) -> io::Result<bool> {
     match script_of(rt.alloc(), octets) {
         Ok(script) => {
             let well = tell_all(rt, name, &script);
