@@ -1,8 +1,9 @@
-use Rattle.std.proofs.Common.{map, refl, sym, ◌∙◌, inl, inr}
+use Rattle.std.proofs.Common.{map, ap, refl, sym, ◌∙◌, Some, inl, inr}
 use Rattle.std.specs.String.{string_bytes}
 use Rattle.im_disk.proofs.Growing.{grows_none}
 use Rattle.im_words.proofs.FormLemmas.{form_asks_so, show_asks, verify_asks}
 use Rattle.im_words.proofs.GenLemmas.{gen_asks_so}
+use Rattle.im_words.specs.Meaning.{AsksRun}
 use Rattle.im_app.proofs.RunLemmas.{alone-same, same-found, takes-none, usage-found}
 use Rattle.im_app.proofs.top.top.Goals as goal
 
@@ -120,3 +121,9 @@ returns-in-Ok-Gen-clause-disk_alone g c = λ asks want. alone-same (g.S.Source.l
 
 pub returns-in-Err-Memory-clause-disk_alone : goal.returns-in-Err-Memory-clause-disk_alone
 returns-in-Err-Memory-clause-disk_alone g c = λ asks want. alone-same (g.S.Source.left c.args.source.now) (g.D.Disk.faults c.args.disk)
+
+-- words that were read as those of a run ask for one
+pub returns-in-Ok-Run-clause-disk_count : goal.returns-in-Ok-Run-clause-disk_count
+returns-in-Ok-Run-clause-disk_count g c = λ fault want.
+    let asks : AsksRun (map string_bytes c.args.words.now) = (c.in-Ok-Run.logs, c.in-Ok-Run.link, c.in-Ok-Run.ensures.asked ∙ ap Some c.in-Ok-Run.field-0-is) in
+    c.run.ensures.disk_count fault (want asks)
