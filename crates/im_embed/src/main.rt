@@ -11,9 +11,11 @@ use im_edge::gate::OpenGate;
 use im_edge::keeper::MemKeeper;
 use im_edge::sink::Writing;
 use im_edge::source::Reading;
-use std::alloc::AllocError;
+use std::alloc::{AllocError, Global};
 use std::io;
 use std::process::ExitCode;
+use std::sync::Wait;
+use std::thread::Threads;
 
 const FIRST: &str = "app: set stock/apples=10\n";
 
@@ -27,7 +29,9 @@ fn main(rt: HostRuntime) -> ExitCode {
 }
 
 // Runs the second script where the first one was answered whole.
-fn run_both(rt: &HostRuntime) -> Result<Status, AllocError> {
+fn run_both<R: Print + Alloc<A = Global> + Threads + Wait + Sync>(
+    rt: &R,
+) -> Result<Status, AllocError> {
     let disk = MemDisk::new(rt.alloc(), Vec::new(rt.alloc()))?;
     let (status, disk) = run(rt, disk, FIRST)?;
     if status != Status::Ok {
@@ -38,7 +42,11 @@ fn run_both(rt: &HostRuntime) -> Result<Status, AllocError> {
 }
 
 // Runs a script over a disk, prints its report, and hands the disk back.
-fn run(rt: &HostRuntime, disk: MemDisk, script: &str) -> Result<(Status, MemDisk), AllocError> {
+fn run<R: Print + Alloc<A = Global> + Threads + Wait + Sync>(
+    rt: &R,
+    disk: MemDisk,
+    script: &str,
+) -> Result<(Status, MemDisk), AllocError> {
     let mut words = Vec::new(rt.alloc());
     for word in ["im", "run"] {
         words.push(String::from_str(rt.alloc(), word)?)?;
