@@ -3,3 +3,5 @@
 
 #[cfg(test)]
 mod stores;
+#[cfg(test)]
+mod threads;

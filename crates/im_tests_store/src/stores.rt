@@ -26,12 +26,17 @@ use std::marker::Brand;
 use std::sync::Wait;
 use std::test::Fail;
 
-type Open<'h> = Opened<'h, Sum, MemDisk, FixedClock, Free>;
+pub(crate) type Open<'h> = Opened<'h, Sum, MemDisk, FixedClock, Free>;
 
-type Shared<'h, N> = Store<'h, Sum, MemDisk, FixedClock, Free, N>;
+pub(crate) type Shared<'h, N> = Store<'h, Sum, MemDisk, FixedClock, Free, N>;
 
 // What sets a key to a value, under these preconditions.
-fn setting(alloc: Global, key: &[u8], value: &[u8], pres: Vec<Pre>) -> Result<Prepared, Fail> {
+pub(crate) fn setting(
+    alloc: Global,
+    key: &[u8],
+    value: &[u8],
+    pres: Vec<Pre>,
+) -> Result<Prepared, Fail> {
     let draft = Draft {
         attrs: Attrs {
             deleted: false,
@@ -46,7 +51,7 @@ fn setting(alloc: Global, key: &[u8], value: &[u8], pres: Vec<Pre>) -> Result<Pr
 }
 
 // The number of a receipt, or 0.
-fn number_of(committed: Result<Receipt, CommitError>) -> u64 {
+pub(crate) fn number_of(committed: Result<Receipt, CommitError>) -> u64 {
     match committed {
         Ok(receipt) => {
             let id = receipt.id;
@@ -72,7 +77,7 @@ fn halt_of(committed: Result<Receipt, CommitError>) -> Option<(u64, Option<u64>)
 }
 
 // An empty disk whose changing calls of these numbers fail, opened.
-fn opened<'h>(alloc: Global, hash: &'h Sum, failing: &[u64]) -> Result<Open<'h>, Fail> {
+pub(crate) fn opened<'h>(alloc: Global, hash: &'h Sum, failing: &[u64]) -> Result<Open<'h>, Fail> {
     let disk = MemDisk::new(alloc, Vec::from_slice(alloc, failing)?)?;
     match open(alloc, hash, disk, FixedClock { time: 0 }, 1) {
         Ok(opened) => Ok(opened),
@@ -81,6 +86,18 @@ fn opened<'h>(alloc: Global, hash: &'h Sum, failing: &[u64]) -> Result<Open<'h>,
             Err(Fail::new("not opened"))
         }
     }
+}
+
+// The disk of a store that is closed by its one pass.
+pub(crate) fn closed<N: TipName>(
+    alloc: Global,
+    store: Shared<'_, N>,
+    pass: Pass,
+) -> Result<MemDisk, Fail>
+    requires { IsPassOf N.table pass }
+{
+    let (disk, _) = store.close(vec![in alloc; pass]?);
+    Ok(disk)
 }
 
 // The rows of a store with one commit: what is told before it is indexed and linked, and after.
@@ -163,10 +180,9 @@ fn one_thread<N: TipName, R: Wait>(
     let proved = proves(rt, alloc, &store, &mut other);
     let read = reads(rt, alloc, &store, &mut pass);
     store.end(&mut pass, other);
-    let (disk, clock) = store.close(vec![in alloc; pass]?);
+    let disk = closed(alloc, store, pass)?;
     let calls = disk.time() == 9;
     drop(disk);
-    let _ = clock;
     Ok(first && tip && settled && grown && proved && read && calls)
 }
 
@@ -199,7 +215,7 @@ fn halts<N: TipName, R: Wait>(
     let stopped = halt_of(store.commit(rt, alloc, &mut pass, two)) == Some((1, Some(2)));
     let settle = store.settle(rt, alloc, &mut pass, 1) == Err(SettleError::Stopped { faults: 1 });
     let beyond = store.settle(rt, alloc, &mut pass, 3) == Err(SettleError::Beyond { placed: 2 });
-    let (disk, _) = store.close(vec![in alloc; pass]?);
+    let disk = closed(alloc, store, pass)?;
     let failed = disk.faults() == 1;
     drop(disk);
     Ok(fault && stopped && settle && beyond && failed)
@@ -226,7 +242,16 @@ fn holds_its_octets(disk: &MemDisk, gate: u8) -> bool {
         && disk.file(2) == b"abc".as_slice()
 }
 
-// A commit of `set k=abc` over an empty disk, by how it was answered: whether the disk holds it, so many calls behind its opening's three.
+// Whether a commit tells what it should: number 1, by a receipt, or by a fault where a call fails.
+fn is_told(committed: Result<Receipt, CommitError>, fails: bool) -> bool {
+    if fails {
+        halt_of(committed) == Some((0, Some(1)))
+    } else {
+        number_of(committed) == 1
+    }
+}
+
+// A commit of `set k=abc` over an empty disk, by how it was answered: whether the disk holds it, by so many calls, of which three are its opening's.
 fn leaves<N: TipName, R: Wait>(
     rt: &R,
     alloc: Global,
@@ -242,20 +267,16 @@ fn leaves<N: TipName, R: Wait>(
     requires clock { (Some opened.clock.time ≡ N.time) × (None ≡ N.given) }
 {
     let (store, mut pass) = opened.named::<N>();
-    let is_told = match store.commit(rt, alloc, &mut pass, set) {
-        Ok(receipt) => receipt.id == 1 && !fails,
-        Err(CommitError::DiskFault { placed }) => placed == Some(1) && fails,
-        Err(_) => false,
-    };
-    let (disk, _) = store.close(vec![in alloc; pass]?);
-    let holds = holds_its_octets(&disk, gate) && disk.time() == 3 + calls;
+    let told = is_told(store.commit(rt, alloc, &mut pass, set), fails);
+    let disk = closed(alloc, store, pass)?;
+    let holds = holds_its_octets(&disk, gate) && disk.time() == calls;
     drop(disk);
-    Ok(is_told && holds)
+    Ok(told && holds)
 }
 
-// The call that fails, or none (0); how many are made behind the opening's; and what stands at the gate then: a transaction whose gate isn't written,
+// The call that fails, or none (0); how many are made; and what stands at the gate then: a transaction whose gate isn't written,
 // one whose gate isn't made durable, and one that is.
-const GATES: [(u64, u64, u8); 3] = [(8, 5, 0), (9, 6, 1), (0, 6, 1)];
+const GATES: [(u64, u64, u8); 3] = [(8, 8, 0), (9, 9, 1), (0, 9, 1)];
 
 fn run_leaves<R: Wait>(
     rt: &R,

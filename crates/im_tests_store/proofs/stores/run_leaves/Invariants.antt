@@ -1,3 +1,6 @@
+use Rattle.std.proofs.Common.{None, Some}
+use Rattle.im_digest.specs.Digests.{sum_digest}
+use Rattle.im_disk.specs.Recorded.{told_by}
 use Rattle.im_tests_store.proofs.stores.run_leaves.Given as goal
 
 -- the store's name
@@ -6,9 +9,9 @@ ghosts-leaves g a = record {
   table = a.opened.table;
   found = a.opened.found;
   logs = a.opened.logs;
-  digest = a.opened.digest;
-  synced = a.opened.synced;
-  faults = a.opened.faults;
-  time = a.opened.time;
-  given = a.opened.given;
+  digest = sum_digest;
+  synced = Some (told_by a.opened.disk);
+  faults = a.opened.disk.faults;
+  time = Some a.opened.clock.time;
+  given = None;
 }
