@@ -1,28 +1,13 @@
 -- The lines of a phase, dealt one after the other.
-use Rattle.std.proofs.Common.{◌≡◌, ◌≢◌, ℕ, zero, suc, ◌+◌, ◌<◌, ◌≤◌, ◌++◌, List, [], ◌∷◌, length, map, drop, Bool, true, false, ◌||◌, true≢false, if◌then◌else◌, Some, slice_get, refl, ap, ap₂, sym, ◌∙◌, arith, append-nil, get_or}
+use Rattle.std.proofs.Common.{◌≡◌, ◌≢◌, ℕ, zero, suc, ◌<◌, ◌++◌, List, [], ◌∷◌, length, map, Bool, true, false, if◌then◌else◌, Some, slice_get, refl, ap, ap₂, sym, ◌∙◌, arith, append-nil, get_or}
 use Rattle.std.proofs.Math.ListN.{set}
 use Rattle.std.specs.Prelude.{All, AllPairs}
 use Rattle.std.specs.Str.{bytes_eq}
-use Rattle.std.proofs.lemmas.List.{drop_all, drop_more}
 use Rattle.std.proofs.lemmas.List.Elements.{All-push, filter-append}
 use Rattle.std.proofs.lemmas.Option.{slice_get-get_or, slice_get_within}
 use Rattle.im_octet.proofs.Common.{bytes-other, bytes-same, some-is}
-use Rattle.im_script.specs.Script.{has_name}
 use Rattle.im_script.specs.declared.commands.Line.{Line}
 use Rattle.im_session.specs.Dealing.{AreDealt, AreNumbered, lines_with}
-
--- a name that is one of those ahead, and isn't the first of them, is one of those behind it
-pub ahead_more : (names : List (List ℕ)) (n : ℕ) (first name : List ℕ) → n < length names → first ≡ get_or names n first → bytes_eq first name ≡ false → has_name (drop n names) name ≡ true
-    → has_name (drop (n + 1) names) name ≡ true
-ahead_more names n first name less is other has =
-    let behind : Bool = has_name (drop (n + 1) names) name in
-    let here : has_name (drop n names) name ≡ (bytes_eq (get_or names n first) name || behind) = ap (λ (l : List (List ℕ)). has_name l name) (drop_more names n first less) in
-    let far : bytes_eq (get_or names n first) name ≡ false = ap (λ (x : List ℕ). bytes_eq x name) (sym is) ∙ other in
-    sym (here ∙ ap (λ (b : Bool). b || behind) far) ∙ has
-
--- none is ahead at the end
-pub ahead_none : (names : List (List ℕ)) (n : ℕ) (name : List ℕ) → length names ≤ n → has_name (drop n names) name ≡ true → ⊥
-ahead_none names n name all has = true≢false (sym has ∙ ap (λ (l : List (List ℕ)). has_name l name) (drop_all n names all))
 
 -- a name stands at the place where it was found
 pub at_name : (names : List (List ℕ)) (n : ℕ) (first name : List ℕ) → n < length names → first ≡ get_or names n first → first ≡ name → slice_get names n ≡ Some name

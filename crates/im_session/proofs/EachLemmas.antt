@@ -1,5 +1,5 @@
 -- What became of the lines of sessions, by their names.
-use Rattle.std.proofs.Common.{◌≡◌, ◌≢◌, ◌||◌, true≢false, ℕ, zero, suc, ◌-◌, List, [], ◌∷◌, length, map, drop, Bool, true, false, if◌then◌else◌, Option, Some, None, slice_get, slice_index_or, refl, ap, ap₂, sym, ◌∙◌, subst, arith}
+use Rattle.std.proofs.Common.{◌≡◌, ◌≢◌, ◌||◌, true≢false, ℕ, zero, suc, List, [], ◌∷◌, length, map, drop, Bool, true, false, if◌then◌else◌, Option, Some, None, slice_get, slice_index_or, refl, ap, ap₂, sym, ◌∙◌, subst, arith}
 use Rattle.std.specs.Prelude.{All, AllPairs, IsSome}
 use Rattle.std.specs.Str.{bytes_eq}
 use Rattle.std.proofs.lemmas.Slice.Eq.{bytes_eq-Decides}

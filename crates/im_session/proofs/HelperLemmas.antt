@@ -1,5 +1,5 @@
 -- What runs beside the sessions: a call that places nothing leaves its pass that of a helper; and sessions that ended one by one in their list.
-use Rattle.std.proofs.Common.{◌≡◌, ℕ, ◌+◌, ◌-◌, ◌<◌, ◌++◌, List, [], length, take, drop, Result, Ok, Err, OnErr, ap, sym, ◌∙◌, subst, arith, append-nil, slice_index_or}
+use Rattle.std.proofs.Common.{◌≡◌, ℕ, ◌-◌, ◌<◌, ◌++◌, List, [], length, take, drop, Result, Ok, Err, OnErr, ap, sym, ◌∙◌, subst, arith, append-nil, slice_index_or}
 use Rattle.std.specs.Prelude.{IfOk}
 use Rattle.std.proofs.Math.Seq.{take-append_seam}
 use Rattle.im_digest.specs.Digests.{Hash}

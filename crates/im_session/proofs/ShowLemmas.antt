@@ -19,7 +19,7 @@ use Rattle.im_script.specs.declared.commands.Command.TheVariants.{Set, Get, Scan
 use Rattle.im_session.proofs.GrowLemmas.{history_taken}
 use Rattle.im_session.proofs.StepLemmas.{link_step, shown_step, slack_kept, stuck_none}
 use Rattle.im_session.specs.Answered.{IsAnswered, IsUnanswered}
-use Rattle.im_session.specs.Lines.{IsShowing, MayBecome}
+use Rattle.im_session.specs.Lines.{MayBecome}
 use Rattle.im_session.specs.declared.answers.Answer.{Answer}
 use Rattle.im_session.specs.declared.errors.LineError.{LineError}
 use Rattle.im_session.specs.declared.errors.LineError.TheVariants.{Memory}
@@ -33,19 +33,6 @@ use Rattle.im_table.specs.Passes.{Later}
 use Rattle.im_table.specs.declared.items.LogItem.{LogItem}
 use Rattle.im_versions.specs.Versions.{versions_of}
 use Rattle.im_wire.specs.Lines.{is_open}
-
--- a command that shows leaves the floor
-pub floor_same : (command : Command) → IsShowing command → (n f : ℕ) → floor_by command n f ≡ f
-floor_same (Set pres drafts) shows n f = absurd shows
-floor_same (Get key at) shows n f = refl
-floor_same (Scan prefix at) shows n f = refl
-floor_same (History key) shows n f = refl
-floor_same (Header k) shows n f = refl
-floor_same State shows n f = refl
-floor_same (Prove s t) shows n f = refl
-floor_same (Advance s t) shows n f = refl
-floor_same (Item t i under) shows n f = refl
-floor_same (Link count) shows n f = absurd shows
 
 -- where memory runs out, and nothing was placed or linked
 pub shown_unanswered : (old new : KnownPass) (command : Command) → Later old new → Gains [] 0 0 old new → IsUnanswered old new command Memory

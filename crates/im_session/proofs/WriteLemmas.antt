@@ -162,14 +162,6 @@ front_ends order next lists count number front less is few room none =
     let many = ap (λ (l : List (List ℕ)). length l) ends.0 in
     (omega (arith, many, front.many), sym front.stop ∙ ends.1)
 
--- or there is no other line
-pub front_whole : (order next : List ℕ) (lists : List (List (List ℕ))) (count : ℕ) → IsFront order next lists count → length order ≤ count
-    → (length (texts_in_order order lists) ≡ length order) × (stop_in_order order lists ≡ None)
-front_whole order next lists count front all =
-    let none = drop_all count order all in
-    let many = ap (λ (o : List ℕ). length (texts_in_order o (behind_each next lists))) none in
-    (omega (arith, many, front.many, front.within), sym front.stop ∙ ap (λ (o : List ℕ). stop_in_order o (behind_each next lists)) none)
-
 -- So many lines have a text, which is written; each of the others has one too.
 pub record IsWritten (order next : List ℕ) (lists : List (List (List ℕ))) (count : ℕ) (before now : Option (List ℕ)) : Type 0 where
   pub written : List (List ℕ)
@@ -218,13 +210,6 @@ written_next order next lists count number text before middle now so_far less is
   where
     one_text : (texts : List (List ℕ)) (one : List ℕ) → flat_map (λ t. t) texts ++ one ≡ flat_map (λ t. t) (texts ++ one ∷ [])
     one_text texts one = sym (flat_map-append (λ (t : List ℕ). t) texts (one ∷ []) ∙ ap (λ (l : List ℕ). flat_map (λ t. t) texts ++ l) (append-nil one))
-
-pub written_all : (order next : List ℕ) (lists : List (List (List ℕ))) (count : ℕ) (before now : Option (List ℕ)) → IsWritten order next lists count before now → length order ≤ count
-    → Appends before now (flat_map (λ text. text) (texts_in_order order lists))
-written_all order next lists count before now so_far all =
-    let none : texts_in_order (drop count order) (behind_each next lists) ≡ [] = ap (λ (o : List ℕ). texts_in_order o (behind_each next lists)) (drop_all count order all) in
-    let texts : texts_in_order order lists ≡ so_far.written = so_far.texts ∙ ap (λ (l : List (List ℕ)). so_far.written ++ l) none ∙ append-nil so_far.written in
-    subst (λ (l : List (List ℕ)). Appends before now (flat_map (λ text. text) l)) (sym texts) so_far.wrote
 
 -- a front part of the next text was written
 pub written_part : (order next : List ℕ) (lists : List (List (List ℕ))) (count number : ℕ) (text : List ℕ) (before middle now : Option (List ℕ)) → IsWritten order next lists count before middle

@@ -9,7 +9,7 @@ use Rattle.im_report.specs.Report.{floor_after}
 use Rattle.im_report.specs.Sessions.{AreAllButLast, AreAnswered, AreOfOne, ArePhases, IsJustOver, IsPhase, first_replies, floor_reached, floors_of, lines_in, next_floor, next_low, replies_in}
 use Rattle.im_script.specs.declared.commands.Line.{Line}
 use Rattle.im_session.specs.Lines.{IsWhy, MayBecome}
-use Rattle.im_session.specs.Runs.{IsDone, Start}
+use Rattle.im_session.specs.Runs.{IsDone}
 use Rattle.im_session.specs.declared.errors.LineError.{LineError}
 use Rattle.im_session.specs.declared.errors.LineError.TheVariants.{DiskFault}
 use Rattle.im_session.specs.declared.sessions.Session.{Session}
@@ -50,10 +50,6 @@ pub record KnowsFaults (old new : KnownPass) (outcomes : List Outcome) (why : Op
 -- how often a number is that of a transaction placed for a line of these
 abbrev pub times_in : ℕ → List Outcome → ℕ
 times_in k outcomes = sum_by (λ o. times k (numbers_in o)) outcomes
-
--- where a phase begins
-abbrev pub start_at : KnownPass → Start
-start_at p = record { low = p.view.least.durable; floor = p.view.least.linked }
 
 -- how many transactions were placed for lines
 abbrev pub count_in : List Outcome → ℕ

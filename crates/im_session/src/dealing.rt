@@ -1,5 +1,5 @@
 // The lines of a phase are dealt to their sessions.
-ghost use Rattle.std.specs.Prelude.{◌≡◌, ◌≢◌, ◌≤◌, ◌<◌, AllPairs, [], length, map, IfOk, OnOk, true};
+ghost use Rattle.std.specs.Prelude.{◌≡◌, ◌≢◌, ◌≤◌, AllPairs, [], length, map, IfOk, OnOk, true};
 ghost use Rattle.std.specs.List.{All};
 ghost use Rattle.im_script.specs.Script.{has_name};
 ghost use Rattle.im_session.specs.Dealing.{AreDealt, AreNamed, IsAt};

@@ -1,5 +1,5 @@
 // The lines of one session.
-ghost use Rattle.std.specs.Prelude.{◌≡◌, ◌≤◌, ◌+◌, ℕ, List, [], ◌∷◌, ◌++◌, map, None, Some, IfErr, IfOk, OnErr, OnOk};
+ghost use Rattle.std.specs.Prelude.{◌≡◌, List, [], ◌∷◌, ◌++◌, map, None, Some, IfErr, IfOk, OnOk};
 ghost use mathlib.Core.List.{IsPrefix};
 ghost use Rattle.im_report.specs.Report.{answer_line, Answered as TheAnswered};
 ghost use Rattle.im_session.specs.Answered.{IsAnswered, IsUnanswered};

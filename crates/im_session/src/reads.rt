@@ -1,6 +1,6 @@
 //! Replies that are read off a view of the keys, after a number of transactions that is named or after all of them.
 
-ghost use Rattle.std.specs.Prelude.{◌≡◌, ◌<◌, ◌≤◌, ℕ, List, [], length, take, unwrap_or, IfErr, IfNone, IfOk, IfSome, OnOk, Some};
+ghost use Rattle.std.specs.Prelude.{◌≡◌, ◌<◌, ◌≤◌, ℕ, List, [], length, unwrap_or, IfErr, IfNone, IfOk, IfSome, Some};
 ghost use Rattle.im_model.specs.declared.transactions.Transaction.{Transaction};
 ghost use Rattle.im_report.specs.Reads.{IsGetAnswer, IsHistoryAnswer, IsReadAt, IsScanAnswer};
 ghost use Rattle.im_report.specs.Replies.{beyond_reply};
