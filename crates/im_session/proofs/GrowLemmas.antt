@@ -3,7 +3,6 @@ use Rattle.std.proofs.Common.{◌≡◌, ◌≤◌, ℕ, List, [], ◌∷◌, le
 use Rattle.std.proofs.lemmas.List.{take-append-le}
 use mathlib.Core.List.{IsPrefix}
 use Rattle.im_model.specs.History.{no_transaction, transaction_of}
-use Rattle.im_model.specs.declared.transactions.Transaction.{Transaction}
 use Rattle.im_octet.proofs.Common.{some-is}
 use Rattle.im_session.specs.Lines.{MayBecome}
 use Rattle.im_table.proofs.FrontLemmas.{prefix_trans}
@@ -33,12 +32,6 @@ history_taken p items n m le =
 -- a front part is no longer than its list
 pub front_length : (xs ys : List LogItem) → IsPrefix xs ys → length xs ≤ length ys
 front_length xs ys p = omega (arith, ap length (sym p.1), length-append xs p.0)
-
--- the transactions of the first items
-pub map_take : (items : List LogItem) (n : ℕ) → take n (history_of items) ≡ history_of (take n items)
-map_take items zero = refl
-map_take [] (suc n) = refl
-map_take (x ∷ items) (suc n) = ap (λ (l : List Transaction). x.tx ∷ l) (map_take items n)
 
 -- the transaction of an item by its place
 tx_at : (items : List LogItem) (k : ℕ) (item : LogItem) → slice_get items k ≡ Some item → slice_index_or (history_of items) k no_transaction ≡ item.tx

@@ -11,11 +11,12 @@ use Rattle.im_report.specs.Report.{Answered, IsAnswer, floor_by, is_placed}
 use Rattle.im_script.specs.declared.commands.Command.{Command}
 use Rattle.im_script.specs.declared.commands.Command.TheVariants.{Set, Link}
 use Rattle.im_script.specs.declared.commands.Line.{Line}
-use Rattle.im_session.proofs.GrowLemmas.{front_length, history_taken, map_take, transaction_at}
+use Rattle.im_session.proofs.GrowLemmas.{front_length, history_taken, transaction_at}
 use Rattle.im_session.specs.Lines.{IsStep, IsStuck, IsWhy, KnowsFault, MayBecome}
 use Rattle.im_session.specs.declared.errors.LineError.{LineError}
 use Rattle.im_session.specs.declared.errors.LineError.TheVariants.{DiskFault, Memory}
 use Rattle.std.specs.Str.{bytes_eq}
+use Rattle.std.proofs.lemmas.List.{take-map}
 use Rattle.std.proofs.lemmas.Slice.Eq.{bytes_eq-Decides}
 use Rattle.im_report.specs.Reads.{place_reply}
 use Rattle.im_report.specs.Replies.{tx_reply}
@@ -121,7 +122,7 @@ placed_stands time asked old new n p items m =
     record {
       within = omega (arith, p.within, front_length new.view.seen items m.begins, history_length items);
       writes = ap (λ (t : Transaction). t.entries) whole ∙ at.entries_are;
-      admitted = ap (λ (h : List Transaction). place_refusal h asked.pres) (front ∙ map_take new.view.seen (n - 1)) ∙ at.admitted;
+      admitted = ap (λ (h : List Transaction). place_refusal h asked.pres) (front ∙ take-map (λ (x : LogItem). x.tx) (n - 1) new.view.seen) ∙ at.admitted;
       over = subst (λ (t : Transaction). old.view.least.linked ≤ t.bl) (sym whole) at.least;
       under = subst (λ (t : Transaction). t.bl ≤ new.view.least.linked) (sym whole) at.most;
     }
@@ -178,7 +179,7 @@ refused_step hash asked old new why at session drafts reply free are r l g says 
     let told : number_told (Some (record { line = record { session = session; command = Set asked.pres drafts }; number = at; reply = reply })) ≡ [] = ap (λ (b : Bool). if b then at ∷ [] else []) other in
     record {
       answer = λ items m.
-          let front : take at (history_of items) ≡ history_of (take at new.view.seen) = history_taken new items at m j.within ∙ map_take new.view.seen at in
+          let front : take at (history_of items) ≡ history_of (take at new.view.seen) = history_taken new items at m j.within ∙ take-map (λ (x : LogItem). x.tx) at new.view.seen in
           inr (free, inr (are, inl (why, ap (λ (h : List Transaction). place_refusal h asked.pres) front ∙ j.refused, says)));
       again = λ items m. tt;
       rises = (j.later, λ e. absurd (true≢false (sym e ∙ other)));

@@ -1,9 +1,8 @@
 // Sessions on threads of their own, beside a linker and an indexer.
-ghost use Rattle.std.specs.Prelude.{◌≡◌, ◌<◌, ◌≤◌, ℕ, false, length, slice_index_or};
+ghost use Rattle.std.specs.Prelude.{◌≡◌, ◌<◌, ℕ, false, length, slice_index_or};
 ghost use Rattle.std.specs.List.{All};
 ghost use Rattle.im_session.specs.Phases.{AreDone};
 ghost use Rattle.im_session.specs.Runs.{IsDone, IsHelper, IsIdle, IsReady};
-ghost use denote.Param.Send.{IsSync};
 
 use crate::lines::run_session;
 use crate::sessions::Session;
