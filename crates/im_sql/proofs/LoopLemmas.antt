@@ -10,6 +10,7 @@ use Rattle.im_changes.specs.Changes.{AreChanges}
 use Rattle.im_sqlmodel.specs.Sorts.{sorted}
 use Rattle.im_sqlmodel.specs.Kept.{IsSqlSound, IsSqlKept, IsFirstUnsound}
 use Rattle.im_sqlmodel.proofs.KeptLemmas.{nothing_kept}
+use Rattle.im_plan.proofs.BestLemmas.{at-any}
 use Rattle.im_plan.proofs.EntryLemmas.{no_version}
 use Rattle.im_sql.specs.Sounding.{AreByNumber}
 use Rattle.im_sql.proofs.TurnLemmas.{IsQuiet, by_tx, changes-sorted, quiet-sound, quiet-scan, quiet-between, all-within, upto-changes, sound-next, kept-whole, first-unsound, scan-first}
@@ -29,6 +30,19 @@ pub record IsGroup (all : List Version) (at end tx : ℕ) : Type 0 where
   pub same : (j : ℕ) (d : Version) → at ≤ j → j < end → (get_or all j d).tx ≡ tx
   pub next : (d : Version) → end < length all → (get_or all end d).tx ≢ tx
 
+-- as the place behind a transaction's versions is found
+pub group-of : (all : List Version) (at end : ℕ) (v : Version) → at < length all → v ≡ get_or all at v → at < end → end ≤ length all
+    → ((j : ℕ) (d : Version) → at ≤ j → j < end → (get_or all j d).tx ≡ (get_or all at d).tx) → ((d : Version) → end < length all → (get_or all end d).tx ≢ (get_or all at d).tx)
+    → IsGroup all at end v.tx
+group-of all at end v l is after within same next =
+    let own : (d : Version) → (get_or all at d).tx ≡ v.tx = (λ d. ap (λ (w : Version). w.tx) (at-any all at d v l ∙ sym is)) in
+    record {
+      after = after;
+      within = within;
+      same = λ j d a less. same j d a less ∙ own d;
+      next = λ d less e. next d less (e ∙ sym (own d));
+    }
+
 -- the changes of a view, sorted
 pub by-sorted : (history : List Transaction) (found taken all : List Version) → AreChanges history (0 ∷ []) found → taken ≡ found → all ≡ sorted by_tx taken → AreByNumber history all
 by-sorted history found taken all are same is = subst (AreByNumber history) (sym (is ∙ ap (sorted by_tx) same)) (changes-sorted history found are)
@@ -39,7 +53,7 @@ upto-first history n all within by = record {
   sound = λ j low. (let zero : 0 ≡ j = omega (arith, low) in subst (λ (i : ℕ). IsSqlSound (take i history)) zero (nothing_kept 0 (omega arith)));
   scan = scan-first history;
   low = λ j d less. absurd (let no : ⊥ = omega (arith, less) in no);
-  high = λ j d a l. (let first = (all-within history n within all by (get_or all j d) (j, l, refl)).0 in omega (arith, first));
+  high = λ j d a l. (let first = (all-within history n within all by (get_or all j d) (j, (l, at-any all j d (get_or all j d) l))).0 in omega (arith, first));
 }
 
 -- behind the last
@@ -62,7 +76,7 @@ module _ (history : List Transaction) (n : ℕ) (within : n ≤ length history) 
   numbers : (1 ≤ tx) × (tx ≤ n)
   numbers =
       let v : Version = get_or all at no_version in
-      let is = all-within history n within all by v (at, inside, refl) in
+      let is = all-within history n within all by v (at, (inside, at-any all at no_version v inside)) in
       (subst (λ (t : ℕ). 1 ≤ t) (own no_version) is.0, subst (λ (t : ℕ). t ≤ n) (own no_version) is.1)
 
   -- the number is one more
