@@ -3,8 +3,8 @@ use Rattle.std.proofs.lemmas.Bool.{true≢false, eq-eqb, eqb-true}
 use Rattle.im_sql.proofs.SayLemmas.{field-long, field-short, iid-some, iid-behind}
 use Rattle.im_sql.proofs.said.iid_in.Goals as goal
 
-pub returns-in-None-clause-none : goal.returns-in-None-clause-none
-returns-in-None-clause-none c = λ iid fits e. field-short (drop 6 c.args.key.now) iid c.in-None.ensures (iid-behind c.args.key.now iid c.requires e)
+pub returns-in_default-clause-none : goal.returns-in_default-clause-none
+returns-in_default-clause-none c = λ iid fits e. field-short (drop 6 c.args.key.now) iid c.in_default.ensures (iid-behind c.args.key.now iid c.requires e)
 
 pub returns-then-not-is_empty-clause-none : goal.returns-then-not-is_empty-clause-none
 returns-then-not-is_empty-clause-none c = λ iid fits e.

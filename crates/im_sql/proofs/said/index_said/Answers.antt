@@ -9,10 +9,10 @@ iid_in-requires c =
     let long : 6 ≤ length c.args.version.now.key = (prefix-six c.args.table.now.tid c.args.version.now.key c.requires.front).0 in
     omega (arith, long, ap length c.as_slice.ensures)
 
-pub returns-in-None : goal.returns-in-None
-returns-in-None c = λ i is.
+pub returns-in_default : goal.returns-in_default
+returns-in_default c = λ i is.
     let six = prefix-six c.args.table.now.tid c.args.version.now.key c.requires.front in
-    c.in-None.ensures.none i.iid is.0.iid.1
+    c.in_default.ensures.none i.iid is.0.iid.1
     (subst (λ (k : List ℕ). k ≡ take 6 k ++ field4 i.iid) (sym c.as_slice.ensures) (is.1 ∙ ap (λ (front : List ℕ). front ++ field4 i.iid) (sym six.1)))
 
 pub returns-in-Ok : goal.returns-in-Ok

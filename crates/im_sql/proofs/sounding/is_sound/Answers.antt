@@ -32,11 +32,11 @@ returns-then-not-is_settled c = λ history k less sound old new by. (
   )) ∙ c.if-not-is_settled.true)),
 )
 
-pub returns-in-None : goal.returns-in-None
-returns-in-None c = λ history k less sound old new by. (
+pub returns-in_default : goal.returns-in_default
+returns-in_default c = λ history k less sound old new by. (
   λ e. absurd (true≢false (sym e)),
   λ is. absurd (
-      let none = subst (λ (o : Option (Vec TableFound Global)). MatchOption o (NoneAreFound c.args.shown.now) (λ (gs : Vec TableFound Global). AreFound c.args.shown.now gs.items)) c.in-None.is c.in_ok-tables.ensures in
+      let none = subst (λ (o : Option (Vec TableFound Global)). MatchOption o (NoneAreFound c.args.shown.now) (λ (gs : Vec TableFound Global). AreFound c.args.shown.now gs.items)) c.in_default.is c.in_ok-tables.ensures in
       let found = sound-found (take (k + 1) history) c.args.shown.now is new in
       none found.0 found.1),
 )
