@@ -1,6 +1,6 @@
 -- What one version, or a list of them, says.
-use Rattle.std.proofs.Common.{◌≡◌, ◌≢◌, ◌≤◌, ◌<◌, ◌+◌, ◌^◌, ℕ, zero, suc, true, List, [], ◌∷◌, ◌++◌, length, take, drop, get_or, refl, sym, ap, ◌∙◌, subst, length-append, arith}
-use Rattle.std.proofs.lemmas.List.{append-nil, length-take-le, take-append-drop, take_all, take_at}
+use Rattle.std.proofs.Common.{◌≡◌, ◌≢◌, ◌≤◌, ◌<◌, ◌+◌, ◌-◌, ◌^◌, ℕ, zero, suc, true, List, [], ◌∷◌, ◌++◌, length, take, drop, get_or, refl, sym, ap, ◌∙◌, subst, length-append, arith}
+use Rattle.std.proofs.lemmas.List.{append-nil, length-drop, length-take-le, take-append-drop, take_all, take_at}
 use Rattle.std.proofs.Math.Seq.{drop-append_seam}
 use Rattle.std.specs.List.{AllZip}
 use Rattle.im_octet.specs.Fields.{field4}
@@ -29,6 +29,10 @@ field-short text m short is = (let own : length text ≡ length (field4 m) = ap 
 
 pub field-same : (text left : List ℕ) (n m : ℕ) → n < 2 ^ 32 → m < 2 ^ 32 → text ≡ field4 n ++ left → text ≡ field4 m → n ≡ m
 field-same text left n m p q e is = same-field4 n m p q (same-fronts (field4 n) (field4 m) left [] (length-field4 n ∙ sym (length-field4 m)) (sym e ∙ is ∙ sym (append-nil (field4 m)))).0
+
+-- all that stands behind a place
+pub behind-all : (n : ℕ) (xs : List ℕ) → take (length xs - n) (drop n xs) ≡ drop n xs
+behind-all n xs = take_all (length xs - n) (drop n xs) (let long : length (drop n xs) ≡ length xs - n = length-drop n xs in omega (arith, long))
 
 -- ---- keys of a front
 

@@ -232,47 +232,47 @@ module _ (history : List Transaction) (shown changes : List Version) (fs : List 
 
   gapless-are : (t : Table) (i : SqlIndex) (iid : ℕ) → IsSqlIndexOf history t i → 1 ≤ iid → iid ≤ i.iid → (j : SqlIndex) × IsSqlIndexOf history t j × (j.iid ≡ iid)
   gapless-are t i iid of low high =
-      let found = table-found history shown fs scan found t of.0 in
-      let f : TableFound = found.0 in
-      let m = index-found history shown fs scan found f i found.1 (subst (λ (u : Table). IsSqlIndexOf history u i) (sym found.2) of) in
-      let gapless = (All-among (IsSoundAlone changes) fs f judged.each found.1).0 in
+      let place = table-found history shown fs scan found t of.0 in
+      let f : TableFound = place.0 in
+      let m = index-found history shown fs scan found f i place.1 (subst (λ (u : Table). IsSqlIndexOf history u i) (sym place.2) of) in
+      let gapless = (All-among (IsSoundAlone changes) fs f judged.each place.1).0 in
       let number : i.iid ≡ m.0 + 1 = ap (λ (d : SqlIndex). d.iid) m.1.1 ∙ gapless m.0 i m.1.0 in
       let within : m.0 < length f.indexes = m.1.0 in
       let l : iid - 1 < length f.indexes = omega (arith, low, high, number, within) in
       let j : SqlIndex = get_or f.indexes (iid - 1) i in
       let there : IsAmong f.indexes j = (iid - 1, (l, at-any f.indexes (iid - 1) i j l)) in
       let told : j.iid ≡ iid - 1 + 1 = gapless (iid - 1) i l in
-      (j, subst (λ (u : Table). IsSqlIndexOf history u j) found.2 (index-live history shown fs scan found f j found.1 there), omega (arith, told, low))
+      (j, subst (λ (u : Table). IsSqlIndexOf history u j) place.2 (index-live history shown fs scan found f j place.1 there), omega (arith, told, low))
 
   marks-are : (t : Table) (row : List Value) → IsRowOf history t row → (v : Version) × IsAmong (versions_of history (mark_key t.tid)) v × (v.tx ≡ last_number history (key_of t row))
   marks-are t row of =
-      let found = table-found history shown fs scan found t of.0 in
-      let f : TableFound = found.0 in
-      let stored = row-found history shown fs scan found f row found.1 (subst (λ (u : Table). IsRowOf history u row) (sym found.2) of) in
+      let place = table-found history shown fs scan found t of.0 in
+      let f : TableFound = place.0 in
+      let stored = row-found history shown fs scan found f row place.1 (subst (λ (u : Table). IsRowOf history u row) (sym place.2) of) in
       let s : StoredRow = stored.0 in
-      let marked = (All-among (IsSoundAlone changes) fs f judged.each found.1).1 in
+      let marked = (All-among (IsSoundAlone changes) fs f judged.each place.1).1 in
       let mark = All-among (IsMarked changes f.table) f.rows s marked stored.1 in
       let v : Version = mark.0 in
       let key : List ℕ = mark_key t.tid in
-      let own : v.key ≡ key = mark.2 ∙ ap (λ (u : Table). mark_key u.tid) found.2 in
+      let own : v.key ≡ key = mark.2 ∙ ap (λ (u : Table). mark_key u.tid) place.2 in
       let kept : IsAmong (filter (is_of key) changes) v = among-kept (is_of key) changes v mark.1 ((bytes_eq-Decides v.key key).1 own) in
       let number : s.tx ≡ last_number history (key_of t row) =
-      sym (row-live history shown fs scan found f s found.1 stored.1).1 ∙ ap₂ (λ (u : Table) (r : List Value). last_number history (key_of u r)) found.2 stored.2 in
+      sym (row-live history shown fs scan found f s place.1 stored.1).1 ∙ ap₂ (λ (u : Table) (r : List Value). last_number history (key_of u r)) place.2 stored.2 in
       (v, subst (λ (vs : List Version). IsAmong vs v) (by.0.each key (begins-from (0 ∷ []) (3 ∷ field4 t.tid) key refl)) kept, mark.3 ∙ number)
 
   entries-are : (t : Table) (i : SqlIndex) (row : List Value) (value : List ℕ) → IsSqlIndexOf history t i → IsRowOf history t row → (entry_written t row i).value ≡ Some value
       → IsLiveAs history (entry_written t row i).key value
   entries-are t i row value index of given =
-      let found = table-found history shown fs scan found t of.0 in
-      let f : TableFound = found.0 in
-      let m = index-found history shown fs scan found f i found.1 (subst (λ (u : Table). IsSqlIndexOf history u i) (sym found.2) index) in
-      let stored = row-found history shown fs scan found f row found.1 (subst (λ (u : Table). IsRowOf history u row) (sym found.2) of) in
+      let place = table-found history shown fs scan found t of.0 in
+      let f : TableFound = place.0 in
+      let m = index-found history shown fs scan found f i place.1 (subst (λ (u : Table). IsSqlIndexOf history u i) (sym place.2) index) in
+      let stored = row-found history shown fs scan found f row place.1 (subst (λ (u : Table). IsRowOf history u row) (sym place.2) of) in
       let s : StoredRow = stored.0 in
       let w : Written = entry_written f.table s.row i in
       let given_by : IsAmong (entries_of f) w =
       among-flat (λ (r : StoredRow). map (entry_written f.table r.row) f.indexes) f.rows s w stored.1 (among-map (entry_written f.table s.row) f.indexes i m) in
       let said : IsAmong (map said_by (kind_shown 5 shown ++ kind_shown 6 shown)) w =
-      subst (λ (ws : List Written). IsAmong ws w) (sym judged.entered) (among-sorted by_key (flat_map entries_of fs) w (among-flat entries_of fs f w found.1 given_by)) in
+      subst (λ (ws : List Written). IsAmong ws w) (sym judged.entered) (among-sorted by_key (flat_map entries_of fs) w (among-flat entries_of fs f w place.1 given_by)) in
       let version = map-among said_by (kind_shown 5 shown ++ kind_shown 6 shown) w said in
       let v : Version = version.0 in
       let there : IsAmong shown v = elim (among-either (kind_shown 5 shown) (kind_shown 6 shown) v version.1) [
@@ -280,7 +280,7 @@ module _ (history : List Transaction) (shown changes : List Version) (fs : List 
         | inr six ↦ under-shown shown (0 ∷ 6 ∷ []) v six
       ] in
       let alive = shown-live history shown v scan there in
-      let same : entry_written t row i ≡ said_by v = sym (ap₂ (λ (u : Table) (r : List Value). entry_written u r i) found.2 stored.2) ∙ version.2 in
+      let same : entry_written t row i ≡ said_by v = sym (ap₂ (λ (u : Table) (r : List Value). entry_written u r i) place.2 stored.2) ∙ version.2 in
       (v, ap (last_version history) (ap (λ (e : Written). e.key) same) ∙ alive.0, alive.1, some-is v.value value (sym (ap (λ (e : Written). e.value) same) ∙ given))
 
   pub judged-sound : ((n : ℕ) (key : List ℕ) (v : Version) → (begins_with table_prefix key || begins_with indexes_prefix key) ≡ true → last_version (take n history) key ≡ Some v → v.deleted ≡ false

@@ -308,8 +308,8 @@ module _ (history : List Transaction) (n : ℕ) (within : n ≤ length history) 
           let long : length (take e all) ≡ min e (length all) = length-take e all in
           let most : j < length all = omega (arith, l, long) in
           let few : j < e = omega (arith, l, long) in
-          subst (λ (a : Version). a.tx ≤ (get_or (take e all) j d).tx) (sym (get_or-take all e i d (omega (arith, less, few))))
-          (subst (λ (b : Version). (get_or all i d).tx ≤ b.tx) (sym (get_or-take all e j d few)) (by.1 i j d less most))
+          subst (λ (a : Version). a.tx ≤ (get_or (take e all) j d).tx) (sym (get_or-take e all i d (omega (arith, less, few))))
+          (subst (λ (b : Version). (get_or all i d).tx ≤ b.tx) (sym (get_or-take e all j d few)) (by.1 i j d less most))
 
 -- ---- what holds behind each transaction so far
 

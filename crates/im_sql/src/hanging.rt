@@ -13,7 +13,7 @@ ghost use Rattle.im_sqlmodel.specs.Writes as rules;
 ghost use Rattle.im_sql.specs.Sounding as spec;
 ghost use Rattle.im_sql.specs.declared.said.TableFound.{TableFound as Found};
 
-use crate::said::{TableFound, under};
+use crate::said::{TableFound, is_before, under};
 use im_catalog::entries::entry_written;
 use im_catalog::keys::{mark_key, tables_key};
 use im_sqlmodel::tables::{SqlIndex, Table};
@@ -30,7 +30,7 @@ fn is_among(shown: &[Version], version: &Version) -> bool
     ensures { IsTrue result ↔ IsAmong shown.now version.now }
 {
     let key = version.key.as_slice();
-    let at = shown.partition_point(|other| other.key.as_slice() < key);
+    let at = shown.partition_point(|other| is_before(other, key));
     if at < shown.len() {
         return is_same(&shown[at], version);
     }

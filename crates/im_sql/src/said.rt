@@ -2,9 +2,11 @@
 
 ghost use Rattle.std.specs.Prelude.{◌≡◌, ◌≢◌, ◌≤◌, ◌<◌, ◌^◌, ℕ, List, length, take, ◌++◌, All, IfOk, IsTrue, IfNone, IfSome, MatchOption};
 ghost use Rattle.std.specs.List.{AllZip};
+ghost use Rattle.std.specs.Ordering.{is_lt};
 ghost use Rattle.im_octet.specs.Fields.{field4};
 ghost use Rattle.im_model.specs.declared.transactions.Transaction.{Transaction};
 ghost use Rattle.im_versions.specs.Versions.{begins_with, IsScan};
+ghost use Rattle.im_sqltype.specs.Orders.{octets_cmp};
 ghost use Rattle.im_sqlmodel.specs.Keys as keys;
 ghost use Rattle.im_sqlmodel.specs.Rows.{IsIndexVersion, IsStoredRow};
 ghost use Rattle.im_sqlmodel.specs.Tables as tables;
@@ -35,13 +37,20 @@ pub(crate) struct TableFound {
     pub rows: Items<StoredRow>,
 }
 
+/// Whether a version's key is below another.
+pub(crate) fn is_before(version: &Version, key: &[u8]) -> bool
+    ensures { result ≡ is_lt (octets_cmp version.now.key key.now) }
+{
+    version.key.as_slice() < key
+}
+
 /// The versions, which have rising keys, whose keys begin with a front. They stand beside each other: it halves what is
 /// left at each look.
 pub(crate) fn under<'v>(shown: &'v [Version], front: &[u8]) -> &'v [Version]
     requires { (history : List Transaction) × (prefix : List ℕ) × IsScan history prefix shown.now }
     ensures { result.now ≡ spec.under front.now shown.now }
 {
-    let from = shown.partition_point(|version| version.key.as_slice() < front);
+    let from = shown.partition_point(|version| is_before(version, front));
     let behind = &shown[from..];
     let count = behind.partition_point(|version| version.key.as_slice().starts_with(front));
     &behind[..count]

@@ -1,4 +1,5 @@
-use Rattle.std.proofs.Common.{◌≡◌, ◌≤◌, ◌<◌, ◌+◌, ℕ, List, length, sum, take, arith}
+use Rattle.std.proofs.Common.{◌≡◌, ◌≤◌, ◌<◌, ◌+◌, ℕ, List, length, sum, take, get_or, arith}
+use Rattle.im_plan.proofs.BestLemmas.{at-any}
 use Rattle.im_sql.proofs.HangLemmas.{sum-step, sum-upto, sum-end}
 use Rattle.im_sql.proofs.hanging.without.Goals as goal
 
@@ -8,12 +9,14 @@ own k = k
 
 pub loop-count-preserved : goal.loop-count-preserved
 loop-count-preserved c =
-    let step = sum-step own c.args.counts.now c.loop-count.count-index c.count-item.result c.loop-count-test.true c.count-item.is in
+    let step = sum-step own c.args.counts.now c.loop-count.count-index (get_or c.args.counts.now c.loop-count.count-index 0) c.loop-count-test.true
+    (at-any c.args.counts.now c.loop-count.count-index 0 (get_or c.args.counts.now c.loop-count.count-index 0) c.loop-count-test.true) in
     omega (arith, step, c.loop-count.invariant, c.if-left-count.false)
 
 pub returns-then-left-count-clause-none : goal.returns-then-left-count-clause-none
 returns-then-left-count-clause-none c =
-    let most = sum-upto own c.args.counts.now c.loop-count.count-index c.count-item.result c.loop-count-test.true c.count-item.is in
+    let most = sum-upto own c.args.counts.now c.loop-count.count-index (get_or c.args.counts.now c.loop-count.count-index 0) c.loop-count-test.true
+    (at-any c.args.counts.now c.loop-count.count-index 0 (get_or c.args.counts.now c.loop-count.count-index 0) c.loop-count-test.true) in
     omega (arith, most, c.loop-count.invariant, c.if-left-count.true)
 
 pub returns-clause-some : goal.returns-clause-some

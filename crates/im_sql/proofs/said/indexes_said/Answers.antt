@@ -23,7 +23,7 @@ loop-version-preserved c =
     let t = c.args.table.now in
     let v = c.version-item.result in
     let said = subst (λ (o : Option SqlIndex). MatchOption o (SaysNoIndex t v) (IsIndexVersion t v)) c.in-Some.is c.in_ok-index.ensures in
-    subst (λ (is : List SqlIndex). AllZip (IsIndexVersion t) (take (c.loop-version.version-index + 1) c.args.shown.now) is) (sym c.in_ok-push.ensures.items)
+    subst (λ (is : List SqlIndex). AllZip (IsIndexVersion t) (take (c.loop-version.version-index + 1) c.args.shown.now) is) (sym c.in_ok-push-in-Some.ensures.items)
     (zip-more (IsIndexVersion t) c.args.shown.now c.loop-version.indexes.items c.loop-version.version-index v c.in-Some.index c.loop-version-test.true c.version-item.is c.loop-version.invariant said)
 
 pub returns-in-None : goal.returns-in-None

@@ -21,7 +21,7 @@ loop-version-preserved c =
     let said = c.under-said.result.now in
     let v = c.version-item.result in
     let by = subst (λ (o : Option TableFound). MatchOption o ((f : TableFound) → IsFoundBy shown v f → ⊥) (IsFoundBy shown v)) c.in-Some.is c.in_ok-found.ensures in
-    subst (λ (fs : List TableFound). AllZip (IsFoundBy shown) (take (c.loop-version.version-index + 1) said) fs) (sym c.in_ok-push.ensures.items)
+    subst (λ (fs : List TableFound). AllZip (IsFoundBy shown) (take (c.loop-version.version-index + 1) said) fs) (sym c.in_ok-push-in-Some.ensures.items)
     (zip-more (IsFoundBy shown) said c.loop-version.tables.items c.loop-version.version-index v c.in-Some.found c.loop-version-test.true c.version-item.is c.loop-version.invariant by)
 
 pub returns-in-None : goal.returns-in-None
