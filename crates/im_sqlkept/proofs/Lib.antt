@@ -1,1 +1,3 @@
-pub mod CarriedLemmas
+pub mod BehindLemmas
+pub mod GuardLemmas
+pub mod CreatedLemmas

@@ -1,0 +1,6 @@
+use Rattle.std.proofs.Common.{◌<◌, ◌≡◌, ◌++◌, length, refl, subst, sym, ◌∙◌}
+use Rattle.im_octet.specs.Fields.{field4}
+use Rattle.im_sql.proofs.said.first_number.Goals as goal
+
+pub returns-in-Err : goal.returns-in-Err
+returns-in-Err c = subst (λ s. length s < 4) c.new-reader.ensures.left (c.in-Err.ensures.short.0 refl)
