@@ -224,6 +224,17 @@ module _ (tx : ℕ) where
           ])
     ]
 
+  -- as a slice from the first place gives what is behind it
+  pub number-rest : (vs rest : List Version) (from count : ℕ) → rest ≡ drop from vs → AllPairs (λ a b. a.tx ≤ b.tx) vs → IsPartitionPoint (λ v. is_earlier v ≡ true) (λ v. is_earlier v ≡ false) vs from
+      → count ≤ length rest → (IsPartitionedBy is_upto rest → IsPartitionPoint (λ v. is_upto v ≡ true) (λ v. is_upto v ≡ false) rest count)
+      → (v : Version) → IsAmong (take count rest) v ↔ (IsAmong vs v × (v.tx ≡ tx))
+  number-rest vs rest from count same rising point =
+      subst (λ (us : List Version). count ≤ length us → (IsPartitionedBy is_upto us → IsPartitionPoint (λ v. is_upto v ≡ true) (λ v. is_upto v ≡ false) us count)
+      → (v : Version) → IsAmong (take count us) v ↔ (IsAmong vs v × (v.tx ≡ tx)))
+      (sym same) (λ few turn v.
+      let inner = turn (parted-upto (drop from vs) (rises-behind vs from rising)) in
+      (λ m. number-among vs from count few point inner v m, λ m. among-number vs from count few point inner v m.0 m.1))
+
 -- ---- what is put behind
 
 pub map-step : {A B : Type 0} (f : A → B) (xs : List A) (i : ℕ) (x : A) (old now new : List B) → i < length xs → x ≡ get_or xs i x → now ≡ old ++ map f (take i xs) → new ≡ now ++ f x ∷ []

@@ -31,7 +31,7 @@ pub field-same : (text left : List ℕ) (n m : ℕ) → n < 2 ^ 32 → m < 2 ^ 3
 field-same text left n m p q e is = same-field4 n m p q (same-fronts (field4 n) (field4 m) left [] (length-field4 n ∙ sym (length-field4 m)) (sym e ∙ is ∙ sym (append-nil (field4 m)))).0
 
 -- all that stands behind a place
-pub behind-all : (n : ℕ) (xs : List ℕ) → take (length xs - n) (drop n xs) ≡ drop n xs
+pub behind-all : {A : Type 0} (n : ℕ) (xs : List A) → take (length xs - n) (drop n xs) ≡ drop n xs
 behind-all n xs = take_all (length xs - n) (drop n xs) (let long : length (drop n xs) ≡ length xs - n = length-drop n xs in omega (arith, long))
 
 -- ---- keys of a front

@@ -107,3 +107,11 @@ module _ (front : List ℕ) where
       take-filter is_under (drop from shown) count (λ j d l m. inner.0 j d (omega arith) l) (λ j d l m. inner.1 j d l m)
       ∙ sym (ap (filter is_under) (sym (take-append-drop from shown)) ∙ filter-append is_under (take from shown) (drop from shown)
       ∙ ap (λ (vs : List Version). vs ++ filter is_under (drop from shown)) front_none)
+
+  -- as a slice from the first place gives what is behind it
+  pub under-rest : (shown rest : List Version) (from count : ℕ) → rest ≡ drop from shown → AllPairs (λ a b. IsBelow a.key b.key) shown → from ≤ length shown
+      → IsPartitionPoint (λ v. is_before v ≡ true) (λ v. is_before v ≡ false) shown from → count ≤ length rest
+      → (IsPartitionedBy is_under rest → IsPartitionPoint (λ v. is_under v ≡ true) (λ v. is_under v ≡ false) rest count) → take count rest ≡ under front shown
+  under-rest shown rest from count same rising within point =
+      subst (λ (vs : List Version). count ≤ length vs → (IsPartitionedBy is_under vs → IsPartitionPoint (λ v. is_under v ≡ true) (λ v. is_under v ≡ false) vs count) → take count vs ≡ under front shown)
+      (sym same) (λ few turn. under-is shown from count within few point (turn (parted-under (drop from shown) (rising-behind shown from rising) (none-before shown from point))))

@@ -1,6 +1,6 @@
 //! Whether the keys of a view that begin with octet 00 are SQL's.
 
-ghost use Rattle.std.specs.Prelude.{◌≡◌, ◌≢◌, ◌≤◌, ◌<◌, ℕ, List, length, take, slice_index_or, OnOk};
+ghost use Rattle.std.specs.Prelude.{◌≡◌, ◌≢◌, ◌≤◌, ◌<◌, ◌↔◌, ℕ, List, length, take, slice_index_or, OnOk, IsTrue};
 ghost use Rattle.im_model.specs.declared.transactions.Transaction.{Transaction};
 ghost use Rattle.im_versions.specs.declared.versions.Version.{Version as TheVersion};
 ghost use Rattle.std.specs.Ordering.{nat_cmp};
@@ -65,9 +65,16 @@ fn end_of(changes: &[Version], at: usize) -> usize
     ensures next { (d : TheVersion) → result < length changes.now → (slice_index_or changes.now result d).tx ≢ (slice_index_or changes.now at d).tx }
 {
     let tx = changes[at].tx;
-    let mut end = at + 1;
-    while end < changes.len() && changes[end].tx == tx {
-        end += 1;
+    for end in at + 1..changes.len() {
+        if !is_of(&changes[end], tx) {
+            return end;
+        }
     }
-    end
+    changes.len()
+}
+
+fn is_of(version: &Version, tx: u64) -> bool
+    ensures { IsTrue result ↔ (version.now.tx ≡ tx) }
+{
+    version.tx == tx
 }

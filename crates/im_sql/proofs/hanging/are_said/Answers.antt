@@ -5,12 +5,12 @@ use Rattle.im_sql.proofs.hanging.are_said.Goals as goal
 
 pub loop-at-preserved : goal.loop-at-preserved
 loop-at-preserved c =
-    said-step c.args.shown.now c.args.entries.now c.loop-at.at c.version-item.result c.index-entries-at.result c.loop-at-test.true (omega arith) c.version-item.is c.index-entries-at.is
+    said-step c.args.shown.now c.args.entries.now c.loop-at.at c.index-shown-at.result c.index-entries-at.result c.loop-at-test.true (omega arith) c.index-shown-at.is c.index-entries-at.is
     (c.is_said.ensures.0 c.if-not-is_said.false) c.loop-at.invariant
 
 pub returns-then-not-is_said : goal.returns-then-not-is_said
 returns-then-not-is_said c =
-    test-fails (said-fails c.args.shown.now c.args.entries.now c.loop-at.at c.version-item.result c.index-entries-at.result c.loop-at-test.true (omega arith) c.version-item.is c.index-entries-at.is
+    test-fails (said-fails c.args.shown.now c.args.entries.now c.loop-at.at c.index-shown-at.result c.index-entries-at.result c.loop-at-test.true (omega arith) c.index-shown-at.is c.index-entries-at.is
     (test-not c.is_said.result c.is_said.ensures c.if-not-is_said.true))
 
 pub returns-then-len : goal.returns-then-len

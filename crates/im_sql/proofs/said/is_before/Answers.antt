@@ -1,7 +1,6 @@
 use Rattle.std.proofs.Common.{ℕ, List, refl, ap, ◌∙◌}
 use Rattle.std.specs.Cmp.Lexicographic.{lists_agrees}
-use Rattle.std.specs.Option.{is_some_and}
-use Rattle.std.specs.Ordering.{is_lt, nat_cmp}
+use Rattle.std.specs.Ordering.{is_lt, is_some_and, nat_cmp}
 use Rattle.im_sqltype.specs.Orders.{octets_cmp}
 use Rattle.im_sql.proofs.said.is_before.Goals as goal
 
