@@ -96,7 +96,7 @@ plain-value t row i plain = by-test i.unique _ _ plain refl
     by-test false x y e given = given
 
 -- of an index that isn't unique: of one row
-plain-alone : (t : Table) (i : SqlIndex) (a b : List Value) → IsTable t → IsTableIndex t i → i.unique ≡ false → AreOfKinds (kinds_of t) a → AreOfKinds (kinds_of t) b
+pub plain-alone : (t : Table) (i : SqlIndex) (a b : List Value) → IsTable t → IsTableIndex t i → i.unique ≡ false → AreOfKinds (kinds_of t) a → AreOfKinds (kinds_of t) b
     → (entry_written t a i).key ≡ (entry_written t b i).key → key_of t a ≡ key_of t b
 plain-alone t i a b is index plain p q same =
     let v : Version = record { tx = 0; deleted = false; key = (entry_written t a i).key; value = [] } in
