@@ -149,30 +149,30 @@ either-some : (b : Bool) (value : Option (List ℕ)) (rest : Option (Option (Lis
 either-some true value rest P own other some = own refl
 either-some false value rest P own other some = other some
 
+abbrev Stays : Table → List Written → List Value → List Value → Type 0
+Stays t written row other = either (bytes_eq (key_of t other) (key_of t row)) (row_written t row).value (written_at written (key_of t other)) ≢ None
+
 own-over : (t : Table) (indexes : List SqlIndex) (stood rows : List StoredRow) (written : List Written) (row other : List Value) (there : Option StoredRow) (i : SqlIndex)
     → IsTable t → IsTableIndex t i → AreNumbered t indexes → IsAmong indexes i → i.unique ≡ false → AreOfKinds (kinds_of t) row → AreOfKinds (kinds_of t) other → IsRewritten t indexes stood written rows
     → stored_at t rows (key_of t row) ≡ there → written_at (put_all (all_written t indexes row) (put_all (dropped t indexes there) written)) (key_in t i other) ≢ None
     → written_at (put_all (all_written t indexes row) (put_all (dropped t indexes there) written)) (key_of t other) ≢ None
 own-over t indexes stood rows written row other there i is index numbered m plain kinds mine re found some =
     subst (λ (o : Option (Option (List ℕ))). o ≢ None) (sym (row-put t indexes row other there written))
-    (either-some (bytes_eq (key_in t i other) (key_in t i row)) (entry_written t row i).value (written_at (put_all (dropped t indexes there) written) (key_in t i other)) Goal
+    (either-some (bytes_eq (key_in t i other) (key_in t i row)) (entry_written t row i).value (written_at (put_all (dropped t indexes there) written) (key_in t i other)) (Stays t written row other)
     (λ same. own (plain-alone t i other row is index plain mine kinds ((bytes_eq-Decides (key_in t i other) (key_in t i row)).0 same)))
     (λ rest. behind there found rest)
     (subst (λ (o : Option (Option (List ℕ))). o ≢ None) (at-written t indexes i row other (put_all (dropped t indexes there) written) numbered m) some))
   where
-    abbrev Goal : Type 0
-    Goal = either (bytes_eq (key_of t other) (key_of t row)) (row_written t row).value (written_at written (key_of t other)) ≢ None
-
-    own : key_of t other ≡ key_of t row → Goal
+    own : key_of t other ≡ key_of t row → Stays t written row other
     own same = some-either (bytes_eq (key_of t other) (key_of t row)) (row_written t row).value (written_at written (key_of t other)) ((bytes_eq-Decides (key_of t other) (key_of t row)).1 same)
 
-    before : written_at written (key_in t i other) ≢ None → Goal
+    before : written_at written (key_in t i other) ≢ None → Stays t written row other
     before there = rest-either (bytes_eq (key_of t other) (key_of t row)) (row_written t row).value (written_at written (key_of t other)) (re.own i other m plain mine there)
 
-    behind : (o : Option StoredRow) → stored_at t rows (key_of t row) ≡ o → written_at (put_all (dropped t indexes o) written) (key_in t i other) ≢ None → Goal
+    behind : (o : Option StoredRow) → stored_at t rows (key_of t row) ≡ o → written_at (put_all (dropped t indexes o) written) (key_in t i other) ≢ None → Stays t written row other
     behind None none there = before there
     behind (Some old) at there =
-        either-some (bytes_eq (key_in t i other) (key_in t i old.row)) None (written_at written (key_in t i other)) Goal
+        either-some (bytes_eq (key_in t i other) (key_in t i old.row)) None (written_at written (key_in t i other)) (Stays t written row other)
         (λ same.
         let here = find-some (λ (s : StoredRow). bytes_eq (key_of t s.row) (key_of t row)) rows old at in
         let old_kinds : IsRowOfKinds t old = among-all rows re.kinds old here.0 in
