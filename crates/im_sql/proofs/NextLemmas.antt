@@ -244,16 +244,16 @@ module _ (t : Table) (indexes : List SqlIndex) (row : List Value) (rows : List S
   abbrev new_row : StoredRow
   new_row = record { row = row; tx = 0 }
 
-  abbrev pub left : List StoredRow
+  abbrev left : List StoredRow
   left = rows_without t (key_of t row) rows
 
   abbrev by_key : StoredRow → StoredRow → Ordering
   by_key a b = octets_cmp (key_of t a.row) (key_of t b.row)
 
-  abbrev pub KeyApart : StoredRow → StoredRow → Type 0
+  abbrev KeyApart : StoredRow → StoredRow → Type 0
   KeyApart a b = key_of t a.row ≢ key_of t b.row
 
-  abbrev pub EntryApart : SqlIndex → StoredRow → StoredRow → Type 0
+  abbrev EntryApart : SqlIndex → StoredRow → StoredRow → Type 0
   EntryApart i a b = key_in t i a.row ≢ key_in t i b.row
 
   pub keys-apart : AllPairs KeyApart rows → AllPairs KeyApart (rows_with t new_row rows)
@@ -297,7 +297,7 @@ module _ (t : Table) (indexes : List SqlIndex) (row : List Value) (rows : List S
       (kept-apart (EntryApart i) (λ s. not (bytes_eq (key_of t s.row) (key_of t row))) rows (apart-from (EntryApart i) rows h)))
 
   -- the row that has an entry's key
-  abbrev pub has_key : SqlIndex → List ℕ → StoredRow → Bool
+  abbrev has_key : SqlIndex → List ℕ → StoredRow → Bool
   has_key i key s = bytes_eq (key_in t i s.row) key
 
   pub holder-own : (i : SqlIndex) (key : List ℕ) → IsFree i → key ≡ key_in t i row → holder t i key (rows_with t new_row rows) ≡ Some new_row

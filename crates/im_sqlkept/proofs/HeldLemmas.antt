@@ -21,7 +21,7 @@ use Rattle.im_sqlmodel.specs.declared.written.Written.{Written}
 use Rattle.im_sql.specs.Working.{holder, IsRowOver}
 use Rattle.im_sql.specs.Writing.{written_at}
 use Rattle.im_sql.proofs.EntryLemmas.{plain-alone, row-alone}
-use Rattle.im_sql.proofs.NextLemmas.{AreNumbered, key_in, IsFree, KeyApart, EntryApart, all-put, all-kept, none-found, find-some, at-written, at-dropped, keys-apart, entries-apart, holder-own, holder-past, left-all, left-old, gone-old}
+use Rattle.im_sql.proofs.NextLemmas.{AreNumbered, key_in, IsFree, all-put, all-kept, none-found, find-some, at-written, at-dropped, keys-apart, entries-apart, holder-own, holder-past, left-all, left-old, gone-old}
 use Rattle.im_sql.proofs.PutLemmas.{either, row-put}
 use Rattle.im_sql.proofs.RowsLemmas.{row-over}
 use Rattle.im_sql.proofs.WorkLemmas.{index-of, row-of, working-first}
@@ -47,6 +47,12 @@ IsHeld t i text found = (s : StoredRow) × (found ≡ Some s) × (s.tx ≡ 0) ×
 abbrev pub HeldOver : Table → SqlIndex → List StoredRow → List ℕ → Option StoredRow → Option (Option (List ℕ)) → Type 0
 HeldOver t i stood key found there = MatchOption there (found ≡ holder t i key stood) (λ value. MatchOption value (found ≡ None) (λ text. IsHeld t i text found))
 
+abbrev pub KeysApart : Table → StoredRow → StoredRow → Type 0
+KeysApart t a b = key_of t a.row ≢ key_of t b.row
+
+abbrev pub EntriesApart : Table → SqlIndex → StoredRow → StoredRow → Type 0
+EntriesApart t i a b = key_in t i a.row ≢ key_in t i b.row
+
 abbrev pub IsRowOfKinds : Table → StoredRow → Type 0
 IsRowOfKinds t s = AreOfKinds (kinds_of t) s.row
 
@@ -55,8 +61,8 @@ pub record IsRewritten (t : Table) (indexes : List SqlIndex) (stood : List Store
   pub row : (key : List Value) → IsRowOver t stood written (key_of t key) (stored_at t rows (key_of t key))
   pub entry : (i : SqlIndex) (row : List Value) → IsAmong indexes i → HeldOver t i stood (key_in t i row) (holder t i (key_in t i row) rows) (written_at written (key_in t i row))
   -- no two rows have one primary key, nor one key in an index
-  pub apart : AllPairs (λ a b. key_of t a.row ≢ key_of t b.row) rows
-  pub alone : (i : SqlIndex) → IsAmong indexes i → AllPairs (λ a b. (entry_written t a.row i).key ≢ (entry_written t b.row i).key) rows
+  pub apart : AllPairs (KeysApart t) rows
+  pub alone : (i : SqlIndex) → IsAmong indexes i → AllPairs (EntriesApart t i) rows
   pub kinds : AllByRecursion (IsRowOfKinds t) rows
   -- an entry whose key holds the primary key is written with the row alone
   pub own : (i : SqlIndex) (row : List Value) → IsAmong indexes i → i.unique ≡ false → AreOfKinds (kinds_of t) row → written_at written (key_in t i row) ≢ None → written_at written (key_of t row) ≢ None

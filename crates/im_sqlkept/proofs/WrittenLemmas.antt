@@ -39,11 +39,11 @@ use Rattle.im_sql.specs.Working.{holder, IsWrittenRow}
 use Rattle.im_sql.specs.Writing.{written_at}
 use Rattle.im_sql.proofs.EntryLemmas.{plain-alone}
 use Rattle.im_sql.proofs.GroupLemmas.{all-both}
-use Rattle.im_sql.proofs.NextLemmas.{Apart, apart-from, pairs-from, all-kept, kept-apart, none-found, find-some, AreNumbered, key_in, any-own, entry-no-row, KeyApart, EntryApart, or-none, map-none, free-from}
+use Rattle.im_sql.proofs.NextLemmas.{Apart, apart-from, pairs-from, all-kept, kept-apart, none-found, find-some, AreNumbered, key_in, any-own, entry-no-row, or-none, map-none, free-from}
 use Rattle.im_sql.proofs.PutLemmas.{either, put-at}
 use Rattle.im_sql.proofs.RowsLemmas.{Over as RowOver}
 use Rattle.im_sql.proofs.ShortLemmas.{Below, IsFaultless, faultless, put-each, put-rises}
-use Rattle.im_sqlkept.proofs.HeldLemmas.{HeldOver, IsHeld, IsRewritten, IsRowOfKinds, plain-free, rewritten-next}
+use Rattle.im_sqlkept.proofs.HeldLemmas.{HeldOver, IsHeld, KeysApart, EntriesApart, IsRewritten, IsRowOfKinds, plain-free, rewritten-next}
 
 -- ---- keys, in rising order
 
@@ -361,14 +361,14 @@ module _ (t : Table) (indexes : List SqlIndex) (q : StoredRow → Bool) (stood :
           subst (λ (there : Option (Option (List ℕ))). RowOver t stood (key_of t key) (stored_at t rest (key_of t key)) there) (sym (at-gone (key_of t key) (λ s. bytes_eq (key_of t s.row) (key_of t key)) (row-gone key)))
           (over-gone (list_any (λ s. bytes_eq (key_of t s.row) (key_of t key)) met) (stored_at t rest (key_of t key)) (stored_at t stood (key_of t key))
           (λ text. IsWrittenRow t text (stored_at t rest (key_of t key)))
-          (find-left (λ s. bytes_eq (key_of t s.row) (key_of t key)) q stood (row-clash (key_of t key) stood (apart-from (KeyApart t) stood first.apart))));
+          (find-left (λ s. bytes_eq (key_of t s.row) (key_of t key)) q stood (row-clash (key_of t key) stood (apart-from (KeysApart t) stood first.apart))));
       entry = λ i row m.
           subst (HeldOver t i stood (key_in t i row) (holder t i (key_in t i row) rest)) (sym (at-gone (key_in t i row) (λ s. bytes_eq (key_in t i s.row) (key_in t i row)) (λ s. entry-gone i row s numbered m)))
           (over-gone (list_any (λ s. bytes_eq (key_in t i s.row) (key_in t i row)) met) (holder t i (key_in t i row) rest) (holder t i (key_in t i row) stood)
           (λ text. IsHeld t i text (holder t i (key_in t i row) rest))
-          (find-left (λ s. bytes_eq (key_in t i s.row) (key_in t i row)) q stood (entry-clash i (key_in t i row) stood (apart-from (EntryApart t i) stood (first.alone i m)))));
-      apart = pairs-from (KeyApart t) rest (kept-apart (KeyApart t) (λ s. not (q s)) stood (apart-from (KeyApart t) stood first.apart));
-      alone = λ i m. pairs-from (EntryApart t i) rest (kept-apart (EntryApart t i) (λ s. not (q s)) stood (apart-from (EntryApart t i) stood (first.alone i m)));
+          (find-left (λ s. bytes_eq (key_in t i s.row) (key_in t i row)) q stood (entry-clash i (key_in t i row) stood (apart-from (EntriesApart t i) stood (first.alone i m)))));
+      apart = pairs-from (KeysApart t) rest (kept-apart (KeysApart t) (λ s. not (q s)) stood (apart-from (KeysApart t) stood first.apart));
+      alone = λ i m. pairs-from (EntriesApart t i) rest (kept-apart (EntriesApart t i) (λ s. not (q s)) stood (apart-from (EntriesApart t i) stood (first.alone i m)));
       kinds = all-kept (IsRowOfKinds t) (λ s. not (q s)) stood first.kinds;
       own = λ i row m plain kinds some.
           subst (λ (o : Option (Option (List ℕ))). o ≢ None) (sym (at-gone (key_of t row) (λ s. bytes_eq (key_of t s.row) (key_of t row)) (row-gone row)))
@@ -381,19 +381,19 @@ module _ (t : Table) (indexes : List SqlIndex) (q : StoredRow → Bool) (stood :
     put-keyed t indexes (flat_map gone_of met) [] (gone-keyed met (all-kept (IsRowOfKinds t) q stood first.kinds)) (tt, tt),
   )
     where
-      row-clash : (key : List ℕ) (ss : List StoredRow) → Apart (KeyApart t) ss → Apart (Clash (λ s. bytes_eq (key_of t s.row) key)) ss
+      row-clash : (key : List ℕ) (ss : List StoredRow) → Apart (KeysApart t) ss → Apart (Clash (λ s. bytes_eq (key_of t s.row) key)) ss
       row-clash key [] h = tt
       row-clash key (s ∷ ss) h = (each ss h.0, row-clash key ss h.1)
         where
-          each : (rs : List StoredRow) → AllByRecursion (KeyApart t s) rs → AllByRecursion (Clash (λ r. bytes_eq (key_of t r.row) key) s) rs
+          each : (rs : List StoredRow) → AllByRecursion (KeysApart t s) rs → AllByRecursion (Clash (λ r. bytes_eq (key_of t r.row) key) s) rs
           each [] all = tt
           each (r ∷ rs) all = ((λ p o. all.0 ((bytes_eq-Decides (key_of t s.row) key).0 p ∙ sym ((bytes_eq-Decides (key_of t r.row) key).0 o))), each rs all.1)
 
-      entry-clash : (i : SqlIndex) (key : List ℕ) (ss : List StoredRow) → Apart (EntryApart t i) ss → Apart (Clash (λ s. bytes_eq (key_in t i s.row) key)) ss
+      entry-clash : (i : SqlIndex) (key : List ℕ) (ss : List StoredRow) → Apart (EntriesApart t i) ss → Apart (Clash (λ s. bytes_eq (key_in t i s.row) key)) ss
       entry-clash i key [] h = tt
       entry-clash i key (s ∷ ss) h = (each ss h.0, entry-clash i key ss h.1)
         where
-          each : (rs : List StoredRow) → AllByRecursion (EntryApart t i s) rs → AllByRecursion (Clash (λ r. bytes_eq (key_in t i r.row) key) s) rs
+          each : (rs : List StoredRow) → AllByRecursion (EntriesApart t i s) rs → AllByRecursion (Clash (λ r. bytes_eq (key_in t i r.row) key) s) rs
           each [] all = tt
           each (r ∷ rs) all = ((λ p o. all.0 ((bytes_eq-Decides (key_in t i s.row) key).0 p ∙ sym ((bytes_eq-Decides (key_in t i r.row) key).0 o))), each rs all.1)
 
