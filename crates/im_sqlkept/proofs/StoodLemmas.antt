@@ -107,20 +107,22 @@ last-high o (x ∷ xs) v w apart m e = elim (among-cons x xs v m) [
   | inr rest ↦ last-high (Some x) xs v w apart.1 rest e
 ]
 
+none-ends : (y : Version) (ys : List Version) → last_or (Some y) ys ≡ None → ⊥
+none-ends y [] e = none-some y e
+none-ends y (z ∷ zs) e = none-ends z zs e
+
+none-last : (vs : List Version) (v : Version) → IsAmong vs v → last_or None vs ≡ None → ⊥
+none-last [] v m e = (let few : m.0 < 0 = m.1.0 in omega (arith, few))
+none-last (x ∷ xs) v m e = none-ends x xs e
+
 pub among-low : (history : List Transaction) (key : List ℕ) (v : Version) → IsAmong (versions_of history key) v → v.tx ≤ last_number history key
 among-low history key v m = by-last (last_version history key) refl
   where
-    by-last : (o : Option Version) → last_version history key ≡ o → v.tx ≤ version_number o
-    by-last None e = absurd (never (versions_of history key) m e)
-      where
-        ends : (y : Version) (ys : List Version) → last_or (Some y) ys ≡ None → ⊥
-        ends y [] f = none-some y f
-        ends y (z ∷ zs) f = ends z zs f
-
-        never : (vs : List Version) → IsAmong vs v → last_or None vs ≡ None → ⊥
-        never [] n f = (let few : n.0 < 0 = n.1.0 in omega (arith, few))
-        never (x ∷ xs) n f = ends x xs f
-    by-last (Some w) e = last-high None (versions_of history key) v w (kept-apart Rises (is_of key) (versions_from 1 history) (rise-from 1 history)) m e
+    by-last : (o : Option Version) → last_version history key ≡ o → v.tx ≤ version_number (last_version history key)
+    by-last None e = absurd (none-last (versions_of history key) v m e)
+    by-last (Some w) e =
+        subst (λ (o : Option Version). v.tx ≤ version_number o) (sym e)
+        (last-high None (versions_of history key) v w (kept-apart Rises (is_of key) (versions_from 1 history) (rise-from 1 history)) m e)
 
 -- a key of a table or an index, by its second octet
 pub second-of : (key : List ℕ) → (begins_with table_prefix key || begins_with indexes_prefix key) ≡ true → (m : ℕ) × (m < 3) × (get_or key 1 0 ≡ m)

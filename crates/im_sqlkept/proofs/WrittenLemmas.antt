@@ -4,7 +4,6 @@ use Rattle.std.proofs.lemmas.Bool.{true≢false, cases_Bool}
 use Rattle.std.proofs.lemmas.List.Elements.{All-from_recursion, recursion_from_All}
 use Rattle.std.proofs.lemmas.List.{length-map}
 use Rattle.std.proofs.lemmas.Slice.Eq.{bytes_eq-Decides}
-use Rattle.std.specs.Int.{w64}
 use Rattle.std.specs.List.{All, AllByRecursion, IsAmong, list_any}
 use Rattle.std.specs.Option.{option_map, option_or}
 use Rattle.im_octet.proofs.Common.{bytes-other, some-is}
