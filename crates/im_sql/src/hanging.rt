@@ -16,6 +16,7 @@ ghost use Rattle.im_sql.specs.declared.said.TableFound.{TableFound as Found};
 use crate::said::{TableFound, is_before, under};
 use im_catalog::entries::entry_written;
 use im_catalog::keys::{mark_key, tables_key};
+use im_octet::fields::four;
 use im_sqlmodel::tables::{SqlIndex, Table};
 use im_sqlmodel::written::Written;
 use im_sqltype::values::Value;
@@ -92,14 +93,18 @@ fn has_iid(index: &SqlIndex, iid: usize) -> bool
 }
 
 // Whether octets are the four of a number.
+fn is_field(text: &[u8], number: u32) -> bool
+    ensures { IsTrue result ↔ (text.now ≡ field4 number) }
+{
+    are_same(text, &four(number))
+}
+
+// Whether they are, and the number fits in them.
 fn says_number(text: &[u8], number: usize) -> bool
     ensures { IsTrue result ↔ ((number < 2 ^ 32) × (text.now ≡ field4 number)) }
 {
     match u32::try_from(number) {
-        Ok(number) => {
-            let octets = number.to_be_bytes();
-            text == octets.as_slice()
-        }
+        Ok(number) => is_field(text, number),
         Err(_) => false,
     }
 }

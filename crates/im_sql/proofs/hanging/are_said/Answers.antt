@@ -13,8 +13,8 @@ returns-then-not-is_said c =
     test-fails (said-fails c.args.shown.now c.args.entries.now c.loop-at.at c.index-shown-at.result c.index-entries-at.result c.loop-at-test.true (omega arith) c.index-shown-at.is c.index-entries-at.is
     (test-not c.is_said.result c.is_said.ensures c.if-not-is_said.true))
 
-pub returns-then-len : goal.returns-then-len
-returns-then-len c = test-fails (λ same. (let long = said-long c.args.shown.now c.args.entries.now same in let no : ⊥ = omega (arith, long, c.if-len.true) in no))
+pub returns-then-shown-entries : goal.returns-then-shown-entries
+returns-then-shown-entries c = test-fails (λ same. (let long = said-long c.args.shown.now c.args.entries.now same in let no : ⊥ = omega (arith, long, c.if-shown-entries.true) in no))
 
 pub returns : goal.returns
 returns c = test-holds (said-end c.args.shown.now c.args.entries.now c.loop-at.at c.loop-at-test.false (omega arith) c.loop-at.invariant)

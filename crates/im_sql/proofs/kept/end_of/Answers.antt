@@ -23,14 +23,14 @@ loop-end-preserved c = λ k d a l. elim (cases_lt k c.loop-end.end) [
       let same : c.loop-end.end ≡ k = omega (arith, last, l) in
       subst (λ (i : ℕ). (get_or c.args.changes.now i d).tx ≡ (get_or c.args.changes.now c.args.at d).tx) same
       (same-number c.args.changes.now c.args.at c.loop-end.end c.index-changes-at.result c.index-changes-end.result c.requires c.loop-end-test.true c.index-changes-at.is c.index-changes-end.is
-      (c.is_of.ensures.0 c.if-not-is_of.false) d))
+      (c.is_of.ensures.0 c.if-not-is_of.false ∙ ap (λ (v : Version). v.tx) (sym c.index-changes-at.is)) d))
 ]
 
 pub returns-then-not-is_of-clause-next : goal.returns-then-not-is_of-clause-next
 returns-then-not-is_of-clause-next c = λ d within same.
     test-not c.is_of.result c.is_of.ensures c.if-not-is_of.true
     (ap (λ (v : Version). v.tx) (get_or_read c.args.changes.now c.loop-end.end c.index-changes-end.result c.loop-end-test.true c.index-changes-end.is d) ∙ same
-    ∙ sym (ap (λ (v : Version). v.tx) (get_or_read c.args.changes.now c.args.at c.index-changes-at.result c.requires c.index-changes-at.is d)))
+    ∙ sym (ap (λ (v : Version). v.tx) (get_or_read c.args.changes.now c.args.at c.index-changes-at.result c.requires c.index-changes-at.is d)) ∙ ap (λ (v : Version). v.tx) c.index-changes-at.is)
 
 pub returns-clause-same : goal.returns-clause-same
 returns-clause-same c = λ k d a l. c.loop-end.invariant k d a (omega (arith, l, c.loop-end-test.false))

@@ -4,11 +4,6 @@ use Rattle.im_sqlmodel.specs.Keys.{table_prefix, table_key}
 use Rattle.im_sql.proofs.SayLemmas.{begins-long, behind-all}
 use Rattle.im_sql.proofs.said.table_said.Goals as goal
 
-pub range_from-requires : goal.range_from-requires
-range_from-requires c =
-    let long = begins-long table_prefix c.args.version.now.key c.requires in
-    omega (arith, long, ap length c.as_slice-key.ensures)
-
 pub returns-in-Ok : goal.returns-in-Ok
 returns-in-Ok c =
     let is = c.in-Ok.ensures.table in

@@ -17,11 +17,11 @@ is_settled-requires-clause-new c = let r = c.requires in (take (r.1 + 1) r.0, 0 
 pub tables_found-requires : goal.tables_found-requires
 tables_found-requires c = let r = c.requires in (take (r.1 + 1) r.0, 0 ∷ [], r.5)
 
-pub do_hang-requires-clause-scan : goal.do_hang-requires-clause-scan
-do_hang-requires-clause-scan c = let r = c.requires in (take (r.1 + 1) r.0, 0 ∷ [], r.5)
+pub do_hang-sound-requires-clause-scan : goal.do_hang-sound-requires-clause-scan
+do_hang-sound-requires-clause-scan c = let r = c.requires in (take (r.1 + 1) r.0, 0 ∷ [], r.5)
 
-pub do_hang-requires-clause-rising : goal.do_hang-requires-clause-rising
-do_hang-requires-clause-rising c = c.requires.6.1
+pub do_hang-sound-requires-clause-rising : goal.do_hang-sound-requires-clause-rising
+do_hang-sound-requires-clause-rising c = c.requires.6.1
 
 pub returns-then-not-is_settled : goal.returns-then-not-is_settled
 returns-then-not-is_settled c = λ history k less sound old new by. (
