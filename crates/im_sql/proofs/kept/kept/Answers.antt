@@ -1,13 +1,10 @@
-use Rattle.std.proofs.Common.{◌≡◌, ◌≤◌, ◌<◌, ◌+◌, ◌-◌, ℕ, List, [], ◌∷◌, length, take, true≢false, refl, sym, ap, subst, ◌∙◌, arith}
+use Rattle.std.proofs.Common.{◌≡◌, ◌≤◌, ◌<◌, ◌+◌, ◌-◌, ℕ, List, [], ◌∷◌, length, take, get_or, true≢false, refl, sym, ap, subst, ◌∙◌, arith}
 use Rattle.im_model.specs.declared.transactions.Transaction.{Transaction}
 use Rattle.im_versions.specs.Versions.{IsScan}
 use Rattle.im_versions.specs.declared.versions.Version.{Version}
 use Rattle.im_sqlmodel.specs.Kept.{IsFirstUnsound}
 use Rattle.im_sql.proofs.LoopLemmas.{IsUpto, by-sorted, upto-first, upto-last, upto-next, group-of, one, within-m, sound-m, scan-m, scan-next, changes-m, first-m}
 use Rattle.im_sql.proofs.kept.kept.Goals as goal
-
--- Names of calls are guesses: changes (in_ok-changes), into_vec-changes, in_ok-sort_by_number, as_slice-all, from_vec-before, new,
--- index-all-at, end_of-end, in_ok-shown, in_ok-sound.
 
 pub loop-at-init : goal.loop-at-init
 loop-at-init g c = λ history stands few.
@@ -26,8 +23,8 @@ scan-requires g c =
     let inv = c.loop-at.invariant history r.1 r.2 in
     let at = c.loop-at.at in
     let end : ℕ = c.end_of-end.result in
-    let v : Version = c.index-all-at.result in
-    let group = group-of all at end v c.loop-at-test.true c.index-all-at.is c.end_of-end.ensures.after c.end_of-end.ensures.within c.end_of-end.ensures.same c.end_of-end.ensures.next in
+    let v : Version = get_or all at c.index-all-at.result in
+    let group = group-of all at end v c.loop-at-test.true (ap (λ (d : Version). get_or all at d) c.index-all-at.is) c.end_of-end.ensures.after c.end_of-end.ensures.within c.end_of-end.ensures.same c.end_of-end.ensures.next in
     let e : v.tx ≡ (v.tx - 1) + 1 = one history c.args.n r.2 all by at end inv.1.0 v.tx c.loop-at.before inv.1.1 group in
     let less : v.tx - 1 < length history = within-m history c.args.n r.2 all by at end inv.1.0 v.tx c.loop-at.before inv.1.1 group in
     (history, r.1, omega (arith, e, less))
@@ -45,15 +42,15 @@ is_sound-requires g c =
     let end : ℕ = c.end_of-end.result in
     let k : ℕ = inv.1.0 in
     let before = c.loop-at.before in
-    let v : Version = c.index-all-at.result in
+    let v : Version = get_or all at c.index-all-at.result in
     let tx : ℕ = v.tx in
-    let group = group-of all at end v c.loop-at-test.true c.index-all-at.is c.end_of-end.ensures.after c.end_of-end.ensures.within c.end_of-end.ensures.same c.end_of-end.ensures.next in
+    let group = group-of all at end v c.loop-at-test.true (ap (λ (d : Version). get_or all at d) c.index-all-at.is) c.end_of-end.ensures.after c.end_of-end.ensures.within c.end_of-end.ensures.same c.end_of-end.ensures.next in
     let less : tx - 1 < length history = within-m history n r.2 all by at end k tx before inv.1.1 group in
     let e : tx ≡ (tx - 1) + 1 = one history n r.2 all by at end k tx before inv.1.1 group in
     let few : tx ≤ length history = omega (arith, e, less) in
     (history, tx - 1, less, sound-m history n r.2 all by at end k tx before inv.1.1 group,
      subst (IsScan (take (tx - 1) history) (0 ∷ [])) (sym c.as_slice.ensures) (scan-m history n r.2 all by at end k tx before inv.1.1 group),
-     subst (IsScan (take ((tx - 1) + 1) history) (0 ∷ [])) (sym c.as_slice-2.ensures) (scan-next history n r.2 all by at end k tx before inv.1.1 group c.in_ok-shown.shown (c.in_ok-shown.ensures history r.1 few)),
+     subst (IsScan (take ((tx - 1) + 1) history) (0 ∷ [])) (sym c.as_slice-in-loop-at.ensures) (scan-next history n r.2 all by at end k tx before inv.1.1 group c.in_ok-shown.shown (c.in_ok-shown.ensures history r.1 few)),
      changes-m history n r.2 all by at end k tx before inv.1.1 group)
 
 pub loop-at-preserved : goal.loop-at-preserved
@@ -67,9 +64,9 @@ loop-at-preserved g c = λ history stands few.
     let end : ℕ = c.end_of-end.result in
     let k : ℕ = inv.1.0 in
     let before = c.loop-at.before in
-    let v : Version = c.index-all-at.result in
+    let v : Version = get_or all at c.index-all-at.result in
     let tx : ℕ = v.tx in
-    let group = group-of all at end v c.loop-at-test.true c.index-all-at.is c.end_of-end.ensures.after c.end_of-end.ensures.within c.end_of-end.ensures.same c.end_of-end.ensures.next in
+    let group = group-of all at end v c.loop-at-test.true (ap (λ (d : Version). get_or all at d) c.index-all-at.is) c.end_of-end.ensures.after c.end_of-end.ensures.within c.end_of-end.ensures.same c.end_of-end.ensures.next in
     let less : tx - 1 < length history = within-m history n few all by at end k tx before inv.1.1 group in
     let e : tx ≡ (tx - 1) + 1 = one history n few all by at end k tx before inv.1.1 group in
     let low : tx ≤ length history = omega (arith, e, less) in
@@ -77,7 +74,7 @@ loop-at-preserved g c = λ history stands few.
     let next = scan-next history n few all by at end k tx before inv.1.1 group shown (c.in_ok-shown.ensures history stands low) in
     let judged = c.in_ok-sound.ensures history (tx - 1) less (sound-m history n few all by at end k tx before inv.1.1 group)
     (subst (IsScan (take (tx - 1) history) (0 ∷ [])) (sym c.as_slice.ensures) (scan-m history n few all by at end k tx before inv.1.1 group))
-    (subst (IsScan (take ((tx - 1) + 1) history) (0 ∷ [])) (sym c.as_slice-2.ensures) next)
+    (subst (IsScan (take ((tx - 1) + 1) history) (0 ∷ [])) (sym c.as_slice-in-loop-at.ensures) next)
     (changes-m history n few all by at end k tx before inv.1.1 group) in
     (c.end_of-end.ensures.within, ((tx - 1) + 1, upto-next history n few all by at end k tx before inv.1.1 group shown next (judged.0 c.if-not-sound.false)))
 
@@ -92,16 +89,16 @@ returns-then-not-sound-clause-not_kept g c = λ history stands few told is.
     let end : ℕ = c.end_of-end.result in
     let k : ℕ = inv.1.0 in
     let before = c.loop-at.before in
-    let v : Version = c.index-all-at.result in
+    let v : Version = get_or all at c.index-all-at.result in
     let tx : ℕ = v.tx in
-    let group = group-of all at end v c.loop-at-test.true c.index-all-at.is c.end_of-end.ensures.after c.end_of-end.ensures.within c.end_of-end.ensures.same c.end_of-end.ensures.next in
+    let group = group-of all at end v c.loop-at-test.true (ap (λ (d : Version). get_or all at d) c.index-all-at.is) c.end_of-end.ensures.after c.end_of-end.ensures.within c.end_of-end.ensures.same c.end_of-end.ensures.next in
     let less : tx - 1 < length history = within-m history n few all by at end k tx before inv.1.1 group in
     let e : tx ≡ (tx - 1) + 1 = one history n few all by at end k tx before inv.1.1 group in
     let low : tx ≤ length history = omega (arith, e, less) in
     let next = scan-next history n few all by at end k tx before inv.1.1 group c.in_ok-shown.shown (c.in_ok-shown.ensures history stands low) in
     let judged = c.in_ok-sound.ensures history (tx - 1) less (sound-m history n few all by at end k tx before inv.1.1 group)
     (subst (IsScan (take (tx - 1) history) (0 ∷ [])) (sym c.as_slice.ensures) (scan-m history n few all by at end k tx before inv.1.1 group))
-    (subst (IsScan (take ((tx - 1) + 1) history) (0 ∷ [])) (sym c.as_slice-2.ensures) next)
+    (subst (IsScan (take ((tx - 1) + 1) history) (0 ∷ [])) (sym c.as_slice-in-loop-at.ensures) next)
     (changes-m history n few all by at end k tx before inv.1.1 group) in
     let same : tx ≡ told = cc in
     subst (IsFirstUnsound (take n history)) same (first-m history n few all by at end k tx before inv.1.1 group (λ held. absurd (true≢false (sym (judged.1 held) ∙ c.if-not-sound.true))))
