@@ -1,6 +1,6 @@
 -- Each live key is in one group of keys alone: how many keys there are is the sum of the groups' counts.
 use Rattle.std.proofs.Common.{◌≡◌, ◌≢◌, ◌≤◌, ◌<◌, ◌+◌, ◌^◌, ◌⊎◌, inl, inr, ℕ, Bool, true, false, cond, List, [], ◌∷◌, ◌++◌, length, map, filter, drop, get_or, refl, sym, ap, ◌∙◌, subst, arith}
-use Rattle.std.proofs.lemmas.Bool.{cases_Bool, true≢false}
+use Rattle.std.proofs.lemmas.Bool.{cases_Bool}
 use Rattle.std.specs.List.{AllByRecursion, IsAmong}
 use Rattle.im_octet.specs.Fields.{field4}
 use Rattle.im_versions.specs.Versions.{begins_with}

@@ -1,15 +1,15 @@
 -- Live keys that are SQL's are judged to be.
-use Rattle.std.proofs.Common.{◌≡◌, ◌≢◌, ◌≤◌, ◌<◌, ◌+◌, ◌^◌, ◌||◌, ◌⊎◌, inl, inr, ℕ, Bool, true, false, List, [], ◌∷◌, ◌++◌, length, take, drop, map, flat_map, filter, get_or, nat_eq, All, AllPairs, Option, Some, None, refl, sym, ap, ◌∙◌, subst, arith}
-use Rattle.std.proofs.lemmas.Bool.{true≢false, cases_Bool, or_left, or_right, eq-eqb, eqb-true}
-use Rattle.std.proofs.lemmas.List.{length-map, length-take-le, take-take}
-use Rattle.std.proofs.lemmas.List.Elements.{All-from_recursion, recursion_from_All}
+use Rattle.std.proofs.Common.{◌≡◌, ◌≢◌, ◌≤◌, ◌<◌, ◌+◌, ◌^◌, ◌||◌, ◌⊎◌, inl, inr, ℕ, Bool, true, false, List, [], ◌∷◌, ◌++◌, length, take, drop, map, flat_map, filter, get_or, nat_eq, All, AllPairs, Some, refl, sym, ap, ◌∙◌, subst, arith}
+use Rattle.std.proofs.lemmas.Bool.{true≢false, or_left, or_right, eq-eqb, eqb-true}
+use Rattle.std.proofs.lemmas.List.{length-map, take-take}
+use Rattle.std.proofs.lemmas.List.Elements.{All-from_recursion}
 use Rattle.std.proofs.lemmas.List.Kept.{AllPairs-filter}
 use Rattle.std.proofs.lemmas.Slice.Eq.{bytes_eq-Decides}
 use Rattle.std.specs.List.{AllByRecursion, AllZip, IsAmong}
 use Rattle.im_octet.specs.Fields.{field4}
 use Rattle.im_octet.proofs.Common.{some-is}
 use Rattle.im_model.specs.declared.transactions.Transaction.{Transaction}
-use Rattle.im_versions.specs.Versions.{last_version, last_number, is_live, is_of, versions_of, begins_with, IsBelow, IsScan}
+use Rattle.im_versions.specs.Versions.{last_version, is_live, is_of, begins_with, IsBelow, IsScan}
 use Rattle.im_versions.specs.declared.versions.Version.{Version}
 use Rattle.im_versions.proofs.ListLemmas.{All-among, among-cons, among-first, among-filter, rising-unique}
 use Rattle.im_versions.proofs.VersionLemmas.{last-of-key, below-strict, scan-unique}
@@ -17,24 +17,20 @@ use Rattle.im_sqltype.specs.Texts.{row_text}
 use Rattle.im_sqltype.specs.declared.values.Value.{Value}
 use Rattle.im_sqlmodel.specs.Keys.{tables_key, table_prefix, table_key, indexes_prefix, index_prefix, index_key, rows_prefix, mark_key}
 use Rattle.im_sqlmodel.specs.Kept.{IsTableOf, IsSqlIndexOf, IsRowOf, IsText, IsSqlSound}
-use Rattle.im_sqlmodel.specs.Rows.{IsLiveAs, IsIndexVersion, IsStoredRow, IndexesAre, RowsAre, columns_of, key_of}
+use Rattle.im_sqlmodel.specs.Rows.{IsLiveAs, IsIndexVersion, IsStoredRow, columns_of, key_of}
 use Rattle.im_sqlmodel.specs.Sorts.{sorted}
-use Rattle.im_sqlmodel.specs.Tables.{IsTable, table_text}
 use Rattle.im_sqlmodel.specs.Writes.{entry_written}
 use Rattle.im_sqlmodel.specs.declared.rows.StoredRow.{StoredRow}
 use Rattle.im_sqlmodel.specs.declared.tables.SqlIndex.{SqlIndex}
 use Rattle.im_sqlmodel.specs.declared.tables.Table.{Table}
 use Rattle.im_sqlmodel.specs.declared.written.Written.{Written}
 use Rattle.im_sqlmodel.proofs.OnceLemmas.{value-live}
-use Rattle.im_catalog.specs.Rows.{entries_prefix}
-use Rattle.im_catalog.proofs.FoundLemmas.{begins-is, entry-is, other-second, second, table-there}
+use Rattle.im_catalog.proofs.FoundLemmas.{begins-is, entry-is, other-second, table-there}
 use Rattle.im_catalog.proofs.FrontLemmas.{among-kept, begins-from, begins-shorter, scan-front}
 use Rattle.im_catalog.proofs.ThereLemmas.{rows-are, indexes-are}
 use Rattle.im_plan.proofs.BestLemmas.{at-any}
-use Rattle.im_plan.proofs.EntryLemmas.{no_version, zip-at, zip-length, zip-among-left}
-use Rattle.im_plan.proofs.EntryRowLemmas.{prefix_by, one-index}
-use Rattle.im_plan.proofs.ReachLemmas.{entry-parts}
-use Rattle.im_sql.specs.Sounding.{kind_shown, under, said_by, entries_of, IsTableVersion, IsFound, IsFoundBy, AreFound, IsCountShown, AreNumbered, AreGapless, IsMarked, IsSoundAlone, IsMarkShown, AreEntered, AreSettled, IsAll, Hang, AreByNumber}
+use Rattle.im_plan.proofs.EntryLemmas.{no_version, zip-at, zip-length}
+use Rattle.im_sql.specs.Sounding.{kind_shown, under, said_by, entries_of, IsTableVersion, IsFound, IsFoundBy, AreFound, IsCountShown, AreNumbered, AreGapless, IsMarked, IsSoundAlone, IsMarkShown, AreEntered, IsAll, Hang, AreByNumber}
 use Rattle.im_sql.specs.declared.said.TableFound.{TableFound}
 use Rattle.im_sql.proofs.AmongLemmas.{among-nil, among-left, among-right, among-either, among-map, map-among, among-flat, flat-among, among-sorted, sorted-among, sorted-rising, by_key, no-more, up_to, length-up_to, among-up_to}
 use Rattle.im_sql.proofs.CountLemmas.{few-by}
@@ -43,7 +39,7 @@ use Rattle.im_sql.proofs.GroupLemmas.{AreTold, InGroup, groups, hits, apart-both
 use Rattle.im_sql.proofs.NextLemmas.{Apart, apart-from, pairs-from, all-of}
 use Rattle.im_sql.proofs.NumberLemmas.{index-less, at-place}
 use Rattle.im_sql.proofs.ShortLemmas.{Below}
-use Rattle.im_sql.proofs.ShownLemmas.{shown-live, live-shown, live-under, under-shown, table-live, table-found, index-live, index-found, row-live, row-found, sum-groups}
+use Rattle.im_sql.proofs.ShownLemmas.{shown-live, under-shown, table-live, table-found, index-live, index-found, row-live, row-found, sum-groups}
 use Rattle.im_sql.proofs.SoundLemmas.{tid_of, tids-mapped}
 use Rattle.im_sql.proofs.TablesLemmas.{found-whole}
 

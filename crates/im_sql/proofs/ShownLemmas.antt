@@ -1,5 +1,5 @@
 -- The tables, indexes and rows that live keys say are those of the history.
-use Rattle.std.proofs.Common.{◌≡◌, ◌<◌, ◌+◌, ◌^◌, ℕ, Bool, false, List, [], ◌∷◌, ◌++◌, length, drop, filter, get_or, sum_by, Some, refl, sym, ap, ◌∙◌, subst, arith}
+use Rattle.std.proofs.Common.{◌≡◌, ◌<◌, ◌+◌, ◌^◌, ℕ, false, List, [], ◌∷◌, ◌++◌, length, drop, sum_by, Some, refl, sym, ap, ◌∙◌, subst, arith}
 use Rattle.std.proofs.lemmas.List.Sums.{sum_by-cons}
 use Rattle.std.specs.List.{AllByRecursion, IsAmong}
 use Rattle.im_octet.specs.Fields.{field4}
@@ -25,7 +25,7 @@ use Rattle.im_plan.proofs.EntryLemmas.{zip-among, zip-among-left, zip-length}
 use Rattle.im_plan.proofs.EntryRowLemmas.{text-same}
 use Rattle.im_sql.specs.Sounding.{kind_shown, under, IsTableVersion, IsFound, AreFound}
 use Rattle.im_sql.specs.declared.said.TableFound.{TableFound}
-use Rattle.im_sql.proofs.GroupLemmas.{sizes, sizes-append, fronted, fronts, groups}
+use Rattle.im_sql.proofs.GroupLemmas.{sizes, sizes-append, fronts, groups}
 use Rattle.im_sql.proofs.NextLemmas.{all-of}
 
 pub shown-live : (history : List Transaction) (shown : List Version) (v : Version) → IsScan history (0 ∷ []) shown → IsAmong shown v → (last_version history v.key ≡ Some v) × (v.deleted ≡ false)

@@ -1,5 +1,5 @@
 -- Between two transactions that write keys of SQL's they stay as they are.
-use Rattle.std.proofs.Common.{◌≡◌, ◌≢◌, ◌≤◌, ◌<◌, ◌+◌, ◌-◌, ◌||◌, ◌⊎◌, inl, inr, ℕ, zero, suc, Bool, true, false, cond, if◌then◌else◌, min, List, [], ◌∷◌, ◌++◌, length, take, drop, filter, get_or, nat_le, All, AllPairs, Some, None, refl, sym, ap, ◌∙◌, subst, arith}
+use Rattle.std.proofs.Common.{◌≡◌, ◌≢◌, ◌≤◌, ◌<◌, ◌+◌, ◌-◌, ◌||◌, ◌⊎◌, inl, inr, ℕ, zero, suc, Bool, true, false, cond, if◌then◌else◌, min, List, [], ◌∷◌, ◌++◌, length, take, filter, get_or, nat_le, AllPairs, Some, None, refl, sym, ap, ◌∙◌, subst, arith}
 use Rattle.std.proofs.lemmas.Bool.{cases_Bool, cases_lt, cases_order, le-leb, lt-leb, leb-true}
 use Rattle.std.proofs.lemmas.List.{length-take, length-take-le, take-take, take_all, get_or-take}
 use Rattle.std.proofs.lemmas.List.Elements.{All-from_recursion, All-take, recursion_from_All}
@@ -11,18 +11,16 @@ use Rattle.std.specs.declared.cmp.Ordering.{Ordering}
 use Rattle.std.specs.declared.cmp.Ordering.TheVariants.{Less, Equal, Greater}
 use Rattle.im_octet.proofs.Common.{filter-swap}
 use Rattle.im_model.specs.declared.transactions.Transaction.{Transaction}
-use Rattle.im_versions.specs.Versions.{last_version, versions_in, versions_from, all_versions, versions_of, is_of, begins_with, IsBelow, IsScan}
+use Rattle.im_versions.specs.Versions.{last_version, versions_in, versions_from, all_versions, versions_of, is_of, begins_with, IsScan}
 use Rattle.im_versions.specs.declared.versions.Version.{Version}
-use Rattle.im_versions.proofs.ListLemmas.{All-among, among-first, among-rest, among-filter}
+use Rattle.im_versions.proofs.ListLemmas.{All-among, among-filter}
 use Rattle.im_versions.proofs.VersionLemmas.{versions-upto, versions-within, versions_in-number, versions_from-within}
 use Rattle.im_changes.specs.Changes.{AreChanges}
 use Rattle.im_sqlmodel.specs.Keys.{table_prefix, indexes_prefix}
 use Rattle.im_sqlmodel.specs.Kept.{IsSqlSound, IsSqlKept, IsFirstUnsound}
 use Rattle.im_sqlmodel.specs.Sorts.{put_sorted, sorted}
 use Rattle.im_sqlmodel.proofs.SortLemmas.{sorted-all}
-use Rattle.im_catalog.proofs.FoundLemmas.{begins-is}
 use Rattle.im_catalog.proofs.FrontLemmas.{among-kept, begins-from}
-use Rattle.im_plan.proofs.BestLemmas.{at-any}
 use Rattle.im_sql.specs.Sounding.{AreByNumber}
 use Rattle.im_sql.proofs.CarriedLemmas.{SameLast, carried, begins-zero}
 use Rattle.im_sql.proofs.GroupLemmas.{apart-both}

@@ -1,18 +1,17 @@
 -- What is live behind a transaction that writes what a statement asks for.
-use Rattle.std.proofs.Common.{◌≡◌, ◌≢◌, ◌≤◌, ◌+◌, inl, inr, ◌⊎◌, ℕ, Bool, true, false, cond, List, [], ◌∷◌, ◌++◌, length, take, filter, find, map, bytes_eq, nat_le, IsTrue, Option, Some, None, MatchOption, refl, sym, ap, ◌∙◌, subst, arith}
-use Rattle.std.proofs.lemmas.Bool.{true≢false, cases_Bool, leb-true}
+use Rattle.std.proofs.Common.{◌≡◌, ◌≢◌, ◌≤◌, ◌+◌, inl, inr, ◌⊎◌, ℕ, Bool, true, false, cond, List, [], ◌∷◌, ◌++◌, length, filter, find, map, bytes_eq, Option, Some, None, refl, sym, ap, ◌∙◌, subst}
+use Rattle.std.proofs.lemmas.Bool.{true≢false, cases_Bool}
 use Rattle.std.proofs.lemmas.List.{append-nil}
 use Rattle.std.proofs.lemmas.Slice.Eq.{bytes_eq-Decides}
-use Rattle.std.specs.List.{AllByRecursion, IsAmong, last_or}
+use Rattle.std.specs.List.{AllByRecursion, last_or}
 use Rattle.std.specs.Option.{option_map}
 use Rattle.im_octet.proofs.Common.{bytes-other, last-push, some-is}
 use Rattle.im_model.specs.declared.entries.Entry.{Entry}
 use Rattle.im_model.specs.declared.transactions.Transaction.{Transaction}
-use Rattle.im_versions.specs.Versions.{is_shown, version_of, versions_in, versions_of, all_versions, is_of, last_version, last_number, version_number, is_live, is_written}
+use Rattle.im_versions.specs.Versions.{is_shown, version_of, versions_in, versions_of, is_of, last_version}
 use Rattle.im_versions.specs.declared.versions.Version.{Version}
 use Rattle.im_draft.specs.Drafts.{entry_of}
 use Rattle.im_sqlmodel.specs.Creations.{draft_written}
-use Rattle.im_sqlmodel.specs.Options.{by_option}
 use Rattle.im_sqlmodel.specs.Rows.{IsLiveAs}
 use Rattle.im_sqlmodel.specs.declared.written.Written.{Written}
 use Rattle.im_sql.proofs.CarriedLemmas.{versions-pushed}

@@ -1,5 +1,5 @@
 -- CREATE TABLE keeps the keys SQL's.
-use Rattle.std.proofs.Common.{◌≡◌, ◌≢◌, ◌≤◌, ◌<◌, ◌+◌, ◌^◌, ◌||◌, ◌⊎◌, inl, inr, ℕ, Bool, true, false, not, cond, if◌then◌else◌, List, [], ◌∷◌, ◌++◌, length, take, drop, get_or, find, map, bytes_eq, Option, Some, None, refl, sym, ap, ap₂, ◌∙◌, subst, length-append, arith}
+use Rattle.std.proofs.Common.{◌≡◌, ◌≢◌, ◌≤◌, ◌<◌, ◌+◌, ◌^◌, ◌||◌, ◌⊎◌, inl, inr, ℕ, Bool, true, false, not, cond, if◌then◌else◌, List, [], ◌∷◌, ◌++◌, length, take, drop, get_or, map, bytes_eq, Option, Some, None, refl, sym, ap, ap₂, ◌∙◌, subst, length-append, arith}
 use Rattle.std.proofs.lemmas.Bool.{true≢false, cases_Bool, cases_lt}
 use Rattle.std.proofs.lemmas.List.{take_all}
 use Rattle.std.proofs.lemmas.Slice.Eq.{bytes_eq-Decides}
@@ -7,7 +7,7 @@ use Rattle.std.specs.Option.{option_map}
 use Rattle.im_octet.specs.Fields.{field4}
 use Rattle.im_octet.proofs.Common.{bytes-other}
 use Rattle.im_model.specs.declared.transactions.Transaction.{Transaction}
-use Rattle.im_versions.specs.Versions.{last_version, last_number, version_number, is_live, is_written, begins_with, versions_of}
+use Rattle.im_versions.specs.Versions.{last_version, version_number, is_live, is_written, begins_with}
 use Rattle.im_versions.specs.declared.versions.Version.{Version}
 use Rattle.im_draft.specs.Drafts.{entry_of}
 use Rattle.im_sqltype.specs.Texts.{row_text}
@@ -70,9 +70,11 @@ module _ (history : List Transaction) (tx : Transaction) (t : Table) (count : �
   other-name u of same = true≢false (sym (value-live history (table_key u.name) (table_text u) of.1) ∙ ap (is_live history) same ∙ absent)
 
   pub table-old : (u : Table) → IsTableOf history u → IsTableOf after u
-  table-old u of =
-      (of.0, live-still history tx (created t) (created-once t) writes (table_key u.name) (table_text u)
-      (other-key t (table_key u.name) (λ same. (let one_zero : 1 ≡ 0 = ap (λ (k : List ℕ). get_or k 1 0) same in omega (arith, one_zero))) (other-name u of)) of.1)
+  table-old u of = (
+    of.0,
+    live-still history tx (created t) (created-once t) writes (table_key u.name) (table_text u)
+        (other-key t (table_key u.name) (λ same. (let one_zero : 1 ≡ 0 = ap (λ (k : List ℕ). get_or k 1 0) same in omega (arith, one_zero))) (other-name u of)) of.1,
+  )
 
   pub table-new : IsTableOf after t
   table-new = (is, live-new history tx (created t) (created-once t) writes (table_key t.name) (table_text t) (own-key t))
@@ -92,8 +94,11 @@ module _ (history : List Transaction) (tx : Transaction) (t : Table) (count : �
         let none : written_at (created t) (table_key u.name) ≡ None =
         other-key t (table_key u.name) (λ same. (let one_zero : 1 ≡ 0 = ap (λ (k : List ℕ). get_or k 1 0) same in omega (arith, one_zero)))
         (λ same. true≢false (sym ((bytes_eq-Decides (table_key u.name) (table_key t.name)).1 same) ∙ other)) in
-        inl (of.0, subst (λ (there : Option (Option (List ℕ))). IsLiveBy history tx (created t) (created-once t) writes (table_key u.name) (table_text u) there) none
-        (live-by history tx (created t) (created-once t) writes (table_key u.name) (table_text u) of.1)))
+        inl (
+          of.0,
+          subst (λ (there : Option (Option (List ℕ))). IsLiveBy history tx (created t) (created-once t) writes (table_key u.name) (table_text u) there) none
+              (live-by history tx (created t) (created-once t) writes (table_key u.name) (table_text u) of.1),
+        ))
   ]
 
   -- ---- keys behind those of tables

@@ -1,15 +1,14 @@
 -- CREATE INDEX keeps the keys SQL's.
-use Rattle.std.proofs.Common.{◌≡◌, ◌≢◌, ◌≤◌, ◌<◌, ◌+◌, ◌-◌, ◌^◌, ◌⊎◌, ◌||◌, inl, inr, ℕ, Bool, true, false, cond, List, [], ◌∷◌, ◌++◌, length, take, drop, get_or, find, map, bytes_eq, Option, Some, None, refl, sym, ap, ◌∙◌, subst, length-append, arith}
-use Rattle.std.proofs.lemmas.Bool.{true≢false, cases_Bool, cases_lt, cases_order}
+use Rattle.std.proofs.Common.{◌≡◌, ◌≢◌, ◌≤◌, ◌<◌, ◌+◌, ◌-◌, ◌^◌, ◌⊎◌, ◌||◌, inl, inr, ℕ, Bool, true, false, cond, List, [], ◌∷◌, ◌++◌, length, take, drop, get_or, map, bytes_eq, Option, Some, None, refl, sym, ap, ◌∙◌, subst, length-append, arith}
+use Rattle.std.proofs.lemmas.Bool.{true≢false, cases_Bool, cases_lt}
 use Rattle.std.proofs.lemmas.List.{take_all}
 use Rattle.std.proofs.lemmas.Slice.Eq.{bytes_eq-Decides}
-use Rattle.std.specs.List.{IsAmong}
 use Rattle.std.specs.Option.{option_map}
 use Rattle.im_octet.specs.Fields.{field4}
 use Rattle.im_octet.proofs.Common.{bytes-other}
 use Rattle.im_octet.proofs.FieldLemmas.{same-field4}
 use Rattle.im_model.specs.declared.transactions.Transaction.{Transaction}
-use Rattle.im_versions.specs.Versions.{last_version, last_number, version_number, is_live, is_written, begins_with, versions_of}
+use Rattle.im_versions.specs.Versions.{last_version, last_number, version_number, is_written, begins_with}
 use Rattle.im_versions.specs.declared.versions.Version.{Version}
 use Rattle.im_draft.specs.Drafts.{entry_of}
 use Rattle.im_sqltype.specs.Texts.{row_text}
@@ -32,7 +31,7 @@ use Rattle.im_sql.proofs.CarriedLemmas.{taken-front, push-grows}
 use Rattle.im_sql.proofs.WorkLemmas.{index-of}
 use Rattle.im_sqlkept.proofs.BehindLemmas.{Once, last_behind, last-pushed, live-still, live-new, live-by, IsLiveBy}
 use Rattle.im_sqlkept.proofs.GuardLemmas.{guarded-same}
-use Rattle.im_sqlkept.proofs.StoodLemmas.{second-of, among-low, row-stood, here, iid-at, none-behind}
+use Rattle.im_sqlkept.proofs.StoodLemmas.{among-low, row-stood, here, iid-at, none-behind}
 
 pub indexed-once : (t : Table) (i : SqlIndex) → Once (index_written t i)
 indexed-once t i = (tt, tt)
@@ -151,8 +150,12 @@ module _ (history : List Transaction) (n : ℕ) (kept : IsSqlKept history) (with
   row-back u row of = (table-back u of.0, of.1, kind-back (key_of u row) (row_text row) 4 refl (λ e. (let no : ⊥ = omega (arith, e) in no)) of.2)
 
   index-still : (u : Table) (j : SqlIndex) → IsSqlIndexOf history u j → IsSqlIndexOf after u j
-  index-still u j of = (table-still u of.0, of.1, live-still history tx ws once writes (index_key u.tid j.iid) (index_text j)
-      (other-key t i (index_key u.tid j.iid) (λ same. absent (index_text j) (subst (λ (k : List ℕ). IsLiveAs history k (index_text j)) same of.2))) of.2)
+  index-still u j of = (
+    table-still u of.0,
+    of.1,
+    live-still history tx ws once writes (index_key u.tid j.iid) (index_text j)
+        (other-key t i (index_key u.tid j.iid) (λ same. absent (index_text j) (subst (λ (k : List ℕ). IsLiveAs history k (index_text j)) same of.2))) of.2,
+  )
 
   index-new : IsSqlIndexOf after t i
   index-new = (table-still t own_table, is, live-new history tx ws once writes own (index_text i) (own-key t i))

@@ -1,28 +1,26 @@
 -- INSERT, UPSERT and DELETE keep the keys SQL's.
-use Rattle.std.proofs.Common.{◌≡◌, ◌≢◌, ◌≤◌, ◌<◌, ◌+◌, ◌-◌, ◌^◌, ◌⊎◌, ◌||◌, inl, inr, ℕ, zero, suc, Bool, true, false, not, cond, if◌then◌else◌, List, [], ◌∷◌, ◌++◌, map, filter, find, bytes_eq, length, take, drop, get_or, is_some, AllPairs, Option, Some, None, MatchOption, refl, sym, ap, ◌∙◌, subst, length-append, arith}
+use Rattle.std.proofs.Common.{◌≡◌, ◌≢◌, ◌≤◌, ◌<◌, ◌+◌, ◌-◌, ◌^◌, ◌⊎◌, ◌||◌, inl, inr, ℕ, Bool, true, false, if◌then◌else◌, List, [], ◌∷◌, ◌++◌, map, bytes_eq, length, take, drop, get_or, Option, Some, None, refl, sym, ap, ◌∙◌, subst, length-append, arith}
 use Rattle.std.proofs.lemmas.Bool.{true≢false, cases_Bool, cases_lt}
 use Rattle.std.proofs.lemmas.List.{take_all}
-use Rattle.std.proofs.lemmas.List.Elements.{All-from_recursion, recursion_from_All}
+use Rattle.std.proofs.lemmas.List.Elements.{All-from_recursion}
 use Rattle.std.proofs.lemmas.Slice.Eq.{bytes_eq-Decides}
-use Rattle.std.specs.List.{All, AllByRecursion, IsAmong}
-use Rattle.std.specs.Option.{option_map}
+use Rattle.std.specs.List.{AllByRecursion, IsAmong}
 use Rattle.im_octet.specs.Fields.{field4}
 use Rattle.im_octet.proofs.Common.{bytes-other, some-is}
 use Rattle.im_model.specs.declared.transactions.Transaction.{Transaction}
-use Rattle.im_versions.specs.Versions.{last_version, last_number, version_number, versions_of, versions_in, is_of, is_live, is_written, begins_with, IsBelow}
+use Rattle.im_versions.specs.Versions.{last_version, last_number, version_number, versions_of, is_written, begins_with}
 use Rattle.im_versions.specs.declared.versions.Version.{Version}
 use Rattle.im_versions.proofs.ListLemmas.{All-among, last-among}
 use Rattle.im_versions.proofs.VersionLemmas.{last-of-key}
 use Rattle.im_draft.specs.Drafts.{entry_of}
-use Rattle.im_sqltype.specs.Kinds.{AreOfKinds}
 use Rattle.im_sqltype.specs.Texts.{row_text}
 use Rattle.im_sqltype.specs.declared.values.Value.{Value}
 use Rattle.im_sqlmodel.specs.Creations.{draft_written}
-use Rattle.im_sqlmodel.specs.Keys.{tables_key, table_prefix, table_key, indexes_prefix, index_prefix, index_key, mark_key, rows_prefix}
+use Rattle.im_sqlmodel.specs.Keys.{tables_key, table_prefix, table_key, indexes_prefix, index_key, mark_key, rows_prefix}
 use Rattle.im_sqlmodel.specs.Kept.{IsTableOf, IsSqlIndexOf, IsRowOf, IsText, IsSqlSound, IsSqlKept}
-use Rattle.im_sqlmodel.specs.Rows.{IsLiveAs, CountIs, IsIndexVersion, IsStoredRow, IndexesAre, RowsAre, columns_of, key_of}
-use Rattle.im_sqlmodel.specs.Tables.{IsTable, IsTableIndex, table_text, index_text, kinds_of}
-use Rattle.im_sqlmodel.specs.Writes.{entry_written, stored_at, put_written, is_guarded, marked}
+use Rattle.im_sqlmodel.specs.Rows.{IsLiveAs, CountIs, IndexesAre, RowsAre, columns_of, key_of}
+use Rattle.im_sqlmodel.specs.Tables.{table_text, index_text}
+use Rattle.im_sqlmodel.specs.Writes.{entry_written, stored_at, is_guarded, marked}
 use Rattle.im_sqlmodel.specs.declared.rows.StoredRow.{StoredRow}
 use Rattle.im_sqlmodel.specs.declared.tables.SqlIndex.{SqlIndex}
 use Rattle.im_sqlmodel.specs.declared.tables.Table.{Table}
@@ -32,15 +30,15 @@ use Rattle.im_catalog.proofs.FoundLemmas.{entry-is}
 use Rattle.im_catalog.proofs.TableLemmas.{tid-cut}
 use Rattle.im_plan.proofs.EntryRowLemmas.{one-index, text-same, entry-live}
 use Rattle.im_plan.proofs.ReachLemmas.{entry-parts}
-use Rattle.im_sql.specs.Working.{holder, IsWrittenRow}
+use Rattle.im_sql.specs.Working.{holder}
 use Rattle.im_sql.specs.Writing.{written_at}
-use Rattle.im_sql.proofs.CarriedLemmas.{taken-front, push-grows, versions-pushed}
+use Rattle.im_sql.proofs.CarriedLemmas.{taken-front, push-grows}
 use Rattle.im_sql.proofs.EntryLemmas.{same-numbers, row-alone}
 use Rattle.im_sql.proofs.NextLemmas.{apart-from, apart-one, key_in, find-some}
 use Rattle.im_sql.proofs.PutLemmas.{either, put-at}
 use Rattle.im_sql.proofs.RowsLemmas.{Over as RowOver}
 use Rattle.im_sql.proofs.WorkLemmas.{index-of}
-use Rattle.im_sqlkept.proofs.BehindLemmas.{Once, version_by, of_key, last_behind, last-pushed, live-still, live-new, live-by, versions-asked, versions-at, IsLiveBy}
+use Rattle.im_sqlkept.proofs.BehindLemmas.{Once, version_by, last_behind, last-pushed, live-still, live-new, live-by, IsLiveBy}
 use Rattle.im_sqlkept.proofs.GuardLemmas.{guarded-same}
 use Rattle.im_sqlkept.proofs.HeldLemmas.{value_in, value-told, HeldOver, KeysApart, EntriesApart, IsRewritten, IsRowOfKinds, rewritten-first}
 use Rattle.im_sqlkept.proofs.StoodLemmas.{find-told, find-alone, find-other, none-some, second-of, stood-number, stood-row, row-stood, here, iid-at, none-behind}
@@ -285,7 +283,12 @@ module _ (history : List Transaction) (n : ℕ) (kept : IsSqlKept history) (with
       let s : StoredRow = over.0 in
       let found = find-some (λ (r : StoredRow). bytes_eq (key_in t is.0 r.row) (key_in t is.0 is.1)) rows s over.1 in
       inr (inr (inr (inr (inr (
-        t, is.0, s.row, index-still t is.0 (in-index is.0 is.2), row-after s found.0 over.2, is.4 ∙ sym ((bytes_eq-Decides (key_in t is.0 s.row) (key_in t is.0 is.1)).0 found.1),
+        t,
+        is.0,
+        s.row,
+        index-still t is.0 (in-index is.0 is.2),
+        row-after s found.0 over.2,
+        is.4 ∙ sym ((bytes_eq-Decides (key_in t is.0 s.row) (key_in t is.0 is.1)).0 found.1),
         ap (λ (x : List ℕ). Some x) (sym same ∙ over.3) ∙ sym (value-told t is.0 s.row),
       )))))
 

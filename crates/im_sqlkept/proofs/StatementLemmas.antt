@@ -1,11 +1,10 @@
 -- What a statement asks for keeps the keys SQL's, where it is placed behind a history that admits it.
-use Rattle.std.proofs.Common.{◌≡◌, ◌≢◌, ◌≤◌, ◌<◌, ◌+◌, ◌^◌, inl, inr, ℕ, Bool, true, false, not, cond, if◌then◌else◌, List, [], ◌∷◌, ◌++◌, length, take, map, filter, nat_eq, nat_lt, nat_le, is_some, Option, Some, None, Result, Ok, Err, MatchOption, refl, sym, ap, ◌∙◌, subst, arith}
-use Rattle.std.proofs.lemmas.Bool.{true≢false, leb-true}
+use Rattle.std.proofs.Common.{◌≡◌, ◌≢◌, ◌≤◌, ◌<◌, ◌+◌, ◌^◌, inl, inr, ℕ, Bool, true, false, not, if◌then◌else◌, List, [], ◌∷◌, ◌++◌, length, take, map, filter, nat_eq, nat_lt, Option, Some, None, Result, Ok, Err, MatchOption, refl, sym, ap, ◌∙◌, subst}
+use Rattle.std.proofs.lemmas.Bool.{leb-true}
 use Rattle.std.proofs.lemmas.List.{length-take-le}
 use Rattle.std.proofs.lemmas.List.Elements.{recursion_from_All}
-use Rattle.std.specs.List.{All, AllByRecursion, IsAmong}
+use Rattle.std.specs.List.{AllByRecursion, IsAmong}
 use Rattle.std.specs.Option.{option_or}
-use Rattle.im_octet.specs.Fields.{field4}
 use Rattle.im_model.specs.History.{IsHistory}
 use Rattle.im_model.specs.declared.transactions.Transaction.{Transaction}
 use Rattle.im_model.proofs.HistoryLemmas.{IsHistory-take}
@@ -34,7 +33,7 @@ use Rattle.im_sqlmodel.specs.Kept.{IsTableOf, IsSqlSound, IsSqlKept}
 use Rattle.im_sqlmodel.specs.Options.{by_option, ok_then}
 use Rattle.im_sqlmodel.specs.Rows.{IsLiveAs, CountIs, TableIs, IndexesAre, RowsAre}
 use Rattle.im_sqlmodel.specs.Selects.{select_fault, selected, number_read, SelectAt, SelectOf, SelectIs}
-use Rattle.im_sqlmodel.specs.Tables.{IsTable, IsTableIndex, table_text, table_names}
+use Rattle.im_sqlmodel.specs.Tables.{IsTableIndex, table_text, table_names}
 use Rattle.im_sqlmodel.specs.Writes.{row_given, insertion_fault, write_rows, marked, is_guarded, guarded, most_entries, placed, inserted, rows_met, rows_dropped, erased, WriteIs, Work}
 use Rattle.im_sqlmodel.specs.declared.answers.SqlError.{SqlError}
 use Rattle.im_sqlmodel.specs.declared.answers.SqlError.TheVariants as error

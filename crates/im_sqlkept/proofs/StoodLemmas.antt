@@ -1,9 +1,9 @@
 -- The rows and the indexes that a statement's table has where it is judged.
-use Rattle.std.proofs.Common.{◌≡◌, ◌≤◌, ◌<◌, ◌+◌, ◌||◌, inl, inr, ℕ, Bool, true, false, cond, List, [], ◌∷◌, ◌++◌, filter, find, bytes_eq, length, get_or, is_some, Option, Some, None, refl, sym, ap, ◌∙◌, subst, arith}
+use Rattle.std.proofs.Common.{◌≡◌, ◌≤◌, ◌<◌, ◌+◌, ◌||◌, inl, inr, ℕ, Bool, true, false, List, [], ◌∷◌, ◌++◌, find, bytes_eq, length, get_or, is_some, Option, Some, None, refl, sym, ap, ◌∙◌, subst, arith}
 use Rattle.std.proofs.lemmas.Bool.{true≢false, cases_Bool}
 use Rattle.std.proofs.lemmas.List.Elements.{All-from_recursion, recursion_from_All}
 use Rattle.std.proofs.lemmas.Slice.Eq.{bytes_eq-Decides}
-use Rattle.std.specs.List.{All, AllByRecursion, IsAmong, last_or}
+use Rattle.std.specs.List.{AllByRecursion, IsAmong, last_or}
 use Rattle.std.specs.Option.{option_map}
 use Rattle.im_octet.specs.Fields.{field4}
 use Rattle.im_octet.proofs.Common.{some-is}

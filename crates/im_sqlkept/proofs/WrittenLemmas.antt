@@ -1,33 +1,27 @@
 -- What INSERT, UPSERT and DELETE write: keys of rows and of entries, each once, over the rows that stood.
-use Rattle.std.proofs.Common.{position, ◌≡◌, ◌≢◌, ◌<◌, ◌+◌, ◌⊎◌, ◌||◌, ◌&&◌, inl, inr, ℕ, zero, suc, Bool, true, false, not, cond, if◌then◌else◌, List, [], ◌∷◌, ◌++◌, map, flat_map, filter, find, bytes_eq, length, get_or, is_some, AllPairs, Option, Some, None, Result, Ok, Err, MatchOption, refl, sym, ap, ◌∙◌, subst, arith}
+use Rattle.std.proofs.Common.{position, ◌≡◌, ◌≢◌, ◌<◌, ◌+◌, ◌⊎◌, ◌||◌, ◌&&◌, inl, inr, ℕ, zero, suc, Bool, true, false, not, cond, if◌then◌else◌, List, [], ◌∷◌, ◌++◌, map, flat_map, filter, find, bytes_eq, length, get_or, is_some, Option, Some, None, Result, Ok, Err, MatchOption, refl, sym, ap, ◌∙◌, subst, arith}
 use Rattle.std.proofs.lemmas.Bool.{true≢false, cases_Bool}
 use Rattle.std.proofs.lemmas.List.Elements.{All-from_recursion, recursion_from_All}
 use Rattle.std.proofs.lemmas.List.{length-map}
 use Rattle.std.proofs.lemmas.Slice.Eq.{bytes_eq-Decides}
-use Rattle.std.specs.List.{All, AllByRecursion, IsAmong, list_any}
-use Rattle.std.specs.Option.{option_map, option_or}
-use Rattle.im_octet.proofs.Common.{bytes-other, some-is}
+use Rattle.std.specs.List.{AllByRecursion, IsAmong, list_any}
+use Rattle.im_octet.proofs.Common.{bytes-other}
 use Rattle.im_model.specs.declared.transactions.Transaction.{Transaction}
 use Rattle.im_versions.proofs.ListLemmas.{All-among, among-first, among-rest}
 use Rattle.im_sqltype.specs.Kinds.{IsOfKind, AreOfKinds, kind_of}
-use Rattle.im_sqltype.specs.Orders.{octets_cmp}
-use Rattle.im_sqltype.specs.Texts.{row_text}
 use Rattle.im_sqltype.specs.declared.columns.ColumnType.{ColumnType}
 use Rattle.im_sqltype.specs.declared.columns.ColumnType.TheVariants as types
-use Rattle.im_sqltype.specs.declared.columns.Misfit.{Misfit}
 use Rattle.im_sqltype.specs.declared.values.Value.{Value}
 use Rattle.im_sqltype.specs.declared.values.Value.TheVariants.{Null, Integer, Boolean, Varchar, Blob}
 use Rattle.im_sqlparse.specs.declared.statements.Literal.{Literal}
 use Rattle.im_sqlparse.specs.declared.statements.Literal.TheVariants as literal
 use Rattle.im_sqlparse.specs.Formed.{IsLiteral, IsLiteralRow}
 use Rattle.im_sqlmodel.specs.Conditions.{literal_value, cell_at}
-use Rattle.im_sqlmodel.specs.Keys.{mark_key}
 use Rattle.im_sqlmodel.specs.Options.{by_option, first_found}
 use Rattle.im_sqlmodel.specs.Tables.{IsTable, IsTableIndex, kinds_of}
-use Rattle.im_sqlmodel.specs.Rows.{columns_of, key_of}
-use Rattle.im_sqlmodel.specs.Writes.{value_given, row_given, misfit_of, misfit_error, cell_fault, cells_fault, is_in_key, stored_at, rows_without, rows_with, row_met, row_fault, unique_fault, row_written, entry_written, all_written, deleted, dropped, put_written, put_all, write_row, write_rows, marked, rows_dropped, Work}
+use Rattle.im_sqlmodel.specs.Rows.{key_of}
+use Rattle.im_sqlmodel.specs.Writes.{value_given, row_given, misfit_of, misfit_error, cell_fault, cells_fault, stored_at, row_met, row_fault, unique_fault, entry_written, all_written, deleted, dropped, put_written, put_all, write_row, write_rows, rows_dropped, Work}
 use Rattle.im_sqlmodel.specs.declared.answers.SqlError.{SqlError}
-use Rattle.im_sqlmodel.specs.declared.answers.SqlError.TheVariants as error
 use Rattle.im_sqlmodel.specs.declared.rows.StoredRow.{StoredRow}
 use Rattle.im_sqlmodel.specs.declared.tables.Column.{Column}
 use Rattle.im_sqlmodel.specs.declared.tables.SqlIndex.{SqlIndex}
@@ -41,7 +35,7 @@ use Rattle.im_sql.proofs.GroupLemmas.{all-both}
 use Rattle.im_sql.proofs.NextLemmas.{Apart, apart-from, pairs-from, all-kept, kept-apart, none-found, find-some, AreNumbered, key_in, any-own, entry-no-row, or-none, map-none, free-from}
 use Rattle.im_sql.proofs.PutLemmas.{either, put-at}
 use Rattle.im_sql.proofs.RowsLemmas.{Over as RowOver}
-use Rattle.im_sql.proofs.ShortLemmas.{Below, IsFaultless, faultless, put-each, put-rises}
+use Rattle.im_sql.proofs.ShortLemmas.{Below, faultless, put-each, put-rises}
 use Rattle.im_sqlkept.proofs.HeldLemmas.{HeldOver, IsHeld, KeysApart, EntriesApart, IsRewritten, IsRowOfKinds, plain-free, rewritten-next}
 
 -- ---- keys, in rising order
@@ -141,7 +135,7 @@ cells-range : (names : List (List ℕ)) (vs : List Value) (cs : List Column) →
 cells-range names vs [] all = tt
 cells-range names vs (c ∷ cs) all = (cell-range vs (position (bytes_eq c.name) names) all, cells-range names vs cs all)
 
-rows-given : (t : Table) (names : List (List ℕ)) (rows : List (List Literal)) → AllByRecursion IsLiteralRow rows → AllByRecursion (IsGiven t) (map (row_given t names) rows)
+pub rows-given : (t : Table) (names : List (List ℕ)) (rows : List (List Literal)) → AllByRecursion IsLiteralRow rows → AllByRecursion (IsGiven t) (map (row_given t names) rows)
 rows-given t names [] all = tt
 rows-given t names (row ∷ rows) all = (
   (length-map t.columns (λ (c : Column). value_given names (map literal_value row) c.name), cells-range names (map literal_value row) t.columns (literals-range row (recursion_from_All IsLiteral row all.0.1))),
@@ -253,8 +247,8 @@ clash-rest h x (y ∷ ys) passes all = (fails y (all.0 passes), clash-rest h x y
   where
     fails : (z : StoredRow) → (h z ≡ true → ⊥) → h z ≡ false
     fails z none = elim (cases_Bool (h z)) [
-      | inl yes ↦ absurd (none yes)
-      | inr no ↦ no
+      | inl passed ↦ absurd (none passed)
+      | inr failed ↦ failed
     ]
 
 find-left : (h q : StoredRow → Bool) (xs : List StoredRow) → Apart (Clash h) xs → find h (filter (λ s. not (q s)) xs) ≡ cond (list_any h (filter q xs)) None (find h xs)
@@ -318,7 +312,7 @@ module _ (t : Table) (indexes : List SqlIndex) (q : StoredRow → Bool) (stood :
 
   no-entry : (other : List Value) (row : List Value) (js : List SqlIndex) → AllByRecursion (λ j. bytes_eq (key_of t other) (key_in t j row) ≡ false) js
   no-entry other row [] = tt
-  no-entry other row (j ∷ js) = (bytes-turn (key_of t other) (key_in t j row) ∙ entry-no-row t j row other, no-entry other row js)
+  no-entry other row (j ∷ js) = (bytes-turn (key_of t other) (key_in t j row) ∙ entry-no-row t j other row, no-entry other row js)
 
   or-none-right : (a b : Bool) → b ≡ false → (a || b) ≡ a
   or-none-right true b e = refl
@@ -337,7 +331,7 @@ module _ (t : Table) (indexes : List SqlIndex) (q : StoredRow → Bool) (stood :
       → list_any (λ (w : Written). bytes_eq (key_in t i row) w.key) (gone_of s) ≡ bytes_eq (key_in t i s.row) (key_in t i row)
   entry-gone i row s numbered m =
       any-dead (key_in t i row) (all_written t indexes s.row)
-      ∙ (λ j. entry-no-row t i row s.row j || any-entries (key_in t i row) s.row indexes j)
+      ∙ (λ j. entry-no-row t i s.row row j || any-entries (key_in t i row) s.row indexes j)
       ∙ any-own t indexes i s.row row numbered m
       ∙ bytes-turn (key_in t i row) (key_in t i s.row)
 

@@ -1,5 +1,4 @@
-use Rattle.std.proofs.Common.{◌≡◌, ◌≤◌, length, map, take, drop, sym, ap, ◌∙◌, arith}
-use Rattle.im_sql.specs.Sounding.{said_by}
+use Rattle.std.proofs.Common.{◌≡◌, ◌≤◌, sym, ◌∙◌, arith}
 use Rattle.im_sql.proofs.HangLemmas.{both-said, said-both}
 use Rattle.im_sql.proofs.TestLemmas.{test-fails, test-not}
 use Rattle.im_sql.proofs.hanging.are_both_said.Goals as goal

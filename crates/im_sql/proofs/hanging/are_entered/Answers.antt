@@ -1,5 +1,4 @@
-use Rattle.std.proofs.Common.{◌++◌, ap, map, flat_map, ◌∙◌}
-use Rattle.im_versions.specs.declared.versions.Version.{Version}
+use Rattle.std.proofs.Common.{◌++◌, ap, map, ◌∙◌}
 use Rattle.im_sqlmodel.specs.Sorts.{sorted}
 use Rattle.im_sql.specs.Sounding.{said_by}
 use Rattle.im_sql.proofs.AmongLemmas.{by_key}

@@ -1,4 +1,4 @@
-use Rattle.std.proofs.Common.{◌≡◌, ◌≤◌, ◌<◌, length, arith}
+use Rattle.std.proofs.Common.{◌≡◌, ◌≤◌, ◌<◌, arith}
 use Rattle.im_sql.proofs.HangLemmas.{said-step, said-fails, said-end, said-long}
 use Rattle.im_sql.proofs.TestLemmas.{test-fails, test-holds, test-not}
 use Rattle.im_sql.proofs.hanging.are_said.Goals as goal

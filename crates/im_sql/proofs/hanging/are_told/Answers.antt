@@ -1,7 +1,5 @@
-use Rattle.std.proofs.Common.{◌≡◌, ◌-◌, ℕ, List, Bool, true, ◌↔◌, length, take, subst, arith}
-use Rattle.im_sql.specs.declared.said.TableFound.{TableFound}
-use Rattle.im_sql.specs.Sounding.{AreUpTo}
-use Rattle.im_sql.proofs.HangLemmas.{IsNumbered, told-step, told-fails, told-end}
+use Rattle.std.proofs.Common.{◌≡◌, ◌-◌, ℕ, true, ◌↔◌, length}
+use Rattle.im_sql.proofs.HangLemmas.{told-step, told-fails, told-end}
 use Rattle.im_sql.proofs.TestLemmas.{test-fails, test-holds, test-not}
 use Rattle.im_sql.proofs.hanging.are_told.Goals as goal
 

@@ -1,7 +1,6 @@
 use Rattle.std.proofs.Common.{◌≡◌, ◌↔◌, Bool, true, ◌∷◌, [], All, subst, sym}
 use Rattle.im_catalog.proofs.FoundLemmas.{if-ok}
-use Rattle.im_sql.specs.Sounding.{kind_shown, Hang, IsMarkShown, IsSoundAlone, AreEntered}
-use Rattle.im_versions.specs.declared.versions.Version.{Version}
+use Rattle.im_sql.specs.Sounding.{Hang, IsMarkShown, AreEntered}
 use Rattle.im_sql.proofs.TestLemmas.{test-fails, test-not}
 use Rattle.im_sql.proofs.hanging.do_hang.Goals as goal
 

@@ -1,6 +1,6 @@
-use Rattle.std.proofs.Common.{◌≡◌, ◌≤◌, ◌<◌, ◌+◌, ◌↔◌, true, ℕ, List, length, sum_by, nat_eq, ap, ◌∙◌, arith}
+use Rattle.std.proofs.Common.{◌≡◌, ◌≤◌, ◌<◌, ◌+◌, ◌↔◌, ℕ, List, length, ap, ◌∙◌, arith}
 use Rattle.std.proofs.lemmas.Bool.{eq-eqb, eqb-true}
-use Rattle.im_sql.specs.Sounding.{under, IsAll}
+use Rattle.im_sql.specs.Sounding.{under}
 use Rattle.im_sql.proofs.TestLemmas.{test-fails}
 use Rattle.im_sql.proofs.hanging.is_all.Goals as goal
 

@@ -1,5 +1,4 @@
 use Rattle.std.proofs.Common.{◌≢◌}
-use Rattle.im_sql.specs.declared.said.TableFound.{TableFound}
 use Rattle.im_sql.proofs.HangLemmas.{Apart_from}
 use Rattle.im_sql.proofs.TestLemmas.{test-fails, test-holds, test-not, all-step, all-fails, all-end}
 use Rattle.im_sql.proofs.hanging.is_free.Goals as goal

@@ -1,4 +1,4 @@
-use Rattle.std.proofs.Common.{◌∷◌, [], ◌++◌, List, ap, ◌∙◌}
+use Rattle.std.proofs.Common.{◌∷◌, [], ◌++◌, ap, ◌∙◌}
 use Rattle.im_sqlmodel.specs.Writes.{entry_written}
 use Rattle.im_sqlmodel.specs.declared.written.Written.{Written}
 use Rattle.im_sql.proofs.HangLemmas.{map-step}

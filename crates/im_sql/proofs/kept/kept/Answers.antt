@@ -1,5 +1,4 @@
-use Rattle.std.proofs.Common.{◌≡◌, ◌≤◌, ◌<◌, ◌+◌, ◌-◌, ℕ, List, [], ◌∷◌, length, take, get_or, true≢false, refl, sym, ap, subst, ◌∙◌, arith}
-use Rattle.im_model.specs.declared.transactions.Transaction.{Transaction}
+use Rattle.std.proofs.Common.{◌≡◌, ◌≤◌, ◌<◌, ◌+◌, ◌-◌, ℕ, List, [], ◌∷◌, length, take, get_or, true≢false, sym, ap, subst, ◌∙◌, arith}
 use Rattle.im_versions.specs.Versions.{IsScan}
 use Rattle.im_versions.specs.declared.versions.Version.{Version}
 use Rattle.im_sqlmodel.specs.Kept.{IsFirstUnsound}
@@ -47,11 +46,15 @@ is_sound-requires g c =
     let group = group-of all at end v c.loop-at-test.true (ap (λ (d : Version). get_or all at d) c.index-all-at.is) c.end_of-end.ensures.after c.end_of-end.ensures.within c.end_of-end.ensures.same c.end_of-end.ensures.next in
     let less : tx - 1 < length history = within-m history n r.2 all by at end k tx before inv.1.1 group in
     let e : tx ≡ (tx - 1) + 1 = one history n r.2 all by at end k tx before inv.1.1 group in
-    let few : tx ≤ length history = omega (arith, e, less) in
-    (history, tx - 1, less, sound-m history n r.2 all by at end k tx before inv.1.1 group,
-     subst (IsScan (take (tx - 1) history) (0 ∷ [])) (sym c.as_slice.ensures) (scan-m history n r.2 all by at end k tx before inv.1.1 group),
-     subst (IsScan (take ((tx - 1) + 1) history) (0 ∷ [])) (sym c.as_slice-in-loop-at.ensures) (scan-next history n r.2 all by at end k tx before inv.1.1 group c.in_ok-shown.shown (c.in_ok-shown.ensures history r.1 few)),
-     changes-m history n r.2 all by at end k tx before inv.1.1 group)
+    let few : tx ≤ length history = omega (arith, e, less) in (
+      history,
+      tx - 1,
+      less,
+      sound-m history n r.2 all by at end k tx before inv.1.1 group,
+      subst (IsScan (take (tx - 1) history) (0 ∷ [])) (sym c.as_slice.ensures) (scan-m history n r.2 all by at end k tx before inv.1.1 group),
+      subst (IsScan (take ((tx - 1) + 1) history) (0 ∷ [])) (sym c.as_slice-in-loop-at.ensures) (scan-next history n r.2 all by at end k tx before inv.1.1 group c.in_ok-shown.shown (c.in_ok-shown.ensures history r.1 few)),
+      changes-m history n r.2 all by at end k tx before inv.1.1 group,
+    )
 
 pub loop-at-preserved : goal.loop-at-preserved
 loop-at-preserved g c = λ history stands few.

@@ -1,5 +1,4 @@
-use Rattle.std.proofs.Common.{◌<◌, ◌≡◌, ◌++◌, length, refl, subst, sym, ◌∙◌}
-use Rattle.im_octet.specs.Fields.{field4}
+use Rattle.std.proofs.Common.{◌<◌, ◌≡◌, ◌++◌, length, refl, subst, ◌∙◌}
 use Rattle.im_sql.proofs.said.first_number.Goals as goal
 
 pub returns-in-Err : goal.returns-in-Err

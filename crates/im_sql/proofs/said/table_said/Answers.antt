@@ -1,7 +1,7 @@
-use Rattle.std.proofs.Common.{◌≡◌, ◌≤◌, ◌∷◌, [], ℕ, List, Err, length, drop, sym, ap, ◌∙◌, arith}
+use Rattle.std.proofs.Common.{◌≡◌, ◌≤◌, ◌∷◌, [], ℕ, Err, drop, sym, ap, ◌∙◌}
 use Rattle.im_catalog.proofs.FoundLemmas.{begins-is}
 use Rattle.im_sqlmodel.specs.Keys.{table_prefix, table_key}
-use Rattle.im_sql.proofs.SayLemmas.{begins-long, behind-all}
+use Rattle.im_sql.proofs.SayLemmas.{behind-all}
 use Rattle.im_sql.proofs.said.table_said.Goals as goal
 
 pub returns-in-Ok : goal.returns-in-Ok

@@ -1,4 +1,4 @@
-use Rattle.std.proofs.Common.{◌≡◌, ◌+◌, ◌∷◌, [], true, Vec, Global, Bool, Option, None, Some, MatchOption, inl, inr, refl, take, sym, subst, ◌↔◌, ◌∙◌}
+use Rattle.std.proofs.Common.{◌≡◌, ◌+◌, ◌∷◌, [], true, Vec, Global, Bool, Option, MatchOption, inl, inr, refl, take, sym, subst, ◌↔◌, ◌∙◌}
 use Rattle.std.proofs.lemmas.Bool.{true≢false}
 use Rattle.im_sqlmodel.specs.Kept.{IsSqlSound}
 use Rattle.im_catalog.proofs.FoundLemmas.{if-ok}
