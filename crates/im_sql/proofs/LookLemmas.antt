@@ -102,7 +102,7 @@ IsHeldBy history t i found (Some s) =
     (e : Entry) × (found ≡ Some e) × (e.primary ≡ row_text (columns_of s.row t.key)) × (e.tx ≡ entry_number history t i s)
 
 -- a row that stood has a number from 1
-number-some : (history : List Transaction) (v : Version) → last_version history v.key ≡ Some v → 1 ≤ v.tx
+pub number-some : (history : List Transaction) (v : Version) → last_version history v.key ≡ Some v → 1 ≤ v.tx
 number-some history v last =
     (All-among (λ (w : Version). (1 ≤ w.tx) × (w.tx ≤ length history)) (all_versions history) v (versions-within history) (last-among-all history v.key v last)).0
 

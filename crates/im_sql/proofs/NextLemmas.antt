@@ -81,7 +81,7 @@ kept-apart R p (x ∷ xs) h = elim (p x) as (λ (b : Bool). Apart R (cond b (x �
 ]
 
 -- two items that aren't apart are one
-apart-one : {A : Type 0} (R : A → A → Type 0) → ((a b : A) → R a b → R b a) → (xs : List A) (a b : A) → Apart R xs → IsAmong xs a → IsAmong xs b → (R a b → ⊥) → a ≡ b
+pub apart-one : {A : Type 0} (R : A → A → Type 0) → ((a b : A) → R a b → R b a) → (xs : List A) (a b : A) → Apart R xs → IsAmong xs a → IsAmong xs b → (R a b → ⊥) → a ≡ b
 apart-one R turn [] a b h m n together = absurd (let no : ⊥ = (let few : m.0 < 0 = m.1.0 in omega (arith, few)) in no)
 apart-one {A} R turn (x ∷ xs) a b h m n together = elim (among-cons x xs a m) [
   | inl first ↦ elim (among-cons x xs b n) [
@@ -187,7 +187,7 @@ same-index t indexes i j a b numbered m n e =
     numbered.single i j m n cut.1
 
 -- of all entries of a row just that of this index has such a key, if it has it
-any-own : (t : Table) (indexes : List SqlIndex) (i : SqlIndex) (row other : List Value) → AreNumbered t indexes → IsAmong indexes i
+pub any-own : (t : Table) (indexes : List SqlIndex) (i : SqlIndex) (row other : List Value) → AreNumbered t indexes → IsAmong indexes i
     → list_any (λ j. bytes_eq (key_in t i other) (key_in t j row)) indexes ≡ bytes_eq (key_in t i other) (key_in t i row)
 any-own t indexes i row other numbered m = elim (cases_Bool (bytes_eq (key_in t i other) (key_in t i row))) [
   | inl own ↦ any-true (λ (j : SqlIndex). bytes_eq (key_in t i other) (key_in t j row)) indexes i m own ∙ sym own
@@ -215,11 +215,11 @@ values-own t indexes i F row other numbered m keyed =
     sym (ap (λ (k : SqlIndex). (F k).value) one))
 
 -- an entry's key is no row's
-entry-no-row : (t : Table) (i : SqlIndex) (row other : List Value) → bytes_eq (key_in t i other) (key_of t row) ≡ false
+pub entry-no-row : (t : Table) (i : SqlIndex) (row other : List Value) → bytes_eq (key_in t i other) (key_of t row) ≡ false
 entry-no-row t i row other = bytes-other (key_in t i other) (key_of t row) (λ e. entry-is 4 (key_of t row) t other i (omega arith) refl (sym e))
 
 -- what is written at an entry's key behind the old row's entries, as deleted
-at-dropped : (t : Table) (indexes : List SqlIndex) (i : SqlIndex) (old : StoredRow) (other : List Value) (written : List Written) → AreNumbered t indexes → IsAmong indexes i
+pub at-dropped : (t : Table) (indexes : List SqlIndex) (i : SqlIndex) (old : StoredRow) (other : List Value) (written : List Written) → AreNumbered t indexes → IsAmong indexes i
     → written_at (put_all (dropped t indexes (Some old)) written) (key_in t i other) ≡ either (bytes_eq (key_in t i other) (key_in t i old.row)) None (written_at written (key_in t i other))
 at-dropped t indexes i old other written numbered m =
     put-map (λ (j : SqlIndex). deleted (entry_written t old.row j)) (key_in t i other) None indexes written
@@ -227,7 +227,7 @@ at-dropped t indexes i old other written numbered m =
     ∙ ap (λ (b : Bool). either b None (written_at written (key_in t i other))) (any-own t indexes i old.row other numbered m)
 
 -- and behind the row and its entries
-at-written : (t : Table) (indexes : List SqlIndex) (i : SqlIndex) (row other : List Value) (before : List Written) → AreNumbered t indexes → IsAmong indexes i
+pub at-written : (t : Table) (indexes : List SqlIndex) (i : SqlIndex) (row other : List Value) (before : List Written) → AreNumbered t indexes → IsAmong indexes i
     → written_at (put_all (all_written t indexes row) before) (key_in t i other)
     ≡ either (bytes_eq (key_in t i other) (key_in t i row)) (entry_written t row i).value (written_at before (key_in t i other))
 at-written t indexes i row other before numbered m =
@@ -256,7 +256,7 @@ module _ (t : Table) (indexes : List SqlIndex) (row : List Value) (rows : List S
   abbrev EntryApart : SqlIndex → StoredRow → StoredRow → Type 0
   EntryApart i a b = key_in t i a.row ≢ key_in t i b.row
 
-  keys-apart : AllPairs KeyApart rows → AllPairs KeyApart (rows_with t new_row rows)
+  pub keys-apart : AllPairs KeyApart rows → AllPairs KeyApart (rows_with t new_row rows)
   keys-apart h =
       pairs-from KeyApart (rows_with t new_row rows)
       (put-apart by_key KeyApart (λ a b apart same. apart (sym same)) new_row left (each left (none-left t (key_of t row) rows))
@@ -290,7 +290,7 @@ module _ (t : Table) (indexes : List SqlIndex) (row : List Value) (rows : List S
             | false ↦ λ e. each ss all.1
           ] refl
 
-  entries-apart : (i : SqlIndex) → IsFree i → AllPairs (EntryApart i) rows → AllPairs (EntryApart i) (rows_with t new_row rows)
+  pub entries-apart : (i : SqlIndex) → IsFree i → AllPairs (EntryApart i) rows → AllPairs (EntryApart i) (rows_with t new_row rows)
   entries-apart i free h =
       pairs-from (EntryApart i) (rows_with t new_row rows)
       (put-apart by_key (EntryApart i) (λ a b apart same. apart (sym same)) new_row left (free-left i free)
@@ -300,7 +300,7 @@ module _ (t : Table) (indexes : List SqlIndex) (row : List Value) (rows : List S
   abbrev has_key : SqlIndex → List ℕ → StoredRow → Bool
   has_key i key s = bytes_eq (key_in t i s.row) key
 
-  holder-own : (i : SqlIndex) (key : List ℕ) → IsFree i → key ≡ key_in t i row → holder t i key (rows_with t new_row rows) ≡ Some new_row
+  pub holder-own : (i : SqlIndex) (key : List ℕ) → IsFree i → key ≡ key_in t i row → holder t i key (rows_with t new_row rows) ≡ Some new_row
   holder-own i key free own =
       find-put by_key (has_key i key) new_row left ((bytes_eq-Decides (key_in t i row) key).1 (sym own)) (each left (free-left i free))
     where
@@ -308,12 +308,12 @@ module _ (t : Table) (indexes : List SqlIndex) (row : List Value) (rows : List S
       each [] all = tt
       each (s ∷ ss) all = (bytes-other (key_in t i s.row) key (λ same. all.0 (sym own ∙ sym same)), each ss all.1)
 
-  holder-past : (i : SqlIndex) (key : List ℕ) → bytes_eq key (key_in t i row) ≡ false → holder t i key (rows_with t new_row rows) ≡ find (has_key i key) left
+  pub holder-past : (i : SqlIndex) (key : List ℕ) → bytes_eq key (key_in t i row) ≡ false → holder t i key (rows_with t new_row rows) ≡ find (has_key i key) left
   holder-past i key other =
       find-past by_key (has_key i key) new_row left (bytes-other (key_in t i row) key (λ same. true≢false (sym ((bytes_eq-Decides key (key_in t i row)).1 (sym same)) ∙ other)))
 
   -- where no row had its primary key none is left out
-  left-all : (i : SqlIndex) (key : List ℕ) → stored_at t rows (key_of t row) ≡ None → find (has_key i key) left ≡ holder t i key rows
+  pub left-all : (i : SqlIndex) (key : List ℕ) → stored_at t rows (key_of t row) ≡ None → find (has_key i key) left ≡ holder t i key rows
   left-all i key none =
       find-kept (λ s. not (bytes_eq (key_of t s.row) (key_of t row))) (has_key i key) rows (each rows (find-none (λ s. bytes_eq (key_of t s.row) (key_of t row)) rows none))
     where
@@ -329,7 +329,7 @@ module _ (t : Table) (indexes : List SqlIndex) (row : List Value) (rows : List S
       apart-one KeyApart (λ a b h e. h (sym e)) rows s old (apart-from KeyApart rows apart) m is.0
       (λ h. h ((bytes_eq-Decides (key_of t s.row) (key_of t row)).0 same ∙ sym ((bytes_eq-Decides (key_of t old.row) (key_of t row)).0 is.1)))
 
-  left-old : (i : SqlIndex) (key : List ℕ) (old : StoredRow) → AllPairs KeyApart rows → stored_at t rows (key_of t row) ≡ Some old → bytes_eq key (key_in t i old.row) ≡ false
+  pub left-old : (i : SqlIndex) (key : List ℕ) (old : StoredRow) → AllPairs KeyApart rows → stored_at t rows (key_of t row) ≡ Some old → bytes_eq key (key_in t i old.row) ≡ false
       → find (has_key i key) left ≡ holder t i key rows
   left-old i key old apart found other =
       find-kept (λ s. not (bytes_eq (key_of t s.row) (key_of t row))) (has_key i key) rows
@@ -344,7 +344,7 @@ module _ (t : Table) (indexes : List SqlIndex) (row : List Value) (rows : List S
         | inr differs ↦ ap not differs
       ]
 
-  gone-old : (i : SqlIndex) (key : List ℕ) (old : StoredRow) → AllPairs (EntryApart i) rows → stored_at t rows (key_of t row) ≡ Some old → bytes_eq key (key_in t i old.row) ≡ true
+  pub gone-old : (i : SqlIndex) (key : List ℕ) (old : StoredRow) → AllPairs (EntryApart i) rows → stored_at t rows (key_of t row) ≡ Some old → bytes_eq key (key_in t i old.row) ≡ true
       → find (has_key i key) left ≡ None
   gone-old i key old alone found own =
       none-found (has_key i key) left (each rows (λ s m. m))

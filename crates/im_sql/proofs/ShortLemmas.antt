@@ -80,7 +80,7 @@ Below a b = IsBelow a.key b.key
 abbrev pub AreShort : List Written → Type 0
 AreShort ws = AllByRecursion IsShort ws × Apart Below ws
 
-put-each : (P : Written → Type 0) (w : Written) (ws : List Written) → P w → AllByRecursion P ws → AllByRecursion P (put_written w ws)
+pub put-each : (P : Written → Type 0) (w : Written) (ws : List Written) → P w → AllByRecursion P ws → AllByRecursion P (put_written w ws)
 put-each P w [] p all = (p, tt)
 put-each P w (x ∷ xs) p all = elim (octets_cmp w.key x.key) as (λ (o : Ordering). AllByRecursion P (by_ordering o (w ∷ x ∷ xs) (w ∷ xs) (x ∷ put_written w xs))) [
   | Less ↦ (p, all)
@@ -95,7 +95,7 @@ below-all a b (w ∷ ws) less all = (below-trans a.key b.key w.key less all.0, b
 same-all : (a b : List ℕ) (ws : List Written) → b ≡ a → AllByRecursion (λ (w : Written). IsBelow b w.key) ws → AllByRecursion (λ (w : Written). IsBelow a w.key) ws
 same-all a b ws same all = subst (λ (k : List ℕ). AllByRecursion (λ (w : Written). IsBelow k w.key) ws) same all
 
-put-rises : (w : Written) (ws : List Written) → Apart Below ws → Apart Below (put_written w ws)
+pub put-rises : (w : Written) (ws : List Written) → Apart Below ws → Apart Below (put_written w ws)
 put-rises w [] h = (tt, tt)
 put-rises w (x ∷ xs) h = elim (octets_cmp w.key x.key) as (λ (o : Ordering). octets_cmp w.key x.key ≡ o → Apart Below (by_ordering o (w ∷ x ∷ xs) (w ∷ xs) (x ∷ put_written w xs))) [
   | Less ↦ λ e. ((e, below-all w x xs e h.0), h)

@@ -2,3 +2,4 @@ pub mod Writing
 pub mod Working
 pub mod Entries
 pub mod Ranges
+pub mod Sounding

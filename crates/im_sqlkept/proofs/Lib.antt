@@ -1,1 +1,9 @@
-pub mod CarriedLemmas
+pub mod BehindLemmas
+pub mod GuardLemmas
+pub mod CreatedLemmas
+pub mod HeldLemmas
+pub mod WrittenLemmas
+pub mod StoodLemmas
+pub mod IndexedLemmas
+pub mod RowsKeptLemmas
+pub mod StatementLemmas

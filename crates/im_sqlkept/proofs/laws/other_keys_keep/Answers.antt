@@ -1,5 +1,5 @@
 use Rattle.im_sqlmodel.proofs.KeptLemmas.{kept-sound}
-use Rattle.im_sqlkept.proofs.CarriedLemmas.{free-sound, kept-push}
+use Rattle.im_sql.proofs.CarriedLemmas.{free-sound, kept-push}
 use Rattle.im_sqlkept.proofs.laws.other_keys_keep.Goals as goal
 
 pub returns : goal.returns

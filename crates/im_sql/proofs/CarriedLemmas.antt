@@ -116,7 +116,7 @@ no-version k tx rest free =
       | inr differs ↦ differs
     ]
 
-versions-pushed : (history : List Transaction) (tx : Transaction) (key : List ℕ)
+pub versions-pushed : (history : List Transaction) (tx : Transaction) (key : List ℕ)
     → versions_of (history ++ tx ∷ []) key ≡ versions_of history key ++ filter (is_of key) (versions_in (length history + 1) tx.entries)
 versions-pushed history tx key =
     ap (filter (is_of key)) (versions-push history tx) ∙ filter-append (is_of key) (all_versions history) (versions_in (length history + 1) tx.entries)
@@ -145,7 +145,7 @@ taken-front (suc n) [] ys h = absurd (let no : ⊥ = omega (arith, h) in no)
 taken-front (suc n) (x ∷ xs) ys h = ap (λ rest. x ∷ rest) (taken-front n xs ys (omega (arith, h)))
 
 -- a key of a table or an index begins with 00
-begins-zero : (key : List ℕ) → (begins_with table_prefix key || begins_with indexes_prefix key) ≡ true → (rest : List ℕ) × (key ≡ 0 ∷ rest)
+pub begins-zero : (key : List ℕ) → (begins_with table_prefix key || begins_with indexes_prefix key) ≡ true → (rest : List ℕ) × (key ≡ 0 ∷ rest)
 begins-zero key h = elim (cases_Bool (begins_with table_prefix key)) [
   | inl table ↦ (1 ∷ drop 2 key, (starts_is Decides-eqb key table_prefix (begins_with table_prefix key) refl).0 table)
   | inr other ↦ (
