@@ -9,7 +9,6 @@ use Rattle.im_octet.proofs.FieldLemmas.{length-field4, same-field4}
 use Rattle.im_versions.specs.Versions.{begins_with}
 use Rattle.im_versions.specs.declared.versions.Version.{Version}
 use Rattle.im_sqlmodel.specs.Keys.{index_prefix, index_key}
-use Rattle.im_catalog.proofs.CutLemmas.{same-fronts}
 use Rattle.im_catalog.proofs.FoundLemmas.{begins-is}
 
 -- ---- a number in four octets
@@ -26,9 +25,6 @@ field-long text left n m e is =
 
 pub field-short : (text : List ℕ) (m : ℕ) → length text < 4 → text ≡ field4 m → ⊥
 field-short text m short is = (let own : length text ≡ length (field4 m) = ap length is in omega (arith, short, own, length-field4 m))
-
-pub field-same : (text left : List ℕ) (n m : ℕ) → n < 2 ^ 32 → m < 2 ^ 32 → text ≡ field4 n ++ left → text ≡ field4 m → n ≡ m
-field-same text left n m p q e is = same-field4 n m p q (same-fronts (field4 n) (field4 m) left [] (length-field4 n ∙ sym (length-field4 m)) (sym e ∙ is ∙ sym (append-nil (field4 m)))).0
 
 -- all that stands behind a place
 pub behind-all : {A : Type 0} (n : ℕ) (xs : List A) → take (length xs - n) (drop n xs) ≡ drop n xs

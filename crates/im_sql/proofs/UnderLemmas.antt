@@ -77,10 +77,6 @@ module _ (front : List ℕ) where
           begins-from front found.0 a found.1)
     ]
 
-  -- those behind a place
-  abbrev behind : List Version → ℕ → List Version
-  behind shown from = drop from shown
-
   pub rising-behind : (shown : List Version) (from : ℕ) → AllPairs (λ a b. IsBelow a.key b.key) shown → AllPairs (λ a b. IsBelow a.key b.key) (drop from shown)
   rising-behind shown from rising = λ i j d less l.
       let long : length (drop from shown) ≡ length shown - from = length-drop from shown in

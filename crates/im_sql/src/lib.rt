@@ -3,14 +3,18 @@
 
 mod creating;
 mod deleting;
+mod entered;
 mod hanging;
 mod inserting;
 mod judged;
 pub mod kept;
+mod marked;
 mod names;
+mod numbered;
 mod placing;
 pub mod run;
 mod said;
+mod settled;
 mod sounding;
 mod working;
 mod writes;

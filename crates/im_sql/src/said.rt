@@ -1,6 +1,6 @@
 //! What the live keys that begin with octet 00 say: tables, their indexes and their rows.
 
-ghost use Rattle.std.specs.Prelude.{◌≡◌, ◌≢◌, ◌≤◌, ◌<◌, ◌^◌, ℕ, List, length, take, ◌++◌, All, IfOk, IsTrue, IfNone, IfSome, MatchOption};
+ghost use Rattle.std.specs.Prelude.{◌≡◌, ◌≢◌, ◌↔◌, ◌≤◌, ◌<◌, ◌^◌, ℕ, List, length, take, ◌++◌, All, IfOk, IsTrue, IfNone, IfSome, MatchOption};
 ghost use Rattle.std.specs.List.{AllZip};
 ghost use Rattle.std.specs.Ordering.{is_lt};
 ghost use Rattle.im_octet.specs.Fields.{field4};
@@ -42,6 +42,13 @@ pub(crate) fn is_before(version: &Version, key: &[u8]) -> bool
     ensures { result ≡ is_lt (octets_cmp version.now.key key.now) }
 {
     version.key.as_slice() < key
+}
+
+/// Whether octets are the same.
+pub(crate) fn are_same(a: &[u8], b: &[u8]) -> bool
+    ensures { IsTrue result ↔ (a.now ≡ b.now) }
+{
+    a == b
 }
 
 /// The versions, which have rising keys, whose keys begin with a front. They stand beside each other: it halves what is

@@ -6,8 +6,9 @@ ghost use Rattle.im_versions.specs.Versions.{IsScan};
 ghost use Rattle.im_sqlmodel.specs.Kept.{IsSqlSound};
 ghost use Rattle.im_sql.specs.Sounding as spec;
 
-use crate::hanging::{do_hang, is_settled};
+use crate::hanging::do_hang;
 use crate::said::tables_found;
+use crate::settled::is_settled;
 use im_versions::versions::Version;
 use std::alloc::{AllocError, Global};
 

@@ -212,10 +212,6 @@ any-flat p f h [] each = refl
 any-flat p f h (x ∷ xs) each =
     any-both p (f x) (flat_map f xs) ∙ ap (λ (b : Bool). b || list_any p (flat_map f xs)) (each x) ∙ ap (λ (b : Bool). h x || b) (any-flat p f h xs each)
 
-any-same : {A : Type 0} (p q : A → Bool) (xs : List A) → ((x : A) → p x ≡ q x) → list_any p xs ≡ list_any q xs
-any-same p q [] same = refl
-any-same p q (x ∷ xs) same = (λ i. same x i || any-same p q xs same i)
-
 any-weaker : {A : Type 0} (p q : A → Bool) (xs : List A) → AllByRecursion (λ x. p x ≡ true → q x ≡ true) xs → list_any p xs ≡ true → list_any q xs ≡ true
 any-weaker p q [] all e = e
 any-weaker p q (x ∷ xs) all e = elim (cases_Bool (p x)) [
