@@ -52,7 +52,8 @@ module _ (cs : List Condition) (t : Table) where
   abbrev pub Best : List SqlIndex → ℕ → ℕ → ℕ → Option ℕ → Type 0
   Best indexes least at most best =
       All (λ i. bound_of i ≤ most) (take at indexes)
-      × MatchOption best (most ≡ least) (λ b. (b < at) × (least < most) × (most ≡ bound_of (index_at indexes b)))
+      × MatchOption best (most ≡ least)
+      (λ b. (b < at) × (least < most) × (most ≡ bound_of (index_at indexes b)) × All (λ i. bound_of i < most) (take b indexes))
 
   least-below : (indexes : List SqlIndex) (least at most : ℕ) (best : Option ℕ) → Best indexes least at most best → least ≤ most
   least-below indexes least at most None h = (let same : most ≡ least = h.1 in omega (arith, same))
@@ -67,7 +68,12 @@ module _ (cs : List Condition) (t : Table) where
         All-more (λ (i : SqlIndex). bound_of i ≤ count) indexes at index l
             (All-weaker (λ (i : SqlIndex). bound_of i ≤ most) (λ i. bound_of i ≤ count) (λ i few. (let small : bound_of i ≤ most = few in omega (arith, small, more))) (take at indexes) h.0)
             (let same : count ≡ bound_of (get_or indexes at index) = counted ∙ ap bound_of is in omega (arith, same)),
-        ((let next : at < at + 1 = omega arith in next), (let below : least < count = omega (arith, low, more) in below), count_at),
+        (
+          (let next : at < at + 1 = omega arith in next),
+          (let below : least < count = omega (arith, low, more) in below),
+          count_at,
+          All-weaker (λ (i : SqlIndex). bound_of i ≤ most) (λ i. bound_of i < count) (λ i few. (let small : bound_of i ≤ most = few in omega (arith, small, more))) (take at indexes) h.0,
+        ),
       )
 
   pub best-same : (indexes : List SqlIndex) (least at most count : ℕ) (best : Option ℕ) (index : SqlIndex) → at < length indexes → index ≡ get_or indexes at index → count ≡ bound_of index
@@ -78,10 +84,11 @@ module _ (cs : List Condition) (t : Table) where
     behind best h.1,
   )
     where
-      behind : (o : Option ℕ) → MatchOption o (most ≡ least) (λ b. (b < at) × (least < most) × (most ≡ bound_of (index_at indexes b)))
-          → MatchOption o (most ≡ least) (λ b. (b < at + 1) × (least < most) × (most ≡ bound_of (index_at indexes b)))
+      behind : (o : Option ℕ)
+          → MatchOption o (most ≡ least) (λ b. (b < at) × (least < most) × (most ≡ bound_of (index_at indexes b)) × All (λ i. bound_of i < most) (take b indexes))
+          → MatchOption o (most ≡ least) (λ b. (b < at + 1) × (least < most) × (most ≡ bound_of (index_at indexes b)) × All (λ i. bound_of i < most) (take b indexes))
       behind None h = h
-      behind (Some b) h = ((let next : b < at + 1 = (let before : b < at = h.0 in omega (arith, before)) in next), h.1, h.2)
+      behind (Some b) h = ((let next : b < at + 1 = (let before : b < at = h.0 in omega (arith, before)) in next), h.1, h.2, h.3)
 
   pub best-most : (indexes : List SqlIndex) (least at most : ℕ) (best : ℕ) → length indexes ≤ at → Best indexes least at most (Some best)
       → All (λ i. bound_of i ≤ bound_of (index_at indexes best)) indexes
@@ -98,6 +105,11 @@ module _ (cs : List Condition) (t : Table) where
       → IfSome best (λ b. All (λ i. bound_of i ≤ bound_of (index_at indexes b)) indexes)
   best-if-some indexes least at most None past h = tt
   best-if-some indexes least at most (Some b) past h = best-most indexes least at most b past h
+
+  pub first-if-some : (indexes : List SqlIndex) (least at most : ℕ) (best : Option ℕ) → Best indexes least at most best
+      → IfSome best (λ b. All (λ i. bound_of i < bound_of (index_at indexes b)) (take b indexes))
+  first-if-some indexes least at most None h = tt
+  first-if-some indexes least at most (Some b) h = subst (λ (n : ℕ). All (λ i. bound_of i < n) (take b indexes)) h.1.2 h.1.3
 
   pub best-if-none : (indexes : List SqlIndex) (least at most : ℕ) (best : Option ℕ) → length indexes ≤ at → Best indexes least at most best → IfNone best (All (λ i. bound_of i ≤ least) indexes)
   best-if-none indexes least at most None past h = best-none indexes least at most past h

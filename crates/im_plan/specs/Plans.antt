@@ -1,5 +1,5 @@
 -- The way to the rows that a condition means, and the rows that it reaches.
-use Rattle.std.specs.Prelude.{◌≡◌, ◌≤◌, ◌<◌, ⊤, ℕ, Bool, false, List, [], ◌++◌, length, map, bytes_eq, slice_index_or, Some, All}
+use Rattle.std.specs.Prelude.{◌≡◌, ◌≢◌, ◌≤◌, ◌<◌, ⊤, ℕ, Bool, false, List, [], ◌++◌, length, take, map, bytes_eq, slice_index_or, Some, All}
 use Rattle.im_versions.specs.Versions.{begins_with}
 use Rattle.im_versions.specs.declared.versions.Version.{Version}
 use Rattle.im_sqltype.specs.Kinds.{AreOfKinds, kind_of}
@@ -41,6 +41,15 @@ abbrev pub IsBest : Table → List SqlIndex → List Condition → Way → Type 
 IsBest t indexes cs (way.Row key) = ⊤
 IsBest t indexes cs (way.Rows front) = IsMost t indexes cs (length (leading cs t t.key))
 IsBest t indexes cs (way.Entries at front) = IsMost t indexes cs (length (leading cs t (index_at indexes at).columns))
+
+-- One row is asked for where the whole primary key is bound. Of ways with as many leading columns bound the primary key comes first, and then
+-- the index of the lowest number.
+abbrev pub IsFirst : Table → List SqlIndex → List Condition → Way → Type 0
+IsFirst t indexes cs (way.Row key) = ⊤
+IsFirst t indexes cs (way.Rows front) = length (leading cs t t.key) ≢ length t.key
+IsFirst t indexes cs (way.Entries at front) =
+    (length (leading cs t t.key) ≢ length t.key) × (length (leading cs t t.key) < length (leading cs t (index_at indexes at).columns))
+    × All (λ i. length (leading cs t i.columns) < length (leading cs t (index_at indexes at).columns)) (take at indexes)
 
 -- the row is one that the way leads to
 abbrev pub is_reached : Table → List SqlIndex → Way → List Value → Bool

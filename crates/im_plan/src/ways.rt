@@ -1,6 +1,6 @@
 //! The way to the rows that a condition means.
 
-ghost use Rattle.std.specs.Prelude.{◌≡◌, ◌≤◌, ◌<◌, ◌++◌, All, IfOk, IfSome, IfNone, length};
+ghost use Rattle.std.specs.Prelude.{◌≡◌, ◌≤◌, ◌<◌, ◌++◌, All, IfOk, IfSome, IfNone, length, take};
 ghost use Rattle.im_sqltype.specs.Texts.{row_text};
 ghost use Rattle.im_sqlmodel.specs.Keys.{rows_prefix};
 ghost use Rattle.im_catalog.specs.Rows.{entries_prefix};
@@ -45,6 +45,7 @@ pub fn way_of(
 ) -> Result<Way, AllocError>
     ensures way { IfOk result (spec.IsWay table.now indexes.now (bounds.conjuncts filter.now)) }
     ensures best { IfOk result (spec.IsBest table.now indexes.now (bounds.conjuncts filter.now)) }
+    ensures first { IfOk result (spec.IsFirst table.now indexes.now (bounds.conjuncts filter.now)) }
 {
     let conjuncts = conjuncts(filter);
     let count = leading_count(table, conjuncts, table.key.as_slice());
@@ -97,6 +98,7 @@ fn best_index(
     ensures within { IfSome result (λ at. at < length indexes.now) }
     ensures more { IfSome result (λ at. least < length (bounds.leading conjuncts.now table.now (spec.index_at indexes.now at).columns)) }
     ensures most { IfSome result (λ at. All (λ i. length (bounds.leading conjuncts.now table.now i.columns) ≤ length (bounds.leading conjuncts.now table.now (spec.index_at indexes.now at).columns)) indexes.now) }
+    ensures first { IfSome result (λ at. All (λ i. length (bounds.leading conjuncts.now table.now i.columns) < length (bounds.leading conjuncts.now table.now (spec.index_at indexes.now at).columns)) (take at indexes.now)) }
     ensures none { IfNone result (All (λ i. length (bounds.leading conjuncts.now table.now i.columns) ≤ least) indexes.now) }
 {
     let mut best = None;

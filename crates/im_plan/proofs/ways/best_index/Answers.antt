@@ -1,6 +1,6 @@
 use Rattle.std.proofs.Common.{◌≡◌, ◌+◌, ◌∙◌, ℕ, List, Option, Some, length, sym, ap, subst}
 use Rattle.im_plan.specs.Bounds.{leading}
-use Rattle.im_plan.proofs.BestLemmas.{Best, bound_of, best-more, best-same, best-if-some, best-if-none}
+use Rattle.im_plan.proofs.BestLemmas.{Best, bound_of, best-more, best-same, best-if-some, first-if-some, best-if-none}
 use Rattle.im_plan.proofs.ways.best_index.Goals as goal
 use Rattle.im_plan.proofs.ways.best_index.Goals.{then-most-count, else-most-count}
 
@@ -24,6 +24,9 @@ loop-at-preserved c =
 
 pub returns-clause-most : goal.returns-clause-most
 returns-clause-most c = best-if-some c.args.conjuncts.now c.args.table.now c.args.indexes.now c.args.least c.loop-at.at c.loop-at.most c.loop-at.best c.loop-at-test.false c.loop-at.invariant
+
+pub returns-clause-first : goal.returns-clause-first
+returns-clause-first c = first-if-some c.args.conjuncts.now c.args.table.now c.args.indexes.now c.args.least c.loop-at.at c.loop-at.most c.loop-at.best c.loop-at.invariant
 
 pub returns-clause-none : goal.returns-clause-none
 returns-clause-none c = best-if-none c.args.conjuncts.now c.args.table.now c.args.indexes.now c.args.least c.loop-at.at c.loop-at.most c.loop-at.best c.loop-at-test.false c.loop-at.invariant
