@@ -1,9 +1,9 @@
 //! The lines of a file of texts, and the line that is told of each.
 
-use crate::faults::push_fault;
 use crate::statements::push_statement;
 use crate::wrong::{Fault, Wrong};
-use hex::FromHexError;
+use im_sql_words::faults::push_fault;
+use im_sql_words::octets::octets;
 use im_sqlparse::errors::ParseError;
 use im_sqlparse::parse;
 use std::alloc::{AllocError, Global};
@@ -30,27 +30,6 @@ fn push_line(alloc: Global, out: &mut String, line: &str) -> Result<(), Wrong> {
     }
     out.push('\n')?;
     Ok(())
-}
-
-// The octets that pairs of lower-case hex digits say.
-fn octets(alloc: Global, digits: &str) -> Result<Vec<u8>, Wrong> {
-    if has_capitals(digits.as_bytes()) {
-        return Err(Wrong::Digits);
-    }
-    match hex::decode(alloc, digits.as_bytes()) {
-        Ok(octets) => Ok(octets),
-        Err(FromHexError::OutOfMemory) => Err(Wrong::Memory),
-        Err(_) => Err(Wrong::Digits),
-    }
-}
-
-fn has_capitals(digits: &[u8]) -> bool {
-    for digit in digits {
-        if digit.is_ascii_uppercase() {
-            return true;
-        }
-    }
-    false
 }
 
 // Adds the statement that a text is, or its first fault.

@@ -5,7 +5,6 @@
 
 mod conditions;
 mod creations;
-mod faults;
 mod lines;
 mod selects;
 mod statements;

@@ -1,3 +1,4 @@
+use im_sql_words::octets::OctetsError;
 use std::alloc::AllocError;
 
 /// Why a line isn't told.
@@ -30,6 +31,15 @@ impl Wrong {
 impl From<AllocError> for Wrong {
     fn from(_: AllocError) -> Self {
         Wrong::Memory
+    }
+}
+
+impl From<OctetsError> for Wrong {
+    fn from(error: OctetsError) -> Self {
+        match error {
+            OctetsError::Digits => Wrong::Digits,
+            OctetsError::Memory => Wrong::Memory,
+        }
     }
 }
 

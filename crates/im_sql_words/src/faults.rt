@@ -1,3 +1,5 @@
+//! The first fault of a text, told.
+
 use im_sqlparse::errors::{SqlSyntax, SyntaxKind};
 use std::alloc::AllocError;
 

@@ -1,0 +1,103 @@
+//! The history that a session's lines are answered over, with the index of its keys.
+
+use crate::wrong::Wrong;
+use im_book::laws::placed_is_a_history;
+use im_index::index::Index;
+use im_index::snapshot::Snapshot;
+use im_model::transactions::Transaction;
+use im_tx::prepared::Prepared;
+use im_versions::plain::place_refusal;
+use std::alloc::{AllocError, Global};
+use std::marker::Model;
+
+/// A history of which no transaction was placed over a tree, and the index of its keys. A clause sees the list of its
+/// transactions.
+#[derive(Drop)]
+pub struct Session {
+    transactions: Vec<Transaction>,
+    index: Index,
+}
+
+impl Model for Session {
+    ghost use Rattle.std.specs.Prelude.{List};
+    ghost use Rattle.im_model.specs.declared.transactions.Transaction.{Transaction};
+    ghost use Rattle.im_statement_cases.specs.Sessions.{IsSession};
+
+    ghost Value = { List Transaction };
+
+    ghost view = { λ s. s.transactions.items };
+
+    ghost invariant = { λ s. IsSession s.transactions.items s.index };
+}
+
+impl Session {
+    ghost use Rattle.std.specs.Prelude.{◌≡◌, ◌∷◌, ◌++◌, [], length, IfOk};
+    ghost use Rattle.im_model.specs.History.{IsHistory};
+    ghost use Rattle.im_book.specs.Booked.{last_bl};
+    ghost use Rattle.im_index.specs.Indexed.{IsSnapshotOf};
+
+    /// No transaction. It takes no memory.
+    pub fn new(alloc: Global) -> Self
+        ensures { result ≡ [] }
+    {
+        Session {
+            transactions: Vec::new(alloc),
+            index: Index::new(alloc),
+        }
+    }
+
+    /// The number of transactions.
+    pub fn len(&self) -> u64
+        ensures { result ≡ length self.now }
+    {
+        self.transactions.len() as u64
+    }
+
+    /// What stands after all transactions. Its only error is want of memory.
+    pub fn view(&self, alloc: Global) -> Result<Snapshot, AllocError>
+        ensures view { IfOk result (λ view. IsSnapshotOf view self.now) }
+        ensures history { IsHistory self.now }
+    {
+        self.index.snapshot(alloc, self.index.taken())
+    }
+
+    /// The session behind what is placed.
+    ///
+    /// # Errors
+    ///
+    /// `Refused` where a precondition doesn't hold, or there are as many transactions as there may be. `Memory` where memory
+    /// runs out.
+    pub fn placed(self, alloc: Global, prepared: Prepared) -> Result<Self, Wrong> {
+        if place_refusal(alloc, &self.transactions, prepared.pres())?.is_some() {
+            return Err(Wrong::Refused);
+        }
+        placed_is_a_history();
+        let (entries, _) = prepared.into_parts();
+        let tx = Transaction {
+            ts: 0,
+            entries,
+            bl: 0,
+        };
+        self.with(alloc, tx)
+    }
+
+    // The session behind one more transaction.
+    fn with(self, alloc: Global, tx: Transaction) -> Result<Self, Wrong>
+        requires history { IsHistory (self ++ tx ∷ []) }
+        requires tree { tx.bl ≡ 0 }
+        ensures { IfOk result (λ session. session ≡ self ++ tx ∷ []) }
+    {
+        let Session {
+            transactions,
+            index,
+        } = self;
+        let mut transactions = transactions;
+        let mut index = index;
+        index.take(alloc, &tx)?;
+        transactions.push(tx)?;
+        Ok(Session {
+            transactions,
+            index,
+        })
+    }
+}
