@@ -1,7 +1,7 @@
 -- What a statement writes is within the limits of a transaction's entries.
 use Rattle.std.proofs.Common.{◌≡◌, ◌≢◌, ◌≤◌, ◌+◌, ◌*◌, ℕ, suc, Bool, true, false, not, cond, nat_lt, if◌then◌else◌, List, [], ◌∷◌, ◌++◌, length, map, flat_map, filter, get_or, bytes_eq, All, Option, Some, None, Result, Ok, Err, is_some, refl, sym, ap, ◌∙◌, subst, length-append, arith}
 use Rattle.std.proofs.lemmas.Bool.{true≢false, ltb-false, or_parts}
-use Rattle.std.proofs.lemmas.List.Elements.{All-from_recursion, recursion_from_All}
+use Rattle.std.proofs.lemmas.List.Elements.{All-append, All-from_recursion, recursion_from_All}
 use Rattle.std.specs.List.{AllByRecursion, list_any}
 use Rattle.std.specs.declared.cmp.Ordering.{Ordering}
 use Rattle.std.specs.declared.cmp.Ordering.TheVariants.{Less, Equal, Greater}
@@ -183,15 +183,12 @@ short-in k (e ∷ es) all = elim (is_shown e) as (λ (b : Bool). AllByRecursion 
   | false ↦ short-in k es all.1
 ]
 
-all-append : {A : Type 0} (P : A → Type 0) (xs ys : List A) → AllByRecursion P xs → AllByRecursion P ys → AllByRecursion P (xs ++ ys)
-all-append P [] ys all more = more
-all-append P (x ∷ xs) ys all more = (all.0, all-append P xs ys all.1 more)
-
 short-from : (k before bl : ℕ) (txs : List Transaction) → Follow before bl txs → AllByRecursion IsShortVersion (versions_from k txs)
 short-from k before bl [] follow = tt
 short-from k before bl (tx ∷ txs) follow =
-    all-append IsShortVersion (versions_in k tx.entries) (versions_from (k + 1) txs)
-    (short-in k tx.entries (recursion_from_All IsEntry tx.entries follow.0.entries)) (short-from (k + 1) (before + 1) tx.bl txs follow.2)
+    let first = All-from_recursion IsShortVersion (versions_in k tx.entries) (short-in k tx.entries (recursion_from_All IsEntry tx.entries follow.0.entries)) in
+    let rest = All-from_recursion IsShortVersion (versions_from (k + 1) txs) (short-from (k + 1) (before + 1) tx.bl txs follow.2) in
+    recursion_from_All IsShortVersion (versions_in k tx.entries ++ versions_from (k + 1) txs) (All-append IsShortVersion (versions_in k tx.entries) (versions_from (k + 1) txs) first rest)
 
 short-live : (history : List Transaction) (key value : List ℕ) → IsHistory history → IsLiveAs history key value → (1 ≤ length key) × (length key ≤ 1024) × (length value ≤ 4096)
 short-live history key value is live =
@@ -306,8 +303,11 @@ erased-all (w ∷ ws) all = (short-deleted w all.0, erased-all ws all.1)
 erased-short : (t : Table) (indexes : List SqlIndex) (rows : List StoredRow) → AllByRecursion (IsShortRow t indexes) rows → AllByRecursion IsShort (flat_map (λ (r : StoredRow). map deleted (all_written t indexes r.row)) rows)
 erased-short t indexes [] all = tt
 erased-short t indexes (r ∷ rs) all =
-    all-append IsShort (map deleted (all_written t indexes r.row)) (flat_map (λ (s : StoredRow). map deleted (all_written t indexes s.row)) rs)
-    (erased-all (all_written t indexes r.row) all.0) (erased-short t indexes rs all.1)
+    let of_row : List Written = map deleted (all_written t indexes r.row) in
+    let of_rest : List Written = flat_map (λ (s : StoredRow). map deleted (all_written t indexes s.row)) rs in
+    let first = All-from_recursion IsShort of_row (erased-all (all_written t indexes r.row) all.0) in
+    let rest = All-from_recursion IsShort of_rest (erased-short t indexes rs all.1) in
+    recursion_from_All IsShort (of_row ++ of_rest) (All-append IsShort of_row of_rest first rest)
 
 pub erased-fine : (t : Table) (indexes : List SqlIndex) (q : StoredRow → Bool) (rows : List StoredRow) → All (IsShortRow t indexes) rows → AreFine (rows_dropped t indexes (filter q rows))
 erased-fine t indexes q rows all =

@@ -40,11 +40,6 @@ holds_none hash found seen book refs ends none empty txs is bare same =
       room = record { each = λ number lt. omega (arith, each_none number lt) };
     }))))
 
--- a list of no elements
-pub none_of : {A : Type 0} (xs : List A) → length xs ≡ 0 → xs ≡ []
-none_of [] h = refl
-none_of (x ∷ xs) h = absurd (omega (arith, h))
-
 -- a journal that found nothing serves the empty list
 pub serves_none : {D : Type 0} (told : D → Option Told) (faults : D → ℕ) (hash : Hash) (k : Kept D) (records : List Record) → IsFound told hash k records → records ≡ [] → k.failures ≡ 0
     → ServesItems told faults hash [] (told k.disk) (faults k.disk) [] k
