@@ -26,3 +26,5 @@ pub mod LoopLemmas
 pub mod TestLemmas
 pub mod TablesLemmas
 pub mod HangLemmas
+pub mod StepLemmas
+pub mod OwnLemmas

@@ -2,7 +2,6 @@
 use Rattle.std.proofs.Common.{◌≡◌, ◌≢◌, ◌≤◌, ◌<◌, ◌+◌, ◌-◌, inl, inr, ℕ, List, [], ◌∷◌, length, take, get_or, sym, ap, ◌∙◌, subst, arith}
 use Rattle.std.proofs.lemmas.Bool.{cases_lt, cases_order}
 use Rattle.im_model.specs.declared.transactions.Transaction.{Transaction}
-use Rattle.im_versions.specs.Versions.{IsScan}
 use Rattle.im_versions.specs.declared.versions.Version.{Version}
 use Rattle.im_changes.specs.Changes.{AreChanges}
 use Rattle.im_sqlmodel.specs.Sorts.{sorted}
@@ -11,13 +10,11 @@ use Rattle.im_sqlmodel.proofs.KeptLemmas.{nothing_kept}
 use Rattle.im_plan.proofs.BestLemmas.{at-any}
 use Rattle.im_plan.proofs.EntryLemmas.{no_version}
 use Rattle.im_sql.specs.Sounding.{AreByNumber}
-use Rattle.im_sql.proofs.TurnLemmas.{IsQuiet, by_tx, changes-sorted, quiet-sound, quiet-scan, quiet-between, all-within, upto-changes, sound-next, kept-whole, first-unsound, scan-first}
+use Rattle.im_sql.proofs.TurnLemmas.{IsQuiet, by_tx, changes-sorted, quiet-sound, quiet-between, all-within, upto-changes, sound-next, kept-whole, first-unsound}
 
--- The keys are SQL's behind each transaction up to k, those live behind it are at hand; the versions before a place have numbers up
--- to k, and those from it on above.
-pub record IsUpto (history : List Transaction) (all : List Version) (at k : ℕ) (before : List Version) : Type 0 where
+-- The keys are SQL's behind each transaction up to k; the versions before a place have numbers up to k, and those from it on above.
+pub record IsUpto (history : List Transaction) (all : List Version) (at k : ℕ) : Type 0 where
   pub sound : (j : ℕ) → j ≤ k → IsSqlSound (take j history)
-  pub scan : IsScan (take k history) (0 ∷ []) before
   pub low : (j : ℕ) (d : Version) → j < at → (get_or all j d).tx ≤ k
   pub high : (j : ℕ) (d : Version) → at ≤ j → j < length all → k < (get_or all j d).tx
 
@@ -46,22 +43,21 @@ pub by-sorted : (history : List Transaction) (found taken all : List Version) �
 by-sorted history found taken all are same is = subst (AreByNumber history) (sym (is ∙ ap (sorted by_tx) same)) (changes-sorted history found are)
 
 -- before the first
-pub upto-first : (history : List Transaction) (n : ℕ) (all : List Version) → n ≤ length history → AreByNumber (take n history) all → IsUpto history all 0 0 []
+pub upto-first : (history : List Transaction) (n : ℕ) (all : List Version) → n ≤ length history → AreByNumber (take n history) all → IsUpto history all 0 0
 upto-first history n all within by = record {
   sound = λ j low. (let zero : 0 ≡ j = omega (arith, low) in subst (λ (i : ℕ). IsSqlSound (take i history)) zero (nothing_kept 0 (omega arith)));
-  scan = scan-first history;
   low = λ j d less. absurd (let no : ⊥ = omega (arith, less) in no);
   high = λ j d a l. (let first = (all-within history n within all by (get_or all j d) (j, (l, at-any all j d (get_or all j d) l))).0 in omega (arith, first));
 }
 
 -- behind the last
-pub upto-last : (history : List Transaction) (n at k : ℕ) (all before : List Version) → n ≤ length history → AreByNumber (take n history) all → IsUpto history all at k before → length all ≤ at → IsSqlKept (take n history)
-upto-last history n at k all before within by upto ended =
+pub upto-last : (history : List Transaction) (n at k : ℕ) (all : List Version) → n ≤ length history → AreByNumber (take n history) all → IsUpto history all at k → length all ≤ at → IsSqlKept (take n history)
+upto-last history n at k all within by upto ended =
     kept-whole history k n within
     (quiet-between history n within all by at k n (omega arith) upto.low (λ j d a l. absurd (let no : ⊥ = omega (arith, ended, a, l) in no))) upto.sound
 
 module _ (history : List Transaction) (n : ℕ) (within : n ≤ length history) (all : List Version) (by : AreByNumber (take n history) all)
-    (at end k tx : ℕ) (before : List Version) (upto : IsUpto history all at k before) (group : IsGroup all at end tx) where
+    (at end k tx : ℕ) (upto : IsUpto history all at k) (group : IsGroup all at end tx) where
   abbrev pub m : ℕ
   m = tx - 1
 
@@ -71,15 +67,15 @@ module _ (history : List Transaction) (n : ℕ) (within : n ≤ length history) 
   own : (d : Version) → (get_or all at d).tx ≡ tx
   own d = group.same at d (omega arith) group.after
 
-  numbers : (1 ≤ tx) × (tx ≤ n)
-  numbers =
+  pub numbers-m : (1 ≤ tx) × (tx ≤ n)
+  numbers-m =
       let v : Version = get_or all at no_version in
       let is = all-within history n within all by v (at, (inside, at-any all at no_version v inside)) in
       (subst (λ (t : ℕ). 1 ≤ t) (own no_version) is.0, subst (λ (t : ℕ). t ≤ n) (own no_version) is.1)
 
   -- the number is one more
   pub one : tx ≡ m + 1
-  one = (let some : 1 ≤ tx = numbers.0 in omega (arith, some))
+  one = (let some : 1 ≤ tx = numbers-m.0 in omega (arith, some))
 
   above : k < tx
   above = subst (λ (t : ℕ). k < t) (own no_version) (upto.high at no_version (omega arith) inside)
@@ -120,12 +116,12 @@ module _ (history : List Transaction) (n : ℕ) (within : n ≤ length history) 
 
   quiet : IsQuiet history k m
   quiet =
-      let most : tx ≤ n = numbers.1 in
-      let some : 1 ≤ tx = numbers.0 in
+      let most : tx ≤ n = numbers-m.1 in
+      let some : 1 ≤ tx = numbers-m.0 in
       quiet-between history n within all by at k m (omega (arith, most)) upto.low (λ j d a l. (let least : tx ≤ (get_or all j d).tx = from-own j d a l in omega (arith, least, some)))
 
   pub within-m : m < length history
-  within-m = (let most : tx ≤ n = numbers.1 in let some : 1 ≤ tx = numbers.0 in omega (arith, most, some, within))
+  within-m = (let most : tx ≤ n = numbers-m.1 in let some : 1 ≤ tx = numbers-m.0 in omega (arith, most, some, within))
 
   low-k : k ≤ m
   low-k = (let more : k < tx = above in omega (arith, more))
@@ -134,20 +130,13 @@ module _ (history : List Transaction) (n : ℕ) (within : n ≤ length history) 
   pub sound-m : IsSqlSound (take m history)
   sound-m = (let l : m < length history = within-m in quiet-sound history k m low-k (omega (arith, l)) quiet (upto.sound k (omega arith)))
 
-  pub scan-m : IsScan (take m history) (0 ∷ []) before
-  scan-m = quiet-scan history k m before low-k quiet upto.scan
-
-  pub changes-m : AreByNumber (take (m + 1) history) (take end all)
-  changes-m = subst (λ (t : ℕ). AreByNumber (take t history) (take end all)) one (upto-changes history n within all by tx end numbers.1 low-first high-rest)
-
-  pub scan-next : (shown : List Version) → IsScan (take tx history) (0 ∷ []) shown → IsScan (take (m + 1) history) (0 ∷ []) shown
-  scan-next shown is = subst (λ (t : ℕ). IsScan (take t history) (0 ∷ []) shown) one is
+  pub changes-m : AreByNumber (take tx history) (take end all)
+  changes-m = upto-changes history n within all by tx end numbers-m.1 low-first high-rest
 
   -- behind it, where they are SQL's still
-  pub upto-next : (shown : List Version) → IsScan (take (m + 1) history) (0 ∷ []) shown → IsSqlSound (take (m + 1) history) → IsUpto history all end (m + 1) shown
-  upto-next shown is sound = record {
-    sound = sound-next history k m within-m quiet upto.sound sound;
-    scan = is;
+  pub upto-next : IsSqlSound (take tx history) → IsUpto history all end (m + 1)
+  upto-next sound = record {
+    sound = sound-next history k m within-m quiet upto.sound (subst (λ (t : ℕ). IsSqlSound (take t history)) one sound);
     low = λ j d less. (
         let few : end ≤ length all = group.within in
         let most : (get_or all j d).tx ≤ tx = low-first j d less (omega (arith, less, few)) in
@@ -157,6 +146,7 @@ module _ (history : List Transaction) (n : ℕ) (within : n ≤ length history) 
   }
 
   -- else it is the first
-  pub first-m : (IsSqlSound (take (m + 1) history) → ⊥) → IsFirstUnsound (take n history) tx
-  first-m unsound = (let most : tx ≤ n = numbers.1 in let some : 1 ≤ tx = numbers.0 in
-      subst (IsFirstUnsound (take n history)) (sym one) (first-unsound history k m n within (omega (arith, most, some)) quiet upto.sound unsound))
+  pub first-m : (IsSqlSound (take tx history) → ⊥) → IsFirstUnsound (take n history) tx
+  first-m unsound = (let most : tx ≤ n = numbers-m.1 in let some : 1 ≤ tx = numbers-m.0 in
+      subst (IsFirstUnsound (take n history)) (sym one) (first-unsound history k m n within (omega (arith, most, some)) quiet upto.sound
+      (λ is. unsound (subst (λ (t : ℕ). IsSqlSound (take t history)) (sym one) is))))

@@ -1,5 +1,5 @@
 -- Tests of each element of a list.
-use Rattle.std.proofs.Common.{◌≡◌, ◌≤◌, ◌<◌, ◌+◌, ◌↔◌, ℕ, Bool, true, false, List, length, take, get_or, All, MatchOption, Option, Some, None, refl, sym, subst, ◌∙◌}
+use Rattle.std.proofs.Common.{◌≡◌, ◌≤◌, ◌<◌, ◌+◌, ◌↔◌, ℕ, Bool, true, false, List, length, take, get_or, All, IfSome, MatchOption, Option, Some, None, refl, sym, subst, ◌∙◌}
 use Rattle.std.proofs.lemmas.Bool.{true≢false}
 use Rattle.std.proofs.lemmas.List.{take_all}
 use Rattle.std.proofs.lemmas.List.Elements.{All-more}
@@ -14,6 +14,10 @@ test-holds a = (λ _. a, λ _. refl)
 
 pub test-not : {A : Type 0} (r : Bool) → (r ≡ true) ↔ A → r ≡ false → A → ⊥
 test-not r is fails a = true≢false (sym (is.1 a) ∙ fails)
+
+-- a test that was made and failed says nothing
+pub test-none : {A : Type 0} → false ≡ true → A
+test-none e = absurd (true≢false (sym e))
 
 -- ---- one element after the other
 
@@ -31,3 +35,11 @@ all-end P xs i past all = subst (All P) (take_all i xs past) all
 pub match-weaker : {A : Type 0} (P R : Type 0) (Q S : A → Type 0) (o : Option A) → (P → R) → ((x : A) → Q x → S x) → MatchOption o P Q → MatchOption o R S
 match-weaker P R Q S None f g is = f is
 match-weaker P R Q S (Some x) f g is = g x is
+
+pub some-weaker : {A : Type 0} (P Q : A → Type 0) (o : Option A) → ((x : A) → P x → Q x) → IfSome o P → IfSome o Q
+some-weaker P Q None f is = tt
+some-weaker P Q (Some x) f is = f x is
+
+pub match-some : {A : Type 0} (P : Type 0) (Q : A → Type 0) (o : Option A) → MatchOption o P Q → IfSome o Q
+match-some P Q None is = tt
+match-some P Q (Some x) is = is

@@ -1,5 +1,5 @@
 -- Between two transactions that write keys of SQL's they stay as they are.
-use Rattle.std.proofs.Common.{◌≡◌, ◌≢◌, ◌≤◌, ◌<◌, ◌+◌, ◌-◌, ◌||◌, ◌⊎◌, inl, inr, ℕ, zero, suc, Bool, true, false, cond, if◌then◌else◌, min, List, [], ◌∷◌, ◌++◌, length, take, filter, get_or, nat_le, AllPairs, Some, None, refl, sym, ap, ◌∙◌, subst, arith}
+use Rattle.std.proofs.Common.{◌≡◌, ◌≤◌, ◌<◌, ◌+◌, ◌||◌, ◌⊎◌, inl, inr, ℕ, zero, suc, Bool, true, false, cond, if◌then◌else◌, min, List, [], ◌∷◌, length, take, filter, get_or, nat_le, AllPairs, Some, None, refl, sym, ap, ◌∙◌, subst, arith}
 use Rattle.std.proofs.lemmas.Bool.{cases_Bool, cases_lt, cases_order, le-leb, lt-leb, leb-true}
 use Rattle.std.proofs.lemmas.List.{length-take, length-take-le, take-take, take_all, get_or-take}
 use Rattle.std.proofs.lemmas.List.Elements.{All-from_recursion, All-take, recursion_from_All}
@@ -11,7 +11,7 @@ use Rattle.std.specs.declared.cmp.Ordering.{Ordering}
 use Rattle.std.specs.declared.cmp.Ordering.TheVariants.{Less, Equal, Greater}
 use Rattle.im_octet.proofs.Common.{filter-swap}
 use Rattle.im_model.specs.declared.transactions.Transaction.{Transaction}
-use Rattle.im_versions.specs.Versions.{last_version, versions_in, versions_from, all_versions, versions_of, is_of, begins_with, IsScan}
+use Rattle.im_versions.specs.Versions.{last_version, versions_in, versions_from, all_versions, versions_of, is_of, begins_with}
 use Rattle.im_versions.specs.declared.versions.Version.{Version}
 use Rattle.im_versions.proofs.ListLemmas.{All-among, among-filter}
 use Rattle.im_versions.proofs.VersionLemmas.{versions-upto, versions-within, versions_in-number, versions_from-within}
@@ -111,18 +111,6 @@ quiet-settled history k m up within quiet sound n key v begins last alive = elim
 pub quiet-sound : (history : List Transaction) (k m : ℕ) → k ≤ m → m ≤ length history → IsQuiet history k m → IsSqlSound (take k history) → IsSqlSound (take m history)
 quiet-sound history k m up within quiet sound =
     carried (take k history) (take m history) (quiet-same history k m up quiet) (quiet-grows history k m up) (quiet-settled history k m up within quiet sound) sound
-
--- and what is live
-pub quiet-scan : (history : List Transaction) (k m : ℕ) (shown : List Version) → k ≤ m → IsQuiet history k m → IsScan (take k history) zero_front shown → IsScan (take m history) zero_front shown
-quiet-scan history k m shown up quiet scan = record {
-  rising = scan.rising;
-  live = λ j d l. (same (get_or shown j d).key (scan.begin j d l) ∙ (scan.live j d l).0, (scan.live j d l).1);
-  begin = scan.begin;
-  all = λ key v last alive begins. scan.all key v (sym (same key begins) ∙ last) alive begins;
-}
-  where
-    same : (key : List ℕ) → begins_with zero_front key ≡ true → last_version (take m history) key ≡ last_version (take k history) key
-    same key begins = ap (λ (vs : List Version). last_or None vs) (quiet-versions history k m key up quiet begins)
 
 -- ---- versions by rising number
 
@@ -342,15 +330,3 @@ first-unsound history k m n within less quiet sound unsound =
       before = λ j low. subst IsSqlSound (sym (take-take j n history (omega (arith, low, less)))) (sound-between history k m (omega (arith, less, within)) quiet sound j (omega (arith, low)));
       unsound = λ is. unsound (subst IsSqlSound (take-take (m + 1) n history (omega (arith, less))) is);
     }
-
-nothing : (v : Version) → None ≡ Some v → ⊥
-nothing v e = cc
-
--- nothing is live before the first transaction
-pub scan-first : (history : List Transaction) → IsScan (take 0 history) zero_front []
-scan-first history = record {
-  rising = λ i j d less l. absurd (let no : ⊥ = omega (arith, less, l) in no);
-  live = λ k d l. absurd (let no : ⊥ = omega (arith, l) in no);
-  begin = λ k d l. absurd (let no : ⊥ = omega (arith, l) in no);
-  all = λ key v last alive begins. absurd (nothing v last);
-}

@@ -3,3 +3,4 @@ pub mod Working
 pub mod Entries
 pub mod Ranges
 pub mod Sounding
+pub mod Stepping

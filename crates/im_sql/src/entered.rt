@@ -49,8 +49,11 @@ fn push_entries(
     Ok(())
 }
 
-// All entries that rows give.
-fn entries_given(alloc: Global, tables: &[TableFound]) -> Result<Vec<Written>, AllocError>
+/// All entries that rows give. Its only error is want of memory.
+pub(crate) fn entries_given(
+    alloc: Global,
+    tables: &[TableFound],
+) -> Result<Vec<Written>, AllocError>
     ensures { IfOk result (λ entries. entries.items ≡ flat_map spec.entries_of tables.now) }
 {
     let mut entries = Vec::new(alloc);
@@ -60,8 +63,8 @@ fn entries_given(alloc: Global, tables: &[TableFound]) -> Result<Vec<Written>, A
     Ok(entries)
 }
 
-// Sorts entries by their keys. Those of one key stay as they stood.
-fn sort_by_key(entries: &mut Vec<Written>) -> Result<(), AllocError>
+/// Sorts entries by their keys. Those of one key stay as they stood. Its only error is want of memory.
+pub(crate) fn sort_by_key(entries: &mut Vec<Written>) -> Result<(), AllocError>
     ensures { OnOk result (entries.new.items ≡ sorted (λ a b. octets_cmp a.key b.key) entries.old.items) }
 {
     entries.sort_by(|a, b| a.key.as_slice().cmp(b.key.as_slice()))
@@ -80,8 +83,8 @@ fn is_said(version: &Version, entry: &Written) -> bool
     }
 }
 
-// Whether these versions are these entries, one by one.
-fn are_said(shown: &[Version], entries: &[Written]) -> bool
+/// Whether these versions are these entries, one by one.
+pub(crate) fn are_said(shown: &[Version], entries: &[Written]) -> bool
     ensures { IsTrue result ↔ (map spec.said_by shown.now ≡ entries.now) }
 {
     if shown.len() != entries.len() {

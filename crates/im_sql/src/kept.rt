@@ -8,15 +8,24 @@ ghost use Rattle.im_sqlmodel.specs.Kept.{IsSqlKept, IsFirstUnsound};
 ghost use Rattle.im_sqlmodel.specs.Sorts.{sorted};
 ghost use Rattle.im_sqlmodel.specs.declared.answers.KeptError.TheVariants as error;
 
-use crate::sounding::is_sound;
+use crate::sounding::is_sound_behind;
 use im_changes::view::ChangesView;
 use im_sqlmodel::answers::KeptError;
-use im_versions::versions::{Version, Versions};
+use im_versions::versions::Version;
 use std::alloc::{AllocError, Global};
 
 /// Whether the keys that begin with octet 00 are SQL's after each of the first `n` transactions: what
 /// docs/SQL.md says of them holds of those that are live, and no table or index changed once it was live. It asks the
-/// view for one `changes`, sorted by transaction, and a `scan` after each transaction that has such a version, whose keys it reads.
+/// view for one `changes`, sorted by transaction.
+///
+/// # Steps
+///
+/// A transaction that has such a version is judged by its own keys where these say enough, as of each that a statement
+/// places to insert, change or delete rows. It reads the catalogue twice, by a `scan` of the tables and one of each
+/// table's indexes; it reads what stood and stands under its keys, by at most two `get`s for each, which it compares
+/// with the fronts of all tables; and it makes anew, and sorts, the entries that the rows under them gave and give. No
+/// other row is read. Behind any other transaction, as one that makes a table or an index, it reads all live keys by
+/// two `scan`s more, and makes anew the entries of all rows.
 ///
 /// # Errors
 ///
@@ -30,22 +39,16 @@ pub fn kept<V: ChangesView>(alloc: Global, view: &V, n: u64) -> Result<(), KeptE
     let mut changes = view.changes(alloc, &[0], n)?.into_vec();
     sort_by_number(&mut changes)?;
     let all = changes.as_slice();
-    let mut before = Versions::from_vec(Vec::new(alloc));
     let mut at = 0;
     while at < all.len() {
         let tx = all[at].tx;
         let end = end_of(all, at);
-        let shown = view.scan(alloc, &[0], tx)?;
-        let sound = is_sound(alloc, before.as_slice(), shown.as_slice(), &all[..end])?;
-        drop(before);
-        before = shown;
+        let sound = is_sound_behind(alloc, view, &all[..end], tx)?;
         if !sound {
-            drop(before);
             return Err(KeptError::NotKept { tx });
         }
         at = end;
     }
-    drop(before);
     Ok(())
 }
 

@@ -5,6 +5,7 @@ ghost use Rattle.std.specs.List.{IsAmong};
 ghost use Rattle.im_versions.specs.declared.versions.Version.{Version as TheVersion};
 ghost use Rattle.im_sqlmodel.specs.Keys as keys;
 ghost use Rattle.im_sql.specs.Sounding as spec;
+ghost use Rattle.im_sql.specs.Stepping.{AreMarked};
 ghost use Rattle.im_sql.specs.declared.said.TableFound.{TableFound as Found};
 
 use crate::numbered::are_gapless;
@@ -53,8 +54,8 @@ pub(crate) fn are_marks(
     Ok(true)
 }
 
-// The versions of a transaction, where they stand by rising transactions. It halves what is left at each look.
-fn of_number(changes: &[Version], tx: u64) -> &[Version]
+/// The versions of a transaction, where they stand by rising transactions. It halves what is left at each look.
+pub(crate) fn of_number(changes: &[Version], tx: u64) -> &[Version]
     requires { AllPairs (λ (a b : TheVersion). a.tx ≤ b.tx) changes.now }
     ensures { (v : TheVersion) → IsAmong result.now v ↔ (IsAmong changes.now v × (v.tx ≡ tx)) }
 {
@@ -93,6 +94,24 @@ fn are_marked(alloc: Global, found: &TableFound, changes: &[Version]) -> Result<
     let rows = found.rows.as_slice();
     for row in rows {
         if !has_change(changes, mark.as_slice(), row.tx) {
+            return Ok(false);
+        }
+    }
+    Ok(true)
+}
+
+/// Whether those of each table did. Its only error is want of memory.
+pub(crate) fn are_all_marked(
+    alloc: Global,
+    tables: &[TableFound],
+    changes: &[Version],
+) -> Result<bool, AllocError>
+    requires { AllPairs (λ (a b : TheVersion). a.tx ≤ b.tx) changes.now }
+    ensures { IfOk result (λ are. IsTrue are ↔ All (AreMarked changes.now) tables.now) }
+{
+    for found in tables {
+        let marked = are_marked(alloc, found, changes)?;
+        if !marked {
             return Ok(false);
         }
     }

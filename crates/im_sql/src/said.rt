@@ -65,8 +65,8 @@ pub(crate) fn under<'v>(shown: &'v [Version], front: &[u8]) -> &'v [Version]
 
 // ---- one version
 
-// The table that a version under the front of tables says.
-fn table_said(alloc: Global, version: &Version) -> Result<Option<Table>, AllocError>
+/// The table that a version under the front of tables says. Its only error is want of memory.
+pub(crate) fn table_said(alloc: Global, version: &Version) -> Result<Option<Table>, AllocError>
     requires { IsTrue (begins_with keys.table_prefix version.now.key) }
     ensures { IfOk result (λ found. MatchOption found (spec.SaysNoTable version.now) (spec.IsTableVersion version.now)) }
 {
@@ -175,8 +175,8 @@ fn indexes_said(
     Ok(Some(Items::from_vec(indexes)))
 }
 
-// The rows of a table that these versions say, or none where one says none.
-fn rows_said(
+/// The rows of a table that these versions say, or none where one says none. Its only error is want of memory.
+pub(crate) fn rows_said(
     alloc: Global,
     table: &Table,
     shown: &[Version],
