@@ -1,0 +1,5 @@
+pub mod AnswerLemmas
+pub mod ConditionLemmas
+pub mod NameLemmas
+pub mod TextLemmas
+pub mod ToldLemmas
