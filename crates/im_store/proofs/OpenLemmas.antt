@@ -136,6 +136,15 @@ module _ {D : Type 0} (told : D → Option Told) (faults : D → ℕ) (hash : Ha
       let at : gate ≡ gate_of (length batches) = behind (repaired opened.0 gate (after Synced t)) opened.2 batches (subst H (same ∙ opened.2) held) in
       subst (λ (o : Option Told). IsOpenedBy (gate_of (length batches)) t o) (sym same) (subst (λ (g : ℕ). IsOpenedBy g t (told now)) at opened)
 
+  -- and by the gate behind those that reads gave before, under a hash that is this one
+  closed_calls : (digest : Hash) → digest ≡ hash → (synced : Option Told) → synced ≡ told now → (t : Told) (other : List Transaction) → told before ≡ Some t → (there : Stands digest (seen t) other)
+      → IsOpenedBy (gate_of (length there.batches)) t synced
+  closed_calls digest one synced same t other is there =
+      let W : Hash → Type 0 = λ h. (s : Stands h (seen t) other) → gate ≡ gate_of (length s.batches) in
+      let at : gate ≡ gate_of (length there.batches) = subst W (sym one) (λ s. opens.gate_is t other is s) there in
+      let G : ℕ → Type 0 = λ g. IsOpenedBy g t (told now) in
+      subst (λ (o : Option Told). IsOpenedBy (gate_of (length there.batches)) t o) (sym same) (subst G at (opens.calls t is))
+
   pub found_opens : (n : Naming) → n.found ≡ items_of rs → n.digest ≡ hash → n.synced ≡ told now → n.faults ≡ faults now → IsHistory (txs_of rs) → AreRecords hash (txs_of rs) 1 rs
       → OpensAs (told before) (faults before) n
   found_opens n found digest synced failed history records =
@@ -148,6 +157,7 @@ module _ {D : Type 0} (told : D → Option Told) (faults : D → ℕ) (hash : Ha
             (subst (λ (h : Hash). Leaves (λ image. Stands h image (history_of n.found)) (Some (after Synced t)) (told now)) (sym digest)
             (subst (λ (l : List Transaction). Leaves (λ image. Stands hash image l) (Some (after Synced t)) (told now)) same (opens.moments t is)));
         calls = opened_calls n.synced synced;
+        closed = closed_calls n.digest digest n.synced synced;
         grows = subst (λ (o : Option Told). Grows (told before) o) (sym synced) opens.grows;
         same = failed ∙ opens.same;
         marked = subst (λ (l : List LogItem). All (λ x. x.found ≡ true) l) (sym found) (found_marked rs);

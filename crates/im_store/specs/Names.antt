@@ -53,8 +53,8 @@ naming_of digest told faults constant given o = record {
 }
 
 -- A disk, which told this, is opened as a store. Its files stand for the history that is found, and for no other, and each image of
--- each moment behind the opening's first sync does. It got that sync, and the closing of the gate behind the batches that reads give now where
--- it was missing or cut off, and no other call that changes it. None of its calls failed. Each item is marked as found, and each of its
+-- each moment behind the opening's first sync does. It got that sync, and the closing of the gate behind the batches that reads give now, and that
+-- they gave before, where it was missing or cut off, and no other call that changes it. None of its calls failed. Each item is marked as found, and each of its
 -- entries has a reference, with its value's length and digest.
 pub record OpensAs (told : Option Told) (faults : ℕ) (n : Naming) : Type 0 where
   pub stands : (t : Told) → told ≡ Some t → Stands n.digest (seen t) (history_of n.found)
@@ -62,6 +62,7 @@ pub record OpensAs (told : Option Told) (faults : ℕ) (n : Naming) : Type 0 whe
   pub moments : (t : Told) → told ≡ Some t → Leaves (λ image. Stands n.digest image (history_of n.found)) (Some (after Synced t)) n.synced
   pub calls : (t : Told) → told ≡ Some t → (batches : List (List Record)) → IfSome n.synced (λ s. HasBatches (seen s) batches)
       → IsOpenedBy (gate_of (length batches)) t n.synced
+  pub closed : (t : Told) (other : List Transaction) → told ≡ Some t → (stands : Stands n.digest (seen t) other) → IsOpenedBy (gate_of (length stands.batches)) t n.synced
   pub grows : Grows told n.synced
   pub same : n.faults ≡ faults
   pub marked : All (λ item. item.found ≡ true) n.found

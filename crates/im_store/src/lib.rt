@@ -5,9 +5,9 @@
 //! # The outline of a program
 //!
 //! It opens a disk, two threads commit what was prepared (`Prepared`, of im_tx: entries and preconditions that were checked), then the
-//! store shows a key, proves the second transaction from the first, and is closed. Left out are most contracts and imports, what is done
-//! about errors of `index`, `link` and `prove`, and the file `Invariants.antt` that names the store (`Opened` says how). Whole programs,
-//! proved and run, are in `im_tests_store`.
+//! store shows a key, proves the second transaction from the first, and is closed. Left out are most imports, what is done about errors of
+//! `index`, `link` and `prove`, and the file `Invariants.antt` that names the store (`Opened` says how). Whole programs, proved and run,
+//! are in `im_tests_store`.
 //!
 //! ```text
 //! use im_store::opened::{Opened, open};
@@ -37,10 +37,14 @@
 //!     let first = store.pass(&mut main);
 //!     let second = store.pass(&mut main);
 //!     let shared = &store;
-//!     let ((first, a), (second, b)) = join(
+//!     let ((first, a), (second, b)) = both(
 //!         rt,
-//!         move || commit_one(rt, alloc, shared, first, one),
-//!         move || commit_one(rt, alloc, shared, second, two),
+//!         &|asked: (Pass, Prepared)| -> (Pass, Option<u64>)
+//!             requires { IsPassOf N.table asked.0 }
+//!             ensures { IsPassOf N.table result.0 }
+//!         { commit_one(rt, alloc, shared, asked) },
+//!         (first, one),
+//!         (second, two),
 //!     );
 //!     store.end(&mut main, first);
 //!     store.end(&mut main, second);
@@ -51,7 +55,7 @@
 //!         let _ = snapshot.get(alloc, b"k", last);
 //!         drop(snapshot);
 //!     }
-//!     if a.is_some() && b.is_some() {
+//!     if a.is_some() && b.is_some() && last > 1 {
 //!         drop(store.prove(rt, alloc, &mut main, last - 1, last));
 //!     }
 //!     let mut passes = Vec::new(alloc);
@@ -61,9 +65,33 @@
 //!     Some(disk)
 //! }
 //!
+//! // `join` tells nothing of closures that hold a value whose type has a lifetime, as a store's: these hold a lent function alone.
+//! fn both<R: Threads, A: Send + Drop, X: Send, F: Fn(A) -> X + Sync>(rt: &R, f: &F, a: A, b: A) -> (X, X)
+//!     requires first { F.pre f.now a }
+//!     requires second { F.pre f.now b }
+//!     ensures first { F.post f.now a result.0 }
+//!     ensures second { F.post f.now b result.1 }
+//! {
+//!     join(
+//!         rt,
+//!         move || -> X
+//!             requires { F.pre f.now a }
+//!             ensures { F.post f.entry.now a result }
+//!         { f(a) },
+//!         move || -> X
+//!             requires { F.pre f.now b }
+//!             ensures { F.post f.entry.now b result }
+//!         { f(b) },
+//!     )
+//! }
+//!
 //! fn commit_one<H: Hash32, D: Disk, C: Clock, N: TipName, R: Wait>(
-//!     rt: &R, alloc: Global, store: &Store<'_, H, D, C, Free, N>, mut pass: Pass, what: Prepared,
-//! ) -> (Pass, Option<u64>) {
+//!     rt: &R, alloc: Global, store: &Store<'_, H, D, C, Free, N>, asked: (Pass, Prepared),
+//! ) -> (Pass, Option<u64>)
+//!     requires { IsPassOf N.table asked.0 }
+//!     ensures { IsPassOf N.table result.0 }
+//! {
+//!     let (mut pass, what) = asked;
 //!     let id = store.commit(rt, alloc, &mut pass, what).ok().map(|receipt| receipt.id);
 //!     (pass, id)
 //! }
@@ -71,9 +99,9 @@
 //!
 //! `Brand` names the store in contracts alone, and `Free` is the law that allows each history. Under another law `commit` asks that the
 //! transaction may stand behind any list that begins with the pass's, meets the law, and admits it; and what `commit`, `header`, `prove`,
-//! `advance`, `item` and `close` answer tells that the list they speak of meets the law (`IsListOf`), is a history, and has a
-//! reference for each value; `snapshot` tells the law. No call hands out a reference, which `resolve` takes: the rule of the value logs says where the values of
-//! what was placed lie.
+//! `advance`, `item`, `show` and `close` answer tells that the list they speak of meets the law (`IsListOf`), is a history, and has a
+//! reference for each value; `snapshot` tells the law. No call hands out a reference, which `resolve` takes: the rule of the value logs
+//! says where the values of what was placed lie.
 //!
 //! # Passes
 //!
@@ -104,16 +132,18 @@
 //! | call | waits for | costs |
 //! |---|---|---|
 //! | `open` | nobody | what `im_opening::open` costs: all files read and checked, and one sync, or two and a write; and the index of all that was found |
+//! | `Opened::keys` | nobody | the index's runs are shared, none is copied |
 //! | `named`, `hash`, `pass`, `end`, `tip` | nobody | a few steps on words; no memory |
 //! | `commit` | book and tree; then the journal, unless another thread makes it durable | each value hashed twice, the root of its entries once, its header by two hashes, a few nodes of the tree; two copies of keys and values; its share of a batch: 2 syncs, 3 writes and one for each value log |
 //! | `settle` | book; then as `commit` | nothing where it is durable, else its share of a batch |
 //! | `link` | book, tree | a copy of 32 octets, one leaf and about one node hashed for each transaction |
 //! | `index` | index; book, for 64 transactions at a time | what `Index::take` costs: keys and values copied, runs merged |
 //! | `snapshot` | index | the runs are shared, none is copied; its reads wait for nobody |
+//! | `show` | book | a few steps on words |
 //! | `header` | book | a copy of a header |
 //! | `prove`, `advance`, `item` | book, tree | for each path or list four digests for each binary digit of the tree's size; two hashes for each header on the way; `item` also hashes the transaction's entries |
 //! | `resolve` | journal | a length and a read asked of the disk, and one hash |
-//! | `close` | nobody | no memory, and no call of the disk |
+//! | `close`, `Opened::close` | nobody | no memory, and no call of the disk |
 //!
 //! All transactions, their headers, Alh and references stay in memory, and so does an index of their keys and values.
 //!

@@ -19,6 +19,7 @@ use im_table::tip::Tip;
 use std::alloc::Global;
 use std::marker::Model;
 
+mod found;
 mod naming;
 mod parts;
 

@@ -62,6 +62,18 @@ impl<'h, H: Hash32, D: Disk, C: Clock, L: Law, N: TipName> Store<'h, H, D, C, L,
         Ok(index.snapshot(alloc, n)?)
     }
 
+    /// Shows all that is placed to the pass: its list is then a history that begins with what was found, and meets the law. It copies
+    /// nothing and takes no memory.
+    pub fn show<R: Wait>(&self, rt: &R, pass: &mut Pass)
+        requires pass { IsPassOf N.table pass.old }
+        ensures later { Later pass.old pass.new }
+        ensures gains { Gains [] 0 0 pass.old pass.new }
+        ensures list { IsListOf L.allows N.digest N.logs N.found pass.new.view.seen }
+    {
+        let mut book = self.book.lock(rt);
+        book.show(&self.tip, pass);
+    }
+
     /// A copy of the header of transaction `k`, from 1: the event Prove, for a header. Nothing is hashed.
     ///
     /// # Errors
