@@ -1,5 +1,5 @@
 -- No reply has an LF.
-use Rattle.std.proofs.Common.{◌≡◌, ◌==◌, ◌||◌, ℕ, List, ◌++◌, length, take, refl, sym, subst, inl, inr, Option, Some, None, nat_lt, true, false, codes, if◌then◌else◌}
+use Rattle.std.proofs.Common.{◌≡◌, ◌⊎◌, ◌==◌, ◌||◌, ℕ, List, ◌++◌, length, take, refl, sym, subst, inl, inr, Option, Some, None, nat_lt, true, false, codes, if◌then◌else◌}
 use Rattle.std.specs.Fmt.{decimal}
 use Rattle.std.specs.List.{flat_map}
 use Rattle.std.proofs.lemmas.List.Folds.{list_all-append}
@@ -24,12 +24,17 @@ use Rattle.im_proof.specs.declared.proofs.DualProof.{DualProof}
 use Rattle.im_wire.specs.Headers.{header_text}
 use Rattle.im_wire.specs.Texts.{text}
 use Rattle.im_wire.specs.declared.messages.Message.TheVariants as says
+use Rattle.im_sqlparse.proofs.FormedStatements.{statement_formed}
+use Rattle.im_sqlreply.specs.Replies.{syntax_reply}
+use Rattle.im_sqlreply.proofs.TextLemmas.{syntax-lacks}
+use Rattle.im_sqlreply.proofs.ToldLemmas.{told-lacks}
 use Rattle.im_script.specs.declared.commands.Command.{Command}
-use Rattle.im_script.specs.declared.commands.Command.TheVariants.{Set, Get, Scan, History, Header, State, Prove, Advance, Item, Link}
+use Rattle.im_script.specs.declared.commands.Command.TheVariants.{Set, Get, Scan, History, Header, State, Prove, Advance, Item, Link, Sql}
 use Rattle.im_report.specs.Reads.{history_reply, bare_or_hex, place_reply, scan_reply, scanned_text, value_reply, version_text, IsGetAnswer, IsReadAt, IsScanAnswer}
 use Rattle.im_proof.specs.Between.{anchor_between, dual_between}
 use Rattle.im_report.specs.Replies.{advance_reply, between_reply, beyond_reply, header_reply, item_reply, item_shown, no_entry_reply, order_reply, prove_reply, refused_reply, reserved_reply, shown_header, state_reply, tx_reply}
 use Rattle.im_report.specs.Report.{IsAnswer, IsSetAnswer}
+use Rattle.im_report.specs.Statements.{conflict_reply, full_read_reply, tx_read_reply, IsPlacedAs, IsRefusedAs, IsSqlAnswer, IsUnplacedReply, IsWriteTold}
 use Rattle.im_accept.proofs.LfLemmas.{digits-lack, each-lacks, header-lacks, hex-lacks, octets-lack, text-lacks}
 
 -- an equation of a reply carries over what it lacks
@@ -178,6 +183,39 @@ item-lacks hash history t i s =
       | false ↦ no-entry-lacks (length entries)
     ])
 
+-- nor has what tells how something was placed for a statement, or why it wasn't
+tx-read-lacks : (n read : ℕ) → Lacks 10 (tx_read_reply n read)
+unfolding tx_read_reply
+tx-read-lacks n read = Lacks-append 10 (tx_reply n ++ codes " read ") (decimal read) (Lacks-append 10 (tx_reply n) (codes " read ") (tx-lacks n) refl) (digits-lack read)
+
+conflict-lacks : (key : List ℕ) (tx read : ℕ) → Lacks 10 (conflict_reply key tx read)
+unfolding conflict_reply
+conflict-lacks key tx read = simp (list_all-append, octets-lack, digits-lack)
+
+full-read-lacks : (read : ℕ) → Lacks 10 (full_read_reply read)
+unfolding full_read_reply
+full-read-lacks read = digits-lack read
+
+unplaced-lacks : (why : PlaceError) (read : ℕ) (reply : List ℕ) → IsUnplacedReply why read reply → Lacks 10 reply
+unplaced-lacks place.Memory read reply e = absurd e
+unplaced-lacks place.Full read reply e = as-lacks reply _ e (full-read-lacks read)
+unplaced-lacks (place.Missing key) read reply e = absurd e
+unplaced-lacks (place.Exists key tx) read reply e = absurd e
+unplaced-lacks (place.Modified key tx) read reply e = as-lacks reply _ e (conflict-lacks key tx read)
+
+write-lacks : (history : List Transaction) (sql : List ℕ) (n : ℕ) (reply : List ℕ) → IsWriteTold history sql n reply → Lacks 10 reply
+write-lacks history sql n reply w = go w.told
+  where
+    go : IsPlacedAs history w.asked w.read n reply ⊎ IsRefusedAs history w.asked w.read n reply → Lacks 10 reply
+    go (inl placed) = as-lacks reply _ placed.told (tx-read-lacks n w.read)
+    go (inr refused) = unplaced-lacks refused.why w.read reply refused.told
+
+-- nor has what a statement is answered
+statement-lacks : (history : List Transaction) (sql : List ℕ) (n : ℕ) (reply : List ℕ) → IsSqlAnswer history sql n reply → Lacks 10 reply
+statement-lacks history sql n reply (inl fault) = as-lacks reply (syntax_reply fault.fault) fault.told (syntax-lacks fault.fault)
+statement-lacks history sql n reply (inr (inl a)) = told-lacks (take n history) a.said a.answer reply (statement_formed sql a.said a.is) a.judged a.told
+statement-lacks history sql n reply (inr (inr write)) = write-lacks history sql n reply write
+
 pub answer-lacks : (hash : Hash) (h : List Transaction) (c : Command) (n : ℕ) (reply : List ℕ) → IsAnswer hash h c n reply → Lacks 10 reply
 answer-lacks hash h (Set pres drafts) n reply e = set-lacks h pres drafts n reply e
 answer-lacks hash h (Get key at) n reply e =
@@ -192,3 +230,4 @@ answer-lacks hash h (Advance s t) n reply e = as-lacks reply _ e (advance-lacks 
 answer-lacks hash h (Item t i None) n reply e = as-lacks reply _ e (item-lacks hash (take n h) t i n)
 answer-lacks hash h (Item t i (Some s)) n reply e = as-lacks reply _ e (item-lacks hash (take n h) t i s)
 answer-lacks hash h (Link count) n reply e = as-lacks reply (codes "linked") e refl
+answer-lacks hash h (Sql sql) n reply e = statement-lacks h sql n reply e

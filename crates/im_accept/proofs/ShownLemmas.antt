@@ -1,5 +1,5 @@
 -- What a reply is that begins as an object does.
-use Rattle.std.proofs.Common.{◌≡◌, ◌≤◌, ◌<◌, length, ℕ, zero, suc, ◌==◌, ◌||◌, List, Bool, true, false, codes, refl, ap, ◌∙◌, arith, nat_lt, if◌then◌else◌, inl, inr, map, take, Option, Some, None, ◌++◌}
+use Rattle.std.proofs.Common.{◌≡◌, ◌⊎◌, ◌≤◌, ◌<◌, length, ℕ, zero, suc, ◌==◌, ◌||◌, List, Bool, true, false, codes, refl, ap, ◌∙◌, arith, nat_lt, if◌then◌else◌, inl, inr, map, take, Option, Some, None, ◌++◌}
 use Rattle.std.specs.Fmt.{decimal}
 use Rattle.std.proofs.lemmas.Bool.{both_ways, eqb-false, ltb-false, ltb-true, or_parts}
 use Rattle.std.specs.Prelude.{slice_index_or}
@@ -23,10 +23,13 @@ use Rattle.im_wire.specs.Lines.{is_open}
 use Rattle.im_wire.specs.Texts.{text}
 use Rattle.im_wire.specs.declared.messages.Message.{Message}
 use Rattle.im_wire.specs.declared.messages.Message.TheVariants as says
+use Rattle.im_sqlreply.proofs.TextLemmas.{Begins, syntax-begins}
+use Rattle.im_sqlreply.proofs.ToldLemmas.{told-begins}
 use Rattle.im_report.specs.Reads.{history_reply, bare_or_hex, place_reply, scan_reply, value_reply, IsGetAnswer, IsHistoryAnswer, IsReadAt, IsScanAnswer}
 use Rattle.im_proof.specs.Between.{anchor_between, dual_between, no_entry}
 use Rattle.im_report.specs.Replies.{advance_reply, between_reply, beyond_reply, header_reply, item_reply, item_shown, no_entry_reply, order_reply, prove_reply, refused_reply, reserved_reply, shown_header, state_reply, tx_reply}
 use Rattle.im_report.specs.Report.{IsSetAnswer}
+use Rattle.im_report.specs.Statements.{conflict_reply, full_read_reply, tx_read_reply, IsPlacedAs, IsRefusedAs, IsSqlAnswer, IsUnplacedReply, IsWriteTold}
 use Rattle.im_accept.specs.Messages.{item_between}
 
 -- no refusal begins so
@@ -120,6 +123,44 @@ scanned-closed history prefix at reply a = at-closed history at (IsScanAnswer pr
 pub versions-closed : (history : List Transaction) (key reply : List ℕ) → IsHistoryAnswer key history reply → is_open reply ≡ false
 versions-closed history key reply e = ap is_open e ∙ history-closed (versions_of history key)
 
+-- nor is what tells how something was placed for a statement, or why it wasn't
+tx-read-closed : (n read : ℕ) → is_open (tx_read_reply n read) ≡ false
+unfolding tx_read_reply tx_reply
+tx-read-closed n read = refl
+
+conflict-closed : (key : List ℕ) (tx read : ℕ) → is_open (conflict_reply key tx read) ≡ false
+unfolding conflict_reply
+conflict-closed key tx read = refl
+
+full-read-closed : (read : ℕ) → is_open (full_read_reply read) ≡ false
+unfolding full_read_reply
+full-read-closed read = refl
+
+unplaced-closed : (why : PlaceError) (read : ℕ) (reply : List ℕ) → IsUnplacedReply why read reply → is_open reply ≡ false
+unplaced-closed place.Memory read reply e = absurd e
+unplaced-closed place.Full read reply e = ap is_open e ∙ full-read-closed read
+unplaced-closed (place.Missing key) read reply e = absurd e
+unplaced-closed (place.Exists key tx) read reply e = absurd e
+unplaced-closed (place.Modified key tx) read reply e = ap is_open e ∙ conflict-closed key tx read
+
+write-closed : (history : List Transaction) (sql : List ℕ) (n : ℕ) (reply : List ℕ) → IsWriteTold history sql n reply → is_open reply ≡ false
+write-closed history sql n reply w = go w.told
+  where
+    go : IsPlacedAs history w.asked w.read n reply ⊎ IsRefusedAs history w.asked w.read n reply → is_open reply ≡ false
+    go (inl placed) = ap is_open placed.told ∙ tx-read-closed n w.read
+    go (inr refused) = unplaced-closed refused.why w.read reply refused.told
+
+begun-closed : (reply : List ℕ) → Begins reply → is_open reply ≡ false
+begun-closed reply (rest, inl e) = ap is_open e
+begun-closed reply (rest, inr (inl e)) = ap is_open e
+begun-closed reply (rest, inr (inr e)) = ap is_open e
+
+-- nor is what a statement is answered
+pub statement-closed : (history : List Transaction) (sql : List ℕ) (n : ℕ) (reply : List ℕ) → IsSqlAnswer history sql n reply → is_open reply ≡ false
+statement-closed history sql n reply (inl fault) = ap is_open (fault.told ∙ (syntax-begins fault.fault).1)
+statement-closed history sql n reply (inr (inl a)) = begun-closed reply (told-begins a.answer reply a.told)
+statement-closed history sql n reply (inr (inr write)) = write-closed history sql n reply write
+
 -- nor is that to a header
 pub header-closed : (hash : Hash) (history : List Transaction) (k : ℕ) → is_open (header_reply hash history k) ≡ false
 unfolding header_reply
@@ -141,7 +182,8 @@ first-shown : (b : Bool) (x y reply : List ℕ) → is_open y ≡ false → repl
 first-shown true x y reply closed e open_now = (refl, e)
 first-shown false x y reply closed e open_now = absurd (both_ways (is_open reply) (ap is_open e ∙ closed) open_now)
 
-above : (n : ℕ) → (n ≡ 0 → ⊥) → 1 ≤ n
+-- a number that isn't 0
+pub above : (n : ℕ) → (n ≡ 0 → ⊥) → 1 ≤ n
 above zero h = absurd (h refl)
 above (suc n) h = omega arith
 

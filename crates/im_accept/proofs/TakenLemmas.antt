@@ -20,7 +20,7 @@ use Rattle.im_wire.specs.declared.messages.Message.{Message}
 use Rattle.im_wire.specs.declared.messages.Message.TheVariants as says
 use Rattle.im_script.specs.declared.commands.Line.{Line}
 use Rattle.im_script.specs.declared.commands.Command.{Command}
-use Rattle.im_script.specs.declared.commands.Command.TheVariants.{Set, Get, Scan, History, Header, State, Prove, Advance, Item, Link}
+use Rattle.im_script.specs.declared.commands.Command.TheVariants.{Set, Get, Scan, History, Header, State, Prove, Advance, Item, Link, Sql}
 use Rattle.im_proof.specs.Between.{anchor_between, dual_between}
 use Rattle.im_report.specs.Replies.{item_reply}
 use Rattle.im_report.specs.Report.{Answered, IsAnswer, Report}
@@ -33,7 +33,7 @@ use Rattle.im_accept.specs.Taken.{kept_number, next_number, line_text, AreReadBa
 use Rattle.im_accept.proofs.DigitLemmas.{decimal-word}
 use Rattle.im_accept.proofs.FactLemmas.{anchor-shown, both-shown, entry-shown, facts-agree, facts-more, header-of-it}
 use Rattle.im_accept.proofs.PassLemmas.{advance-passes, between-target, dual-passes, first-state-passes, item-passes, same-state-passes}
-use Rattle.im_accept.proofs.ShownLemmas.{advance-shown, get-closed, header-closed, item-shown, prove-shown, scanned-closed, set-closed, state-shown, versions-closed}
+use Rattle.im_accept.proofs.ShownLemmas.{advance-shown, get-closed, header-closed, item-shown, prove-shown, scanned-closed, set-closed, state-shown, statement-closed, versions-closed}
 
 -- an answered line is a reply
 pub line-replies : (a : Answered) → IsSession a.line.session → a.number ≤ 1048576 → IsReply (line_text a) a.reply
@@ -205,6 +205,8 @@ taken-by hash h session (Item t i (Some s)) n reply history within replies answe
     item-taken hash h session (Item t i (Some s)) n reply t i s history within replies (λ e. cc) refl refl answer is_now (read is_now)
 taken-by hash h session (Link count) n reply history within replies answer read is_now =
     absurd (both_ways (is_open reply) (ap is_open answer) is_now)
+taken-by hash h session (Sql sql) n reply history within replies answer read is_now =
+    absurd (both_ways (is_open reply) (statement-closed h sql n reply answer) is_now)
 
 -- the sessions of answered lines
 pub sessions-are : (answers : List Answered) → HaveSessions (map (λ a. a.line) answers) → All (λ a. IsSession a.line.session) answers

@@ -10,7 +10,7 @@ use Rattle.im_wire.specs.Messages.{HasMessage}
 use Rattle.im_wire.specs.declared.messages.Message.{Message}
 use Rattle.im_wire.specs.declared.messages.Message.TheVariants as says
 use Rattle.im_script.specs.declared.commands.Command.{Command}
-use Rattle.im_script.specs.declared.commands.Command.TheVariants.{Set, Get, Scan, History, Header, State, Prove, Advance, Item, Link}
+use Rattle.im_script.specs.declared.commands.Command.TheVariants.{Set, Get, Scan, History, Header, State, Prove, Advance, Item, Link, Sql}
 use Rattle.im_proof.specs.Between.{anchor_between, dual_between, no_entry}
 
 -- entry i of transaction t, with its path there and the dual proof from t to s
@@ -32,6 +32,7 @@ message_at hash history (Advance s t) = Some (says.Advance (dual_between hash hi
 message_at hash history (Item t i None) = Some (item_between hash history t i (length history))
 message_at hash history (Item t i (Some s)) = Some (item_between hash history t i s)
 message_at hash history (Link count) = None
+message_at hash history (Sql text) = None
 
 -- a reply that begins as an object does, and so is no refusal, is read as the message that was asked for
 abbrev pub IsReadBack : Hash → List Transaction → Command → List ℕ → Type 0

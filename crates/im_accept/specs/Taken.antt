@@ -11,7 +11,7 @@ use Rattle.im_wire.specs.Texts.{text}
 use Rattle.im_wire.specs.declared.messages.Message.{Message}
 use Rattle.im_script.specs.declared.commands.Line.{Line}
 use Rattle.im_script.specs.declared.commands.Command.{Command}
-use Rattle.im_script.specs.declared.commands.Command.TheVariants.{Set, Get, Scan, History, Header, State, Prove, Advance, Item, Link}
+use Rattle.im_script.specs.declared.commands.Command.TheVariants.{Set, Get, Scan, History, Header, State, Prove, Advance, Item, Link, Sql}
 use Rattle.im_proof.specs.Between.{no_entry}
 use Rattle.im_report.specs.Report.{Answered}
 use Rattle.im_client.specs.Lines.{state_with}
@@ -35,6 +35,7 @@ kept_number (Advance s t) n = Some s
 kept_number (Item t i None) n = Some n
 kept_number (Item t i (Some s)) n = Some s
 kept_number (Link count) n = None
+kept_number (Sql text) n = None
 
 -- the number of the transaction whose header it keeps behind that reply: an advance leads it on
 abbrev pub next_number : Command → ℕ → ℕ
@@ -48,6 +49,7 @@ next_number (Prove s t) kept = kept
 next_number (Advance s t) kept = t
 next_number (Item t i under) kept = kept
 next_number (Link count) kept = kept
+next_number (Sql text) kept = kept
 
 -- a header is that of its transaction in this history
 pub record IsHeaderOf (hash : Hash) (history : List Transaction) (header : TheHeader) : Type 0 where

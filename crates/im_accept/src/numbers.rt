@@ -18,7 +18,8 @@ pub fn kept_number(command: &Command, n: u64) -> Option<u64>
         | Command::Scan { .. }
         | Command::History { .. }
         | Command::Header { .. }
-        | Command::Link { .. } => None,
+        | Command::Link { .. }
+        | Command::Sql { .. } => None,
     }
 }
 

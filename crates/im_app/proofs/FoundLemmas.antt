@@ -1,7 +1,7 @@
 -- What a run leaves of the history that was found.
-use Rattle.std.proofs.Common.{◌≡◌, List, length, take, ◌∙◌, Option, Some, inl, inr}
+use Rattle.std.proofs.Common.{◌≡◌, ◌≤◌, ℕ, List, length, take, ◌∙◌, Option, Some, ap, arith, inl, inr, subst, sym}
 use Rattle.std.proofs.Math.Seq.{take-length}
-use Rattle.std.proofs.lemmas.List.{take-take}
+use Rattle.std.proofs.lemmas.List.{length-take, take-take, take_all}
 use Rattle.im_digest.specs.Digests.{Hash}
 use Rattle.im_disk.specs.Disk.{Files, Told, after}
 use Rattle.im_disk.specs.Moments.{Leaves}
@@ -10,6 +10,10 @@ use Rattle.im_disk.proofs.Leaving.{leaves_weaker}
 use Rattle.im_format.specs.Standing.{Stands, StandsFrom}
 use Rattle.im_model.specs.declared.transactions.Transaction.{Transaction}
 use Rattle.im_opening.specs.Cut.{WasOpened}
+use Rattle.im_sqlmodel.specs.Kept.{IsSqlKept, IsSqlSound}
+use Rattle.im_table.specs.Histories.{history_of}
+use Rattle.im_table.specs.declared.items.LogItem.{LogItem}
+use Rattle.im_table.proofs.HistoryLemmas.{history_length}
 use Rattle.im_app.specs.Runs.{ContinuesHistory, KeepsFound}
 
 -- an image that stands for the history itself
@@ -36,3 +40,16 @@ pub served-keeps : (hash : Hash) (found all : List Transaction) (t : Told) (now 
     → Leaves (StandsFrom hash (length found) all) (Some (after Synced t)) now → KeepsFound hash found t now
 served-keeps hash found all t now begins leaves =
     inr (inr (leaves_weaker (StandsFrom hash (length found) all) (ContinuesHistory hash found) (from-begins hash found all begins) (Some (after Synced t)) now leaves))
+
+-- where a history's keys are SQL's after each transaction, so are those of a history that it begins with
+pub front-kept : (found all : List Transaction) → take (length found) all ≡ found → IsSqlKept all → IsSqlKept found
+front-kept found all begins kept n low =
+    let size : length found ≤ length all = omega (arith, ap length begins, length-take (length found) all) in
+    subst IsSqlSound (sym (take-take n (length found) all low) ∙ ap (λ (h : List Transaction). take n h) begins) (kept n (omega (arith, low, size)))
+
+-- all that was found is its own first part
+pub whole-taken : (items : List LogItem) (n : ℕ) → n ≡ length items → take n (history_of items) ≡ history_of items
+whole-taken items n count = take_all n (history_of items) (omega (arith, count, history_length items))
+
+pub whole-low : (items : List LogItem) (n : ℕ) → n ≡ length items → n ≤ length (history_of items)
+whole-low items n count = omega (arith, count, history_length items)

@@ -7,4 +7,5 @@ pub mod ReportLemmas
 pub mod RunLemmas
 pub mod ServedLemmas
 pub mod ShownLemmas
+pub mod UnkeptLemmas
 pub mod VerdictLemmas

@@ -6,16 +6,14 @@ use Rattle.std.proofs.lemmas.List.Elements.{All-head, All-tail}
 use Rattle.std.proofs.lemmas.List.FromFn.{length-range_with_len}
 use Rattle.std.specs.List.{All, AllPairs, range_with_len}
 use Rattle.std.specs.Prelude.{IsTrue}
-use Rattle.std.specs.Str.{bytes_eq}
 use Rattle.im_digest.specs.Digests.{Hash}
 use Rattle.im_model.specs.declared.transactions.Transaction.{Transaction}
 use Rattle.im_gen.specs.Generator.{generator_after, key_of, linked_of, placed_of}
-use Rattle.im_report.specs.Replies.{tx_reply}
-use Rattle.im_report.specs.Report.{Answered, IsAnswer, Report, floor_after, floor_by, is_placed}
+use Rattle.im_report.specs.Report.{Answered, IsAnswer, Report, floor_after, floor_by, is_placed, tells_tx}
 use Rattle.im_report.proofs.PlacedLemmas.{advance-not-placed, get-not-placed, header-not-placed, history-not-placed, item-not-placed, linked-not-placed, prove-not-placed, scanned-not-placed, state-not-placed}
 use Rattle.im_script.specs.Script.{deletion}
 use Rattle.im_script.specs.declared.commands.Command.{Command}
-use Rattle.im_script.specs.declared.commands.Command.TheVariants.{Set, Get, Scan, History, Header, State, Prove, Advance, Item, Link}
+use Rattle.im_script.specs.declared.commands.Command.TheVariants.{Set, Get, Scan, History, Header, State, Prove, Advance, Item, Link, Sql}
 use Rattle.im_script.specs.declared.commands.Line.{Line}
 use Rattle.im_app.specs.GeneratedLines.{asked_commands, behind_commands, generated_entry, generated_key, generated_line, own_command, script_commands, script_lines}
 use Rattle.im_text.proofs.CutLemmas.{head-is}
@@ -32,6 +30,7 @@ sets (Prove s t) = false
 sets (Advance s t) = false
 sets (Item t i under) = false
 sets (Link count) = false
+sets (Sql text) = true
 
 -- by how many transactions it raises the tree
 abbrev raises : Command → ℕ
@@ -45,6 +44,7 @@ raises (Prove s t) = 0
 raises (Advance s t) = 0
 raises (Item t i under) = 0
 raises (Link count) = count
+raises (Sql text) = 0
 
 -- how many of these commands ask for a transaction
 abbrev set_count : List Command → ℕ
@@ -62,18 +62,19 @@ command_of a = a.line.command
 
 -- ---- a line that placed something asked for it
 
-placed-sets : (hash : Hash) (h : List Transaction) (c : Command) (n : ℕ) (reply : List ℕ) → IsAnswer hash h c n reply → bytes_eq reply (tx_reply n) ≡ true → sets c ≡ true
+placed-sets : (hash : Hash) (h : List Transaction) (c : Command) (n : ℕ) (reply : List ℕ) → IsAnswer hash h c n reply → tells_tx reply n ≡ true → sets c ≡ true
 placed-sets hash h (Set pres drafts) n reply is placed = refl
 placed-sets hash h (Get key at) n reply is placed = absurd (both_ways _ (get-not-placed _ key at reply n is) placed)
 placed-sets hash h (Scan prefix at) n reply is placed = absurd (both_ways _ (scanned-not-placed _ prefix at reply n is) placed)
-placed-sets hash h (History key) n reply is placed = absurd (both_ways _ (ap (λ (r : List ℕ). bytes_eq r (tx_reply n)) is ∙ history-not-placed _ n) placed)
-placed-sets hash h (Header k) n reply is placed = absurd (both_ways _ (ap (λ (r : List ℕ). bytes_eq r (tx_reply n)) is ∙ header-not-placed hash _ k n) placed)
-placed-sets hash h State n reply is placed = absurd (both_ways _ (ap (λ (r : List ℕ). bytes_eq r (tx_reply n)) is ∙ state-not-placed hash _ n) placed)
-placed-sets hash h (Prove s t) n reply is placed = absurd (both_ways _ (ap (λ (r : List ℕ). bytes_eq r (tx_reply n)) is ∙ prove-not-placed hash _ s t n) placed)
-placed-sets hash h (Advance s t) n reply is placed = absurd (both_ways _ (ap (λ (r : List ℕ). bytes_eq r (tx_reply n)) is ∙ advance-not-placed hash _ s t n) placed)
-placed-sets hash h (Item t i None) n reply is placed = absurd (both_ways _ (ap (λ (r : List ℕ). bytes_eq r (tx_reply n)) is ∙ item-not-placed hash _ t i n n) placed)
-placed-sets hash h (Item t i (Some s)) n reply is placed = absurd (both_ways _ (ap (λ (r : List ℕ). bytes_eq r (tx_reply n)) is ∙ item-not-placed hash _ t i s n) placed)
-placed-sets hash h (Link count) n reply is placed = absurd (both_ways _ (ap (λ (r : List ℕ). bytes_eq r (tx_reply n)) is ∙ linked-not-placed n) placed)
+placed-sets hash h (History key) n reply is placed = absurd (both_ways _ (ap (λ (r : List ℕ). tells_tx r n) is ∙ history-not-placed _ n) placed)
+placed-sets hash h (Header k) n reply is placed = absurd (both_ways _ (ap (λ (r : List ℕ). tells_tx r n) is ∙ header-not-placed hash _ k n) placed)
+placed-sets hash h State n reply is placed = absurd (both_ways _ (ap (λ (r : List ℕ). tells_tx r n) is ∙ state-not-placed hash _ n) placed)
+placed-sets hash h (Prove s t) n reply is placed = absurd (both_ways _ (ap (λ (r : List ℕ). tells_tx r n) is ∙ prove-not-placed hash _ s t n) placed)
+placed-sets hash h (Advance s t) n reply is placed = absurd (both_ways _ (ap (λ (r : List ℕ). tells_tx r n) is ∙ advance-not-placed hash _ s t n) placed)
+placed-sets hash h (Item t i None) n reply is placed = absurd (both_ways _ (ap (λ (r : List ℕ). tells_tx r n) is ∙ item-not-placed hash _ t i n n) placed)
+placed-sets hash h (Item t i (Some s)) n reply is placed = absurd (both_ways _ (ap (λ (r : List ℕ). tells_tx r n) is ∙ item-not-placed hash _ t i s n) placed)
+placed-sets hash h (Link count) n reply is placed = absurd (both_ways _ (ap (λ (r : List ℕ). tells_tx r n) is ∙ linked-not-placed n) placed)
+placed-sets hash h (Sql text) n reply is placed = refl
 
 -- each line that placed something asked for it
 abbrev Asked : List Answered → Type 0
@@ -160,6 +161,7 @@ raised-by (Prove s t) n p f fits low = omega arith
 raised-by (Advance s t) n p f fits low = omega arith
 raised-by (Item t i under) n p f fits low = omega arith
 raised-by (Link count) n p f fits low = omega (arith, fits, low)
+raised-by (Sql text) n p f fits low = omega arith
 
 -- the numbers of the lines that placed something follow p
 abbrev Follow : ℕ → List Answered → Type 0

@@ -171,6 +171,7 @@ module _ {D : Type 0} (told : D → Option Told) (faults : D → ℕ) (link : Li
     lines_are = s.script_is;
     history = s.history;
     report = s.report;
+    kept = s.kept;
     timed = subst (λ (k : ℕ). All (HasTime n.time) (drop k s.history)) same-size s.timed;
     texts = phases-texts n.digest (has_linker link) found s.history s.phases s.report (named octets reads);
     taken = phases-taken n.digest (has_linker link) found s.history s.phases s.report (named octets reads) s.again;

@@ -1,5 +1,5 @@
 -- How a run goes on from what opening and the sessions answered.
-use Rattle.std.proofs.Common.{◌≡◌, ℕ, ℤ, List, [], refl, sym, ◌∙◌, ap, subst, Result, Ok, Err, Option, Some, None, IfSome, inl, arith}
+use Rattle.std.proofs.Common.{◌≡◌, ℕ, ℤ, List, [], refl, sym, ◌∙◌, ap, subst, Result, Ok, Err, Option, Some, None, IfSome, inl, inr, ◌⊎◌, arith}
 use Rattle.std.proofs.KnownBytes.{Consumes-nil}
 use Rattle.im_edge.specs.Sources.{TakesAtMost}
 use Rattle.im_digest.specs.Digests.{Hash}
@@ -12,9 +12,11 @@ use Rattle.im_session.specs.declared.errors.LineError.{LineError}
 use Rattle.im_session.specs.declared.errors.LineError.TheVariants as fails
 use Rattle.im_session.specs.declared.serve.Stopped.{Stopped}
 use Rattle.im_session.specs.declared.serve.Stopped.TheVariants as stops
+use Rattle.im_sqlmodel.specs.declared.answers.KeptError.{KeptError}
+use Rattle.im_sqlmodel.specs.declared.answers.KeptError.TheVariants as judged
 use Rattle.im_words.specs.declared.Link.{Link}
 use Rattle.im_app.specs.Runs.{HasOneSession, IsGiven, LeavesFound, WritesFront, WritesPart, WritesReport, opening_error}
-use Rattle.im_app.specs.Statuses.{EndsReading, EndsWriting, status_behind, status_by, status_for}
+use Rattle.im_app.specs.Statuses.{EndsReading, EndsWriting, status_behind, status_by, status_for, status_kept}
 use Rattle.im_app.specs.declared.status.Status.{Status}
 use Rattle.im_app.specs.declared.status.Status.TheVariants as the
 
@@ -61,6 +63,47 @@ undamaged (Ok x) damage e = cc
 undamaged (Err (stops.Line fails.DiskFault)) damage e = cc
 undamaged (Err (stops.Line fails.Memory)) damage e = cc
 undamaged (Err stops.Write) damage e = cc
+
+-- nor with keys that aren't SQL's
+pub no-unkept : (end : Result Unit Stopped) (tx : ℕ) → status_behind end ≡ the.SqlKept tx → ⊥
+no-unkept (Ok x) tx e = cc
+no-unkept (Err (stops.Line fails.DiskFault)) tx e = cc
+no-unkept (Err (stops.Line fails.Memory)) tx e = cc
+no-unkept (Err stops.Write) tx e = cc
+
+-- a judgement that ended a run so ran out of memory
+pub judged-by : (error : KeptError) (why : LineError) → status_kept error ≡ status_for why → why ≡ fails.Memory
+judged-by judged.Memory fails.DiskFault e = absurd cc
+judged-by judged.Memory fails.Memory e = refl
+judged-by (judged.NotKept tx) fails.DiskFault e = absurd cc
+judged-by (judged.NotKept tx) fails.Memory e = absurd cc
+
+-- the transaction that is told is the one that was judged
+pub unkept-by : (error : KeptError) (tx : ℕ) → status_kept error ≡ the.SqlKept tx → error ≡ judged.NotKept tx
+unkept-by judged.Memory tx e = absurd cc
+unkept-by (judged.NotKept found) tx e = cc
+
+-- a judgement ends a run over a store so
+pub judged-ends : (error : KeptError) → EndsWriting (status_kept error)
+judged-ends judged.Memory = tt
+judged-ends (judged.NotKept tx) = tt
+
+-- and in no other way
+pub judged-not-done : (error : KeptError) → status_kept error ≡ the.Ok → ⊥
+judged-not-done judged.Memory e = cc
+judged-not-done (judged.NotKept tx) e = cc
+
+pub judged-no-write : (error : KeptError) → status_kept error ≡ the.WriteFault → ⊥
+judged-no-write judged.Memory e = cc
+judged-no-write (judged.NotKept tx) e = cc
+
+pub judged-no-fault : (error : KeptError) → status_kept error ≡ the.DiskFault → ⊥
+judged-no-fault judged.Memory e = cc
+judged-no-fault (judged.NotKept tx) e = cc
+
+pub judged-undamaged : (error : KeptError) (damage : Damage) → status_kept error ≡ the.Damaged damage → ⊥
+judged-undamaged judged.Memory damage e = cc
+judged-undamaged (judged.NotKept tx) damage e = cc
 
 -- an opening that ended a run so ended in that error
 pub opening-by : (error : OpenError) (why : LineError) → status_by error ≡ status_for why → error ≡ opening_error why
@@ -161,3 +204,21 @@ takes-none most left = ([], omega arith, Consumes-nil left)
 -- a disk that wasn't touched counts what it counted
 pub alone-same : (left : Option (List ℕ)) (n : ℕ) → IfSome left (λ script. (phases : List (List Line)) → IsGiven script phases → HasOneSession phases → n ≡ n)
 alone-same left n = if-told left (λ script. (phases : List (List Line)) → IsGiven script phases → HasOneSession phases → n ≡ n) (λ script told phases given one. refl)
+
+-- the ways to end of a run whose script was read, where neither the sink nor the disk failed and memory was there
+pub by-writing : (status : Status) → EndsWriting status → (status ≡ the.WriteFault → ⊥) → (status ≡ the.DiskFault → ⊥) → (status ≡ the.Memory → ⊥)
+    → (status ≡ the.Ok) ⊎ (((damage : Damage) × (status ≡ the.Damaged damage)) ⊎ ((tx : ℕ) × (status ≡ the.SqlKept tx)))
+by-writing the.Ok ends no_write no_fault no_want = inl refl
+by-writing the.Usage ends no_write no_fault no_want = absurd ends
+by-writing (the.Script line) ends no_write no_fault no_want = absurd ends
+by-writing the.ReadFault ends no_write no_fault no_want = absurd ends
+by-writing the.WriteFault ends no_write no_fault no_want = absurd (no_write refl)
+by-writing the.DiskFault ends no_write no_fault no_want = absurd (no_fault refl)
+by-writing (the.Damaged damage) ends no_write no_fault no_want = inr (inl (damage, refl))
+by-writing the.KeeperFault ends no_write no_fault no_want = absurd ends
+by-writing the.Refused ends no_write no_fault no_want = absurd ends
+by-writing the.Forked ends no_write no_fault no_want = absurd ends
+by-writing the.Memory ends no_write no_fault no_want = absurd (no_want refl)
+by-writing the.Long ends no_write no_fault no_want = absurd ends
+by-writing (the.Kept line) ends no_write no_fault no_want = absurd ends
+by-writing (the.SqlKept tx) ends no_write no_fault no_want = inr (inr (tx, refl))

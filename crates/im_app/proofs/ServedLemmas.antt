@@ -22,7 +22,7 @@ use Rattle.im_app.specs.Statuses.{EndsWriting, status_behind, status_for}
 use Rattle.im_app.specs.declared.status.Status.{Status}
 use Rattle.im_app.specs.declared.status.Status.TheVariants as the
 use Rattle.im_app.proofs.ReportLemmas.{as-opened, device-alone, device-rose, device-same, front-report, grows, keeps, part-report, sink-rose, sink-same, whole-report, writes-once}
-use Rattle.im_app.proofs.RunLemmas.{done-end, ends-writing, line-end, undamaged, unstopped, write-end}
+use Rattle.im_app.proofs.RunLemmas.{done-end, ends-writing, line-end, no-unkept, undamaged, unstopped, write-end}
 
 -- A disk was opened as a store under this hash, with so many logs and this clock, and the phases of a script were served over it.
 pub record RanOver {D : Type 0} (told : D → Option Told) (faults : D → ℕ) (hash : Hash) (time : Option ℤ) (logs : ℕ) (link : Link) (lines : List (List Line)) (before : D) (times_before : Option (List ℤ))
@@ -67,6 +67,9 @@ module _ {D : Type 0} {told : D → Option Told} {faults : D → ℕ} {hash : Ha
 
   pub ran-undamaged : (damage : Damage) → status ≡ the.Damaged damage → ⊥
   ran-undamaged damage e = undamaged r.end damage (ended (the.Damaged damage) e)
+
+  pub ran-no-unkept : (tx : ℕ) → status ≡ the.SqlKept tx → ⊥
+  ran-no-unkept tx e = no-unkept r.end tx (ended (the.SqlKept tx) e)
 
   pub ran-report : (octets : List ℕ) → IsGiven octets lines → status ≡ the.Ok
       → WritesReport hash time logs link (Some octets) (told before) (told disk) times_before times_now written_before written_now sink_before sink_now

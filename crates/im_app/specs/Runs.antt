@@ -20,6 +20,7 @@ use Rattle.im_session.specs.Served.{AskedFor, HasTime, WritesPhases}
 use Rattle.im_session.specs.declared.errors.LineError.{LineError}
 use Rattle.im_session.specs.declared.errors.LineError.TheVariants as line
 use Rattle.im_session.specs.declared.serve.Stopped.TheVariants as stops
+use Rattle.im_sqlmodel.specs.Kept.{IsFirstUnsound, IsSqlKept}
 use Rattle.im_text.specs.Lines.{AreTexts}
 use Rattle.im_words.specs.declared.Link.{Link}
 use Rattle.im_words.specs.declared.Link.TheVariants.{Auto, Manual}
@@ -48,7 +49,8 @@ pub record MakesRun (hash : Hash) (logs n durable : ℕ) (history : List Transac
   pub opening : IfSome before (λ t. IsOpenedBy (gate_of (length sessions.first)) t opened)
 
 -- What a run of a script came to, as far as its phases were run, at the clock's time where it tells one: one history, which begins with the one
--- that the disk was found with. Of each line that was answered the reply is what that history says at the number before it; of
+-- that the disk was found with, and after each transaction of which the keys that begin with octet 00 are SQL's. Of each line that was answered
+-- the reply is what that history says at the number before it, or, of a statement that writes, at the number that it tells to have read; of
 -- each phase, what is written is its replies before the first line without one, in the script's order, and cut at each LF they are those answered lines.
 -- Each reply that is a message is accepted by every client that it is for: a state by one that keeps none or that very header, an
 -- advance by one that keeps its source, a dual proof and an item by one that keeps its target. Behind an advance that client keeps
@@ -68,6 +70,7 @@ pub record IsReport (hash : Hash) (constant : Option ℤ) (logs : ℕ) (link : L
   pub lines_are : lines ≡ lines_in phases ++ unrun
   pub history : List Transaction
   pub report : SessionsReport hash (has_linker link) found history phases
+  pub kept : IsSqlKept history
   pub timed : All (HasTime constant) (drop (length found) history)
   pub texts : All (λ outcomes. AreTexts (phase_text outcomes) (map line_text (first_replies outcomes))) phases
   pub taken : All (λ outcomes. AreAcceptedAnswers hash history (replies_in outcomes)) phases
@@ -130,6 +133,15 @@ abbrev pub LeavesFound : Hash → LineError → Option Told → Option Told → 
 LeavesFound hash why before now =
     (t : Told) (found : List Transaction) → before ≡ Some t → (stands : Stands hash (seen t) found)
     → WasOpened hash found t now × WasBegun (opening_error why) (gate_of (length stands.batches)) t now
+
+-- A disk whose files stand for a history was opened, and nothing else was done to it: this is the first transaction after which the history's keys that begin with
+-- octet 00 aren't SQL's. It got the calls of opening, and at every moment since the first sync each image has stood for that history.
+pub record FindsUnkept (hash : Hash) (before now : Option Told) (tx : ℕ) : Type 0 where
+  pub found : List Transaction
+  pub stands : IfSome before (λ t. Stands hash (seen t) found)
+  pub first : IsFirstUnsound found tx
+  pub moments : IfSome before (λ t. Leaves (λ image. Stands hash image found) (Some (after Synced t)) now)
+  pub calls : (t : Told) → before ≡ Some t → (stands : Stands hash (seen t) found) → IsOpenedBy (gate_of (length stands.batches)) t now
 
 -- the image stands for a history that begins with this one
 pub record ContinuesHistory (hash : Hash) (found : List Transaction) (image : Files) : Type 0 where

@@ -4,12 +4,14 @@ use Rattle.std.specs.Fmt.{decimal}
 use Rattle.im_opening.specs.declared.errors.OpenError.{OpenError}
 use Rattle.im_opening.specs.declared.errors.OpenError.TheVariants as opened
 use Rattle.im_session.specs.declared.errors.LineError.{LineError}
+use Rattle.im_sqlmodel.specs.declared.answers.KeptError.{KeptError}
+use Rattle.im_sqlmodel.specs.declared.answers.KeptError.TheVariants as judged
 use Rattle.im_session.specs.declared.errors.LineError.TheVariants as line
 use Rattle.im_session.specs.declared.serve.Stopped.{Stopped}
 use Rattle.im_session.specs.declared.serve.Stopped.TheVariants as stops
 use Rattle.im_app.specs.Damages.{damage_words}
 use Rattle.im_app.specs.declared.status.Status.{Status}
-use Rattle.im_app.specs.declared.status.Status.TheVariants.{Ok, Usage, Script, ReadFault, WriteFault, DiskFault, Damaged, KeeperFault, Refused, Forked, Memory, Long, Kept}
+use Rattle.im_app.specs.declared.status.Status.TheVariants.{Ok, Usage, Script, ReadFault, WriteFault, DiskFault, Damaged, KeeperFault, Refused, Forked, Memory, Long, Kept, SqlKept}
 
 -- the program's exit status
 unfoldable pub code_of : Status → ℕ
@@ -26,6 +28,7 @@ code_of Forked = 10
 code_of Memory = 11
 code_of Long = 12
 code_of (Kept line) = 13
+code_of (SqlKept tx) = 14
 
 -- the words on standard error, where something is said there
 unfoldable pub words_of : Status → List ℕ
@@ -42,12 +45,14 @@ words_of Forked = codes "forked"
 words_of Memory = codes "memory"
 words_of Long = codes "long"
 words_of (Kept line) = codes "kept"
+words_of (SqlKept tx) = codes "sql"
 
--- what stands behind the words: the number of a line, or what is said of a damage
+-- what stands behind the words: the number of a line or of a transaction, or what is said of a damage
 unfoldable pub behind_words : Status → List ℕ
 behind_words (Script line) = codes " " ++ decimal line
 behind_words (Damaged damage) = codes " " ++ damage_words damage
 behind_words (Kept line) = codes " " ++ decimal line
+behind_words (SqlKept tx) = codes " " ++ decimal tx
 behind_words _ = []
 
 -- all that is said on standard error at an end: nothing where all was done, and else one line
@@ -70,6 +75,7 @@ EndsRun Forked = ⊥
 EndsRun Memory = Unit {0}
 EndsRun Long = Unit {0}
 EndsRun (Kept line) = ⊥
+EndsRun (SqlKept tx) = Unit {0}
 
 -- words that ask for `verify` end so, where clap refuses them too
 abbrev pub EndsVerify : Status → Type 0
@@ -86,6 +92,7 @@ EndsVerify Forked = Unit {0}
 EndsVerify Memory = Unit {0}
 EndsVerify Long = Unit {0}
 EndsVerify (Kept line) = Unit {0}
+EndsVerify (SqlKept tx) = ⊥
 
 -- words that ask for `show` end so, where clap refuses them too
 abbrev pub EndsShow : Status → Type 0
@@ -102,6 +109,7 @@ EndsShow Forked = ⊥
 EndsShow Memory = Unit {0}
 EndsShow Long = ⊥
 EndsShow (Kept line) = Unit {0}
+EndsShow (SqlKept tx) = ⊥
 
 -- words that ask for a generated script end so, where clap refuses them too
 abbrev pub EndsGenerated : Status → Type 0
@@ -118,6 +126,7 @@ EndsGenerated Forked = ⊥
 EndsGenerated Memory = Unit {0}
 EndsGenerated Long = ⊥
 EndsGenerated (Kept line) = ⊥
+EndsGenerated (SqlKept tx) = ⊥
 
 -- reading a script ends so where it gives no lines
 abbrev pub EndsReading : Status → Type 0
@@ -134,6 +143,7 @@ EndsReading Forked = ⊥
 EndsReading Memory = Unit {0}
 EndsReading Long = Unit {0}
 EndsReading (Kept line) = ⊥
+EndsReading (SqlKept tx) = ⊥
 
 -- a run whose script was read ends so
 abbrev pub EndsWriting : Status → Type 0
@@ -150,12 +160,18 @@ EndsWriting Forked = ⊥
 EndsWriting Memory = Unit {0}
 EndsWriting Long = ⊥
 EndsWriting (Kept line) = ⊥
+EndsWriting (SqlKept tx) = Unit {0}
 
 -- the status of a disk that wasn't opened
 abbrev pub status_by : OpenError → Status
 status_by opened.DiskFault = DiskFault
 status_by (opened.Damaged damage) = Damaged damage
 status_by opened.Memory = Memory
+
+-- the status of a disk whose keys that begin with octet 00 aren't known to be SQL's
+abbrev pub status_kept : KeptError → Status
+status_kept judged.Memory = Memory
+status_kept (judged.NotKept tx) = SqlKept tx
 
 -- the status of a line that got no reply
 abbrev pub status_for : LineError → Status
@@ -183,3 +199,4 @@ EndsGiven Forked = ⊥
 EndsGiven Memory = ⊥
 EndsGiven Long = ⊥
 EndsGiven (Kept line) = ⊥
+EndsGiven (SqlKept tx) = Unit {0}

@@ -12,11 +12,14 @@ ghost use Rattle.im_model.specs.declared.transactions.Transaction.{Transaction};
 ghost use Rattle.im_mtree.specs.Checks.{first_fail};
 ghost use Rattle.im_script.specs.Script.{StopsAfter};
 ghost use Rattle.im_app.specs.Fates.{HasRunFate};
-ghost use Rattle.im_app.specs.Runs.{GivesScript, HasOneSession, IsGiven, KeepsFound, LeavesFound, WritesFront, WritesPart, WritesReport, has_linker};
-ghost use Rattle.im_app.specs.Statuses.{EndsGiven, EndsReading, EndsRun, EndsWriting, status_behind, status_by, status_for};
+ghost use Rattle.im_app.specs.Runs.{FindsUnkept, GivesScript, HasOneSession, IsGiven, KeepsFound, LeavesFound, WritesFront, WritesPart, WritesReport, has_linker};
+ghost use Rattle.im_app.specs.Statuses.{EndsGiven, EndsReading, EndsRun, EndsWriting, status_behind, status_by, status_for, status_kept};
 ghost use Rattle.im_opening.specs.Cut.{SyncsAtMost};
 ghost use Rattle.im_script.specs.Script.{lines_of, names_of};
 ghost use Rattle.im_session.specs.Served.{Serves};
+ghost use Rattle.im_session.specs.Statements.{IsFoundKept};
+ghost use Rattle.im_sqlmodel.specs.Kept.{IsFirstUnsound, IsSqlKept};
+ghost use Rattle.im_table.specs.Histories.{history_of};
 ghost use Rattle.im_store.specs.Names.{naming_of};
 ghost use Rattle.im_session.specs.declared.errors.LineError.{LineError as Why};
 ghost use Rattle.im_session.specs.declared.serve.Stopped.{Stopped as TheStopped};
@@ -35,8 +38,10 @@ use im_script::phases::Script;
 use im_script::scripts::{ScriptError, read_script};
 use im_session::errors::LineError;
 use im_session::serve::{Served, Stopped, serve};
+use im_sql::kept::kept;
+use im_sqllaw::law::SqlKeys;
+use im_sqlmodel::answers::KeptError;
 use im_store::opened::{OpenFailed, Opened, open};
-use im_table::law::Free;
 use im_table::pass::Pass;
 use im_words::Link;
 use std::alloc::Global;
@@ -82,6 +87,30 @@ fn status_of(error: OpenError) -> Status
     }
 }
 
+// The status of a disk whose keys that begin with octet 00 aren't known to be SQL's.
+fn status_unkept(error: KeptError) -> Status
+    ensures { result ≡ status_kept error }
+{
+    match error {
+        KeptError::Memory => Status::Memory,
+        KeptError::NotKept { tx } => Status::SqlKept { tx },
+    }
+}
+
+// Whether the keys of what was found that begin with octet 00 are SQL's. It waits for nobody.
+fn judge<H: Hash32, D: Disk, C: Clock>(
+    alloc: Global,
+    opened: &Opened<'_, H, D, C, SqlKeys>,
+) -> Result<(), KeptError>
+    ensures kept { OnOk result (IsSqlKept (history_of opened.now.found)) }
+    ensures not_kept { (tx : ℕ) → result ≡ Err (KeptError.NotKept tx) → IsFirstUnsound (history_of opened.now.found) tx }
+{
+    let (keys, count) = opened.keys(alloc)?;
+    let judged = kept(alloc, &keys, count);
+    drop(keys);
+    judged
+}
+
 // How a run ends: the line that got no reply decides, and else whether the replies were written.
 fn status_after(end: Result<(), Stopped>) -> Status
     ensures { result ≡ status_behind end }
@@ -107,12 +136,12 @@ fn serve_script<
     alloc: Global,
     gate: &G,
     sink: &mut K,
-    opened: Opened<'_, H, D, C, Free>,
+    opened: Opened<'_, H, D, C, SqlKeys>,
     passes: Vec<Pass>,
     script: Script,
     links: bool,
 ) -> Done<D, C>
-    requires marked { All (λ item. item.found ≡ true) opened.found }
+    requires found { IsFoundKept opened.found }
     requires passes { (passes.items ≡ []) × (1 ≤ vec_capacity passes) }
     requires named { script.names.items ≡ names_of [] (lines_of script.phases.items) }
     requires few { length script.names.items ≤ 8 }
@@ -129,7 +158,8 @@ fn serve_script<
     }
 }
 
-// Opens a disk as a store, runs a script over it, and closes it. Where it isn't opened nothing is run.
+// Opens a disk as a store, judges the keys that begin with octet 00, runs a script over it, and closes it. Where it isn't opened, or where these keys aren't
+// SQL's, nothing is run.
 fn run_script<
     H: Hash32 + Sync,
     K: Sink,
@@ -166,6 +196,7 @@ fn run_script<
     ensures sound { (damage : Damage) (t : Told) (found : List Transaction) → D.told disk ≡ Some t → Stands (H.digest hash.now) (seen t) found
         → result.status ≡ Status.Damaged damage → ⊥ }
     ensures nothing { (damage : Damage) → result.status ≡ Status.Damaged damage → (sink.new ≡ sink.old) × (result.clock ≡ clock) }
+    ensures not_kept { (tx : ℕ) → result.status ≡ Status.SqlKept tx → FindsUnkept (H.digest hash.now) (D.told disk) (D.told result.disk) tx × (sink.new ≡ sink.old) × (result.clock ≡ clock) }
     ensures any_moment { (t : Told) (found : List Transaction) → D.told disk ≡ Some t → Stands (H.digest hash.now) (seen t) found
         → KeepsFound (H.digest hash.now) found t (D.told result.disk) }
     ensures unharmed { (t : Told) → D.told disk ≡ Some t → ((found : List Transaction) → Stands (H.digest hash.now) (seen t) found → ⊥)
@@ -188,7 +219,18 @@ fn run_script<
         };
     };
     match open(alloc, hash, disk, clock, logs) {
-        Ok(opened) => serve_script(rt, alloc, gate, sink, opened, passes, script, is_auto(link)),
+        Ok(opened) => match judge(alloc, &opened) {
+            Ok(()) => serve_script(rt, alloc, gate, sink, opened, passes, script, is_auto(link)),
+            Err(error) => {
+                drop(script);
+                let (disk, clock) = opened.close();
+                Done {
+                    status: status_unkept(error),
+                    disk,
+                    clock,
+                }
+            }
+        },
         Err(failed) => {
             drop(script);
             let OpenFailed { why, disk, clock } = failed;
@@ -208,7 +250,7 @@ fn is_auto(link: Link) -> bool
     matches!(link, Link::Auto)
 }
 
-/// Reads a script to its end, and answers its lines over what the disk holds, with so many value logs: phase by phase, in each of them every session
+/// Reads a script to its end, and answers its lines over what the disk holds, where its keys that begin with octet 00 are SQL's, with so many value logs: phase by phase, in each of them every session
 /// on a thread of its own, beside a linker where `link` says so, and an indexer. The replies of a phase are written as soon as it is joined. Where a line gets no
 /// reply, those before it are told, and no further phase is run.
 pub(crate) fn run<
@@ -263,6 +305,7 @@ pub(crate) fn run<
     ensures nothing { EndsReading result.status → (result.status ≡ Status.Memory → ⊥)
         → (sink.new ≡ sink.old) × ((result.clock ≡ clock) × (result.disk ≡ disk)) }
     ensures unread { (damage : Damage) → result.status ≡ Status.Damaged damage → (sink.new ≡ sink.old) × (result.clock ≡ clock) }
+    ensures not_kept { (tx : ℕ) → result.status ≡ Status.SqlKept tx → FindsUnkept (H.digest hash.now) (D.told disk) (D.told result.disk) tx × (sink.new ≡ sink.old) × (result.clock ≡ clock) }
     ensures read { result.status ≡ Status.ReadFault → Rose (S.faults source.old) (S.faults source.new) }
     ensures write { result.status ≡ Status.WriteFault → Rose (K.faults sink.old) (K.faults sink.new) }
     ensures device { result.status ≡ Status.DiskFault → Rose (D.faults disk) (D.faults result.disk) }

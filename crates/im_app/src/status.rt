@@ -35,6 +35,8 @@ pub enum Status {
     Long,
     /// 13: the number, from 1, of the first kept line that fails a check or is forked. Nothing was written or kept.
     Kept { line: u64 },
+    /// 14: the first transaction of what the disk holds after which the keys that begin with octet 00 aren't SQL's. Nothing was run.
+    SqlKept { tx: u64 },
 }
 
 impl Status {
@@ -57,6 +59,7 @@ impl Status {
             Status::Memory => 11,
             Status::Long => 12,
             Status::Kept { .. } => 13,
+            Status::SqlKept { .. } => 14,
         }
     }
 
@@ -79,6 +82,7 @@ impl Status {
             Status::Memory => "memory",
             Status::Long => "long",
             Status::Kept { .. } => "kept",
+            Status::SqlKept { .. } => "sql",
         }
     }
 
@@ -99,13 +103,14 @@ impl Status {
     }
 }
 
-// Adds the number of a line, or what is said of a damage.
+// Adds the number of a line or of a transaction, or what is said of a damage.
 #[tactic(auto, unfolding(crate::specs::Statuses::behind_words))]
 fn push_behind(alloc: Global, out: &mut Vec<u8>, status: Status) -> Result<(), AllocError>
     ensures { OnOk result (out.new.items ≡ out.old.items ++ behind_words status) }
 {
     match status {
         Status::Script { line } | Status::Kept { line } => push_number(alloc, out, b" ", line),
+        Status::SqlKept { tx } => push_number(alloc, out, b" ", tx),
         Status::Damaged(damage) => {
             out.extend_from_slice(b" ")?;
             out.extend_from_slice(damage_text(alloc, &damage)?.as_slice())

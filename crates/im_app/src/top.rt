@@ -24,7 +24,7 @@ ghost use Rattle.im_opening.specs.Cut.{SyncsAtMost};
 ghost use Rattle.im_session.specs.declared.errors.LineError.{LineError as Why};
 ghost use Rattle.im_script.specs.declared.commands.Line.{Line};
 ghost use Rattle.im_app.specs.Generated.{WritesGenerated, WritesGeneratedPart};
-ghost use Rattle.im_app.specs.Runs.{GivesScript, HasOneSession, IsGiven, KeepsFound, LeavesFound, WritesFront, WritesPart, WritesReport};
+ghost use Rattle.im_app.specs.Runs.{FindsUnkept, GivesScript, HasOneSession, IsGiven, KeepsFound, LeavesFound, WritesFront, WritesPart, WritesReport};
 ghost use Rattle.im_app.specs.Statuses.{EndsGenerated, EndsGiven, EndsReading, EndsRun, EndsShow, EndsVerify, status_for};
 
 use crate::generate::generate;
@@ -46,7 +46,7 @@ use std::thread::Threads;
 
 /// Runs the program on its words, of which the first is its name.
 ///
-/// `run` reads a script from the source to its end, opens the disk, and answers the lines over the history that it finds there, phase by phase: in
+/// `run` reads a script from the source to its end, opens the disk, judges whether the keys that begin with octet 00 are SQL's, and answers the lines over the history that it finds there, phase by phase: in
 /// a phase each session answers its lines in order on a thread of its own, beside a linker, with `--link auto`, and an indexer. Once a phase is joined its
 /// replies are written to the sink in the script's order. Each transaction that is told is durable by then. `verify` reads a stream of lines from the source to
 /// its end, takes the lines that the keeper holds, and then judges each line of the stream as a client that trusts nobody: an accepted message is kept, and
@@ -75,9 +75,10 @@ pub fn top<
     gate: &G,
 ) -> Done<D, C>
     // `run`, done: there is one history, which begins with the one that the disk was found with and for which its files now stand, whatever a crash does
-    // to them. The octets written are one reply for each line, in the script's order: what that history says of its line at the number before it. In a session no number
-    // falls, none is below one of an earlier phase, and that of a `tx` is above each before it; the lines that reply `tx` and the new transactions are one
-    // another's, by the number. Each of these was placed over a tree no smaller than its session, or one of an earlier phase, had linked; with one session and
+    // to them. After each of its transactions the keys that begin with octet 00 are SQL's. The octets written are one reply for each line, in the script's order: what that
+    // history says of its line at the number before it, and of a statement that writes, by what it read at the number that its reply tells behind `read`. In a session no
+    // number falls, nor does a statement read at fewer transactions than were told before it; none is below one of an earlier phase, and that of a `tx` is above each
+    // before it; the lines that reply `tx` and the new transactions are one another's, by the number. Each of these was placed over a tree no smaller than its session, or one of an earlier phase, had linked; with one session and
     // no linker over just that. Cut at each LF the octets are one line for each reply, as `verify` reads them. Each line that is a message is accepted
     // by every client that keeps the header it is for, a state by one that keeps none too, and whose facts are facts of that history; that client
     // then keeps the header that the message leads to, and facts of the history still; every other line is passed over. In the files the new
@@ -106,7 +107,11 @@ pub fn top<
     ensures given { AsksRun (map string_bytes words.now) → EndsGiven result.status → GivesScript (S.left source.old) (S.left source.new) }
     ensures unread { AsksRun (map string_bytes words.now) → IfSome (S.left source.old) (λ script. ((phases : List (List Line)) → IsGiven script phases → ⊥)
         → (sink.new ≡ sink.old) × ((result.clock ≡ clock) × (result.disk ≡ disk))) }
-    ensures nothing { AsksRun (map string_bytes words.now) → (EndsReading result.status × (result.status ≡ Status.Memory → ⊥)) ⊎ ((d : Damage) × (result.status ≡ Status.Damaged d)) → sink.new ≡ sink.old }
+    ensures nothing { AsksRun (map string_bytes words.now) → (EndsReading result.status × (result.status ≡ Status.Memory → ⊥)) ⊎ (((d : Damage) × (result.status ≡ Status.Damaged d)) ⊎ ((tx : ℕ) × (result.status ≡ Status.SqlKept tx))) → sink.new ≡ sink.old }
+
+    // Where the keys that begin with octet 00 of what was found aren't SQL's after each transaction, the first after which they aren't is told, and nothing was run: the
+    // disk got the calls of opening alone, and each image stands for what was found.
+    ensures not_kept { (tx : ℕ) → result.status ≡ Status.SqlKept tx → FindsUnkept (H.digest hash.now) (D.told disk) (D.told result.disk) tx }
 
     // At every moment of the call, once the first sync has succeeded, each image that a crash may leave of a disk that
     // was found with a history stands for one that begins with it. Before that nothing else is done to a disk. Files
@@ -232,7 +237,7 @@ pub fn top<
     ensures keeper_once { P.faults keeper.new ≤ P.faults keeper.old + 1 }
 
     // Words that `clap` takes, and no fault: what the source, the disk and the keeper hold decides, or memory is wanted.
-    // A script of the grammar within the limit is run over files that stand for a history, another stops at its first
+    // A script of the grammar within the limit is run over files that stand for a history whose keys that begin with octet 00 are SQL's, another stops at its first
     // bad line, and one too long is refused. A stream within the limit is told behind kept lines that pass, and else
     // stops at the first that doesn't.
     ensures complete { (AreWordsRefused (map string_bytes words.now) → ⊥) → AsksRun (map string_bytes words.now)
@@ -256,8 +261,8 @@ pub fn top<
     ensures clock { C.constant result.clock ≡ C.constant clock }
 
     // The clock comes back as it was from `verify`, from a script that wasn't read, and from a disk whose files are
-    // damaged; from `show` and `gen` too, by `show_idle` and `generated_idle`.
-    ensures idle { AsksVerify (map string_bytes words.now) ⊎ ((EndsReading result.status × (result.status ≡ Status.Memory → ⊥)) ⊎ ((d : Damage) × (result.status ≡ Status.Damaged d))) → result.clock ≡ clock }
+    // damaged, or whose keys aren't SQL's; from `show` and `gen` too, by `show_idle` and `generated_idle`.
+    ensures idle { AsksVerify (map string_bytes words.now) ⊎ ((EndsReading result.status × (result.status ≡ Status.Memory → ⊥)) ⊎ (((d : Damage) × (result.status ≡ Status.Damaged d)) ⊎ ((tx : ℕ) × (result.status ≡ Status.SqlKept tx)))) → result.clock ≡ clock }
 {
     match read_words(alloc, words) {
         Ok(Request::Run { logs, link }) => {

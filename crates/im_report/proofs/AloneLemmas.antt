@@ -11,14 +11,14 @@ use Rattle.im_model.proofs.HistoryLemmas.{IsHistory-take}
 use Rattle.im_model.specs.History.{no_transaction, transaction_of, IsHistory}
 use Rattle.im_model.specs.declared.transactions.Transaction.{Transaction}
 use Rattle.im_octet.proofs.Common.{all-left, all-right}
-use Rattle.im_report.proofs.FrontLemmas.{answer_same}
+use Rattle.im_report.proofs.FrontLemmas.{answer_same, may_ask_same}
 use Rattle.im_report.proofs.OutcomeLemmas.{all_in, cut_first, cut_replies, first_all, first_answered, flat_all, lines_all, lines_answered, numbers_answered, numbers_halted, replies_all_in, replies_answered, texts_all, times_all}
 use Rattle.im_report.proofs.RangeLemmas.{range-next, rising_range}
 use Rattle.im_report.proofs.SingleLemmas.{highest_each, one_session}
 use Rattle.im_report.specs.Alone.{IsOneLate, ReportsAlone, all_replies}
 use Rattle.im_report.specs.Further.{number_of_reply}
 use Rattle.im_report.specs.Outcomes.{AreAnswers, IsCutOff, IsLate, IsSession, Outcome, Rises, answer_or_none, answered, floors_told, halted, highest, line_in, not_run, number_or_none, numbers_in}
-use Rattle.im_report.specs.Report.{Answered, IsAnswer, Report, answer_line, floor_after, floor_by, floors, is_placed}
+use Rattle.im_report.specs.Report.{Answered, IsAnswer, ReadsFrom, Report, answer_line, floor_after, floor_by, floors, is_placed}
 use Rattle.im_report.specs.Sessions.{AreAnswered, AreOfOne, IsJustOver, SessionsReport, first_replies, floors_of, lines_in, phases_text, replies_in, times}
 use Rattle.im_script.specs.Script.{lines_of}
 use Rattle.im_script.specs.declared.commands.Line.{Line}
@@ -83,10 +83,10 @@ floors_are h n count floor answers le numbers just =
 -- What a session answered is a report, where the transactions behind what was found are those that it tells.
 report_of : (hash : Hash) (h0 h : List Transaction) (answers : List Answered) → IsHistory h → take (length h0) h ≡ h0
     → All (λ a. IsAnswer hash h a.line.command a.number a.reply) answers → All (Rises (length h0)) answers → AllPairs (λ a b. Rises a.number b) answers
-    → All (λ a. a.number ≤ length h) answers → flat_map number_of_reply answers ≡ range_with_len (length h0 + 1) (length h - length h0)
+    → All (ReadsFrom (length h0)) answers → AllPairs (λ a b. ReadsFrom a.number b) answers → All (λ a. a.number ≤ length h) answers → flat_map number_of_reply answers ≡ range_with_len (length h0 + 1) (length h - length h0)
     → map (λ tx. tx.bl) (drop (length h0) h) ≡ floors (length h0) answers
     → (r : Report hash h0 h (map (λ a. a.line) answers) (flat_map answer_line answers)) × (r.answers ≡ answers)
-report_of hash h0 h answers history begins each least rising within numbers over =
+report_of hash h0 h answers history begins each least rising least_read reading within numbers over =
     let r : Report hash h0 h (map (λ (a : Answered). a.line) answers) (flat_map answer_line answers) =
     record {
       history = history;
@@ -98,6 +98,8 @@ report_of hash h0 h answers history begins each least rising within numbers over
       placed = sym (told_numbers answers) ∙ numbers;
       within = λ i d lt. (let low = least i d lt in (low.0, within i d lt));
       rising = rising;
+      least_read = least_read;
+      reading = reading;
       floor = over;
     } in
     (r, refl)
@@ -230,7 +232,7 @@ alone_none hash h0 h phases answers rest r o none just =
     let whole : take count (drop start h) ≡ drop start h = take_all count (drop start h) (omega (arith, length-drop start h)) in
     let over : map (λ tx. tx.bl) (drop start h) ≡ floors start answers =
     ap (map (λ (tx : Transaction). tx.bl)) (sym whole) ∙ floors_are h start count start answers (omega (arith, begun)) are just in
-    let told = told_report hash h0 h h phases answers rest o (report_of hash h0 h answers r.history r.begins o.told.each o.told.least o.told.rising o.within are over) in
+    let told = told_report hash h0 h h phases answers rest o (report_of hash h0 h answers r.history r.begins o.told.each o.told.least o.told.rising o.told.least_read o.told.reading o.within are over) in
     record { history = h; left = []; split = sym (append-nil h); report = told.0; answers_are = told.1; late = inl refl }
 
 -- the first of a history's first transactions
@@ -248,7 +250,7 @@ alone_late hash h0 h phases answers line n others r o late just over =
     let numbers : List ℕ = flat_map number_of_reply answers in
     let start : ℕ = length h0 in
     let m : ℕ = length numbers in
-    let below : All (λ a. a.number < n) answers = λ i d lt. (let most = highest_each start answers i d lt in omega (arith, most, late.above)) in
+    let below : All (λ a. a.number < n) answers = λ i d lt. (let most = highest_each start answers i d lt in omega (arith, most, late.least, late.behind)) in
     let all_below : All (λ k. k < n) numbers = told_all (λ k. k < n) answers (λ i d lt is. below i d lt) in
     let rising : AllPairs (λ a b. a < b) (numbers ++ n ∷ []) = all_pairs_push (λ (a b : ℕ). a < b) numbers n (told_rising answers o.told.rising) all_below in
     let are : numbers ++ n ∷ [] ≡ range_with_len (start + 1) (length h - start) = numbers_are hash h0 h phases answers rest (Some n) r o (numbers_halted line (Some n) others) rising in
@@ -273,7 +275,7 @@ alone_late hash h0 h phases answers line n others r o late just over =
     let bls : map (λ tx. tx.bl) (drop start g) ≡ floors start answers =
     ap (λ (k : ℕ). map (λ (tx : Transaction). tx.bl) (drop start (take k h))) front
     ∙ (ap (map (λ (tx : Transaction). tx.bl)) (drop-take start m h) ∙ floors_are h start m start answers (omega (arith, size)) both.0 just) in
-    let told = told_report hash h0 h g phases answers rest o (report_of hash h0 g answers (IsHistory-take h (n - 1) r.history) begins each o.told.least o.told.rising within told_are bls) in
+    let told = told_report hash h0 h g phases answers rest o (report_of hash h0 g answers (IsHistory-take h (n - 1) r.history) begins each o.told.least o.told.rising o.told.least_read o.told.reading within told_are bls) in
     let none : drop (n - 1 + 1) h ≡ [] = drop_all (n - 1 + 1) h (omega (arith, last)) in
     let one : drop (n - 1) h ≡ transaction_of h n ∷ [] =
     drop_more h (n - 1) no_transaction (omega (arith, last, both.1)) ∙ ap (λ (l : List Transaction). transaction_of h n ∷ l) none in
@@ -287,11 +289,10 @@ alone_late hash h0 h phases answers line n others r o late just over =
         line = line;
         others = map line_in (map not_run others);
         next = other_lines hash h0 h phases answers rest o;
-        pres = late.pres;
-        drafts = late.drafts;
-        asks = late.asks;
-        free = late.free;
-        are = late.are;
+        read = late.read;
+        asked = late.asked;
+        asks = may_ask_same h g late.read line.command late.asked (sym (front_take late.read (n - 1) h (omega (arith, late.behind)) (omega (arith, last)))) late.asks;
+        within = omega (arith, late.behind, long);
         admitted = late.admitted;
         tx = transaction_of h n;
         one = one;

@@ -86,10 +86,11 @@ pairs_of_line h phases count front rest line (n ∷ ns) e behind asks =
       behind = behind;
       line = line;
       there = ap (λ (l : List Line). slice_get l (length front)) e ∙ line_there front rest line;
-      pres = one.0;
-      drafts = one.1;
+      read = one.0;
+      asked = one.1;
       asks = one.2;
-      writes = one.3;
+      before = one.3;
+      writes = one.4;
     }
     cons one more (suc i) d lt = more i d (omega (arith, lt))
 

@@ -10,7 +10,7 @@ use Rattle.im_digest.specs.Digests.{Hash}
 use Rattle.im_model.specs.History.{no_transaction}
 use Rattle.im_model.specs.declared.transactions.Transaction.{Transaction}
 use Rattle.im_octet.proofs.Common.{all-left, all-right}
-use Rattle.im_report.proofs.FrontLemmas.{answer_same}
+use Rattle.im_report.proofs.FrontLemmas.{answer_same, may_ask_same}
 use Rattle.im_report.proofs.FurtherLemmas.{further_apart, further_each, further_from, split_at, split_lines, split_numbers}
 use Rattle.im_report.proofs.KnownLemmas.{IsKnown, answers_known, known_phases}
 use Rattle.im_report.proofs.OutcomeLemmas.{all_in, flat_all, replies_answered}
@@ -65,9 +65,10 @@ line_before h phases count most p first is = record {
   behind = is.behind;
   line = is.line;
   there = is.there;
-  pres = is.pres;
-  drafts = is.drafts;
-  asks = is.asks;
+  read = is.read;
+  asked = is.asked;
+  asks = may_ask_same h (take most h) is.read is.line.command is.asked (sym (take-take is.read most h (omega (arith, is.before, ltb-true (p.0 - 1) most first)))) is.asks;
+  before = is.before;
   writes = ap (λ (tx : Transaction). tx.entries) (get_or-take most h (p.0 - 1) no_transaction (ltb-true (p.0 - 1) most first)) ∙ is.writes;
 }
 

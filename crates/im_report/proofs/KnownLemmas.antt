@@ -37,7 +37,7 @@ known_unrun hash h (l ∷ lines) = cons (known_unrun hash h lines)
 
 late_asks : (h : List Transaction) (low floor : ℕ) (line : Line) (late : Option ℕ) → IfSome late (IsLate h low floor line.command) → IfSome late (AsksFor h line.command)
 late_asks h low floor line None tx = tt
-late_asks h low floor line (Some n) tx = (tx.pres, tx.drafts, tx.asks, tx.writes)
+late_asks h low floor line (Some n) tx = (tx.read, tx.asked, tx.asks, tx.behind, tx.writes)
 
 known_rest : (hash : Hash) (h : List Transaction) (low floor : ℕ) (answers : List Answered) (rest : List Outcome) → IsCutOff h low floor answers rest → All (IsKnown hash h) rest
 known_rest hash h low floor answers rest (inl none) = subst (All (IsKnown hash h)) (sym none) (λ i d lt. absurd (omega arith))

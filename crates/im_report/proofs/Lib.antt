@@ -1,4 +1,6 @@
 pub mod PlacedLemmas
+pub mod DigitLemmas
+pub mod StatementLemmas
 pub mod RangeLemmas
 pub mod FrontLemmas
 pub mod OutcomeLemmas

@@ -9,10 +9,10 @@ use Rattle.im_model.specs.declared.transactions.Transaction.{Transaction}
 use Rattle.im_octet.proofs.Common.{bytes-same}
 use Rattle.im_report.proofs.OutcomeLemmas.{all_in, replies_answered, whole_of}
 use Rattle.im_report.specs.Outcomes.{AreAnswers, IsCutOff, IsLate, IsOver, IsSession, Outcome, Rises, answered, floors_told, highest, of_session}
-use Rattle.im_report.specs.Report.{Answered, IsAnswer, floor_after, floor_by, is_placed}
+use Rattle.im_report.specs.Report.{Answered, IsAnswer, ReadsBy, ReadsFrom, floor_after, floor_by, is_placed}
 use Rattle.im_report.specs.Sessions.{AreAllButLast, ArePhases, floor_reached, greatest, next_floor, next_low, replies_in}
 use Rattle.im_script.specs.declared.commands.Command.{Command}
-use Rattle.im_script.specs.declared.commands.Command.TheVariants.{Set, Get, Scan, History, Header, State, Prove, Advance, Item, Link}
+use Rattle.im_script.specs.declared.commands.Command.TheVariants.{Set, Get, Scan, History, Header, State, Prove, Advance, Item, Link, Sql}
 
 -- where all lines are of one session they are those of that session
 pub own_all : (name : List ℕ) (outcomes : List Outcome) → All (λ o. o.line.session ≡ name) outcomes → of_session name outcomes ≡ outcomes
@@ -63,6 +63,7 @@ floor_top (Prove s t) n floor = omega arith
 floor_top (Advance s t) n floor = omega arith
 floor_top (Item t i under) n floor = omega arith
 floor_top (Link count) n floor = omega arith
+floor_top (Sql text) n floor = omega arith
 
 floor_up : (command : Command) (n floor : ℕ) → floor ≤ n → floor ≤ floor_by command n floor
 floor_up (Set pres drafts) n floor le = omega arith
@@ -75,6 +76,24 @@ floor_up (Prove s t) n floor le = omega arith
 floor_up (Advance s t) n floor le = omega arith
 floor_up (Item t i under) n floor le = omega arith
 floor_up (Link count) n floor le = omega (arith, le)
+floor_up (Sql text) n floor le = omega arith
+
+-- what was read is no less than a smaller number
+pub reads_by_more : (low more : ℕ) → low ≤ more → (command : Command) (n : ℕ) (reply : List ℕ) → ReadsBy more command n reply → ReadsBy low command n reply
+reads_by_more low more le (Set pres drafts) n reply from = from
+reads_by_more low more le (Get key at) n reply from = from
+reads_by_more low more le (Scan prefix at) n reply from = from
+reads_by_more low more le (History key) n reply from = from
+reads_by_more low more le (Header k) n reply from = from
+reads_by_more low more le State n reply from = from
+reads_by_more low more le (Prove s t) n reply from = from
+reads_by_more low more le (Advance s t) n reply from = from
+reads_by_more low more le (Item t i under) n reply from = from
+reads_by_more low more le (Link count) n reply from = from
+reads_by_more low more le (Sql text) n reply from = λ read told. (let least : more ≤ read = from read told in omega (arith, least, le))
+
+pub reads_more : (low more : ℕ) → low ≤ more → (a : Answered) → ReadsFrom more a → ReadsFrom low a
+reads_more low more le a from = reads_by_more low more le a.line.command a.number a.reply from
 
 -- the floor behind some replies is no less than before, and no more than their greatest number
 floor_rises : (floor : ℕ) (answers : List Answered) → All (λ a. floor ≤ a.number) answers → AllPairs (λ a b. Rises a.number b) answers → floor ≤ floor_after floor answers
@@ -158,6 +177,11 @@ answers_behind hash low floor h xs ys before behind =
           let most : (get_or xs i d).number ≤ highest low xs = highest_each low xs i d lt in
           let number : x.number ≡ (get_or xs i d).number = ap (λ (a : Answered). a.number) e in
           (omega (arith, most, number, r.0), λ is. (let up = r.1 is in omega (arith, most, number, up)))));
+      least_read = All-append (ReadsFrom low) xs ys before.least_read (λ i d lt. reads_more low (highest low xs) least (get_or ys i d) (behind.least_read i d lt));
+      reading = pairs_both (λ (a b : Answered). ReadsFrom a.number b) xs ys before.reading behind.reading
+          (λ x i d lt e j f less. (let most : (get_or xs i d).number ≤ highest low xs = highest_each low xs i d lt in
+          let number : x.number ≡ (get_or xs i d).number = ap (λ (a : Answered). a.number) e in
+          reads_more x.number (highest low xs) (omega (arith, most, number)) (get_or ys j f) (behind.least_read j f less)));
       floors = subst (All (IsOver h)) (sym (floors_both floor xs ys)) (All-append (IsOver h) (floors_told floor xs) (floors_told (floor_after floor xs) ys) before.floors behind.floors);
     }
 
@@ -195,6 +219,8 @@ session_none hash low floor h = record {
     each = λ i d lt. absurd (omega arith);
     least = λ i d lt. absurd (omega arith);
     rising = λ i j d lt less. absurd (omega arith);
+    least_read = λ i d lt. absurd (omega arith);
+    reading = λ i j d lt less. absurd (omega arith);
     floors = λ i d lt. absurd (omega arith);
   };
 }

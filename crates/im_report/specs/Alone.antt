@@ -1,19 +1,16 @@
 -- What a single session comes to where lines alone link, told as of one list of lines.
-use Rattle.std.specs.Prelude.{◌≡◌, ◌⊎◌, ◌++◌, List, [], ◌∷◌, length, take, drop, map}
+use Rattle.std.specs.Prelude.{◌≡◌, ◌⊎◌, ◌≤◌, ◌++◌, ℕ, List, [], ◌∷◌, length, take, drop, None}
 use Rattle.std.specs.List.{flat_map}
 use Rattle.im_digest.specs.Digests.{Hash}
-use Rattle.im_draft.specs.Drafts.{entry_of, AreEntries, AreFree}
-use Rattle.im_draft.specs.declared.drafts.Draft.{Draft}
-use Rattle.im_draft.specs.declared.preconditions.Pre.{Pre}
 use Rattle.im_model.specs.declared.transactions.Transaction.{Transaction}
+use Rattle.im_report.specs.Asking.{MayAsk}
 use Rattle.im_report.specs.Outcomes.{Outcome}
 use Rattle.im_report.specs.Report.{Answered, Report, floor_after}
 use Rattle.im_report.specs.Sessions.{lines_in, phases_text, replies_in}
 use Rattle.im_script.specs.Script.{lines_of}
-use Rattle.im_script.specs.declared.commands.Command.TheVariants.{Set}
+use Rattle.im_tx.specs.Asked.{Asked}
 use Rattle.im_script.specs.declared.commands.Line.{Line}
 use Rattle.im_versions.specs.Admits.{place_refusal}
-use Rattle.std.specs.Prelude.{None}
 
 -- the replies of all phases
 abbrev pub all_replies : List (List Outcome) → List Answered
@@ -24,15 +21,14 @@ pub record IsOneLate (h0 history : List Transaction) (answers : List Answered) (
   pub line : Line
   pub others : List Line
   pub next : lines ≡ line ∷ others
-  pub pres : List Pre
-  pub drafts : List Draft
-  pub asks : line.command ≡ Set pres drafts
-  pub free : AreFree drafts
-  pub are : AreEntries drafts
-  pub admitted : place_refusal history pres ≡ None
+  pub read : ℕ
+  pub asked : Asked
+  pub asks : MayAsk history read line.command asked
+  pub within : read ≤ length history
+  pub admitted : place_refusal history asked.pres ≡ None
   pub tx : Transaction
   pub one : left ≡ tx ∷ []
-  pub writes : tx.entries ≡ map entry_of drafts
+  pub writes : tx.entries ≡ asked.entries
   pub over : tx.bl ≡ floor_after (length h0) answers
 
 -- The first lines of the script, phase behind phase, have the report of one session over one list; behind the history of that stands nothing, or the one

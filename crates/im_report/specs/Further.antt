@@ -1,17 +1,15 @@
 -- What the first transactions of a run's history keep of its first replies, and the transactions that these don't tell.
-use Rattle.std.specs.Prelude.{◌≡◌, ◌≢◌, ◌≤◌, ◌+◌, ◌-◌, ℕ, List, length, map, take, All, AllPairs, Some, slice_get}
+use Rattle.std.specs.Prelude.{◌≡◌, ◌≢◌, ◌<◌, ◌≤◌, ◌+◌, ◌-◌, ℕ, List, length, map, take, All, AllPairs, Some, slice_get}
 use Rattle.std.specs.List.{flat_map, range_with_len}
 use Rattle.im_digest.specs.Digests.{Hash}
-use Rattle.im_draft.specs.Drafts.{entry_of}
-use Rattle.im_draft.specs.declared.drafts.Draft.{Draft}
-use Rattle.im_draft.specs.declared.preconditions.Pre.{Pre}
 use Rattle.im_model.specs.History.{transaction_of}
 use Rattle.im_model.specs.declared.transactions.Transaction.{Transaction}
+use Rattle.im_report.specs.Asking.{MayAsk}
 use Rattle.im_report.specs.Outcomes.{Outcome, number_told}
 use Rattle.im_report.specs.Report.{Answered, IsAnswer}
 use Rattle.im_report.specs.Sessions.{first_replies, lines_in, times}
 use Rattle.im_script.specs.Script.{lines_of}
-use Rattle.im_script.specs.declared.commands.Command.TheVariants.{Set}
+use Rattle.im_tx.specs.Asked.{Asked}
 use Rattle.im_script.specs.declared.commands.Line.{Line}
 
 -- the replies that were written
@@ -22,15 +20,16 @@ written_replies phases = flat_map first_replies phases
 abbrev pub number_of_reply : Answered → List ℕ
 number_of_reply a = number_told (Some a)
 
--- of a transaction, and a line, by its place from 0 among all lines: behind so many, and asking for its entries
+-- of a transaction, and a line, by its place from 0 among all lines: behind so many, and asking for its entries, where it is a statement by what it read before
 pub record IsOfLine (h : List Transaction) (phases : List (List Outcome)) (count : ℕ) (p : ℕ × ℕ) : Type 0 where
   pub behind : count ≤ p.1
   pub line : Line
   pub there : slice_get (lines_of (lines_in phases)) p.1 ≡ Some line
-  pub pres : List Pre
-  pub drafts : List Draft
-  pub asks : line.command ≡ Set pres drafts
-  pub writes : (transaction_of h p.0).entries ≡ map entry_of drafts
+  pub read : ℕ
+  pub asked : Asked
+  pub asks : MayAsk h read line.command asked
+  pub before : read < p.0
+  pub writes : (transaction_of h p.0).entries ≡ asked.entries
 
 -- The numbers of the transactions behind h0 are those that the first replies, so many, tell, and those of these pairs, each once; the lines of the pairs
 -- stand behind those of the replies, and differ.

@@ -1,6 +1,8 @@
 pub mod Replies
 pub mod Report
 pub mod Reads
+pub mod Statements
+pub mod Asking
 pub mod Outcomes
 pub mod Sessions
 pub mod Alone

@@ -4,14 +4,12 @@ use Rattle.std.specs.Str.{bytes_eq}
 use Rattle.im_digest.specs.Digests.{Hash}
 use Rattle.im_model.specs.History.{transaction_of}
 use Rattle.im_model.specs.declared.transactions.Transaction.{Transaction}
-use Rattle.im_draft.specs.Drafts.{entry_of, AreEntries, AreFree}
-use Rattle.im_draft.specs.declared.drafts.Draft.{Draft}
-use Rattle.im_draft.specs.declared.preconditions.Pre.{Pre}
+use Rattle.im_tx.specs.Asked.{Asked}
 use Rattle.im_versions.specs.Admits.{place_refusal}
 use Rattle.im_script.specs.declared.commands.Line.{Line}
 use Rattle.im_script.specs.declared.commands.Command.{Command}
-use Rattle.im_script.specs.declared.commands.Command.TheVariants.{Set}
-use Rattle.im_report.specs.Report.{Answered, IsAnswer, is_placed, floor_after, floor_by}
+use Rattle.im_report.specs.Asking.{MayAsk}
+use Rattle.im_report.specs.Report.{Answered, IsAnswer, ReadsFrom, is_placed, floor_after, floor_by}
 
 -- What became of a line: its reply and the number before it, where it got one; else the number of a transaction that was placed for it all
 -- the same, where one was.
@@ -75,17 +73,17 @@ abbrev pub IsOver : List Transaction → ℕ × ℕ → Type 0
 IsOver history p = p.1 ≤ (transaction_of history p.0).bl
 
 -- number n of the history was placed for a line that has no reply, behind all that its session had been told, from this number on, and over
--- a tree no smaller than its floor: a `set` or `del` that reaches the disk, which nothing refused behind the n - 1 before
+-- a tree no smaller than its floor: it has what the line asks for, where it is a statement by what it read, no fewer transactions than were told, and nothing
+-- refused it behind the n - 1 before
 pub record IsLate (history : List Transaction) (low floor : ℕ) (command : Command) (n : ℕ) : Type 0 where
-  pub pres : List Pre
-  pub drafts : List Draft
-  pub asks : command ≡ Set pres drafts
-  pub free : AreFree drafts
-  pub are : AreEntries drafts
-  pub above : low < n
+  pub read : ℕ
+  pub asked : Asked
+  pub asks : MayAsk history read command asked
+  pub least : low ≤ read
+  pub behind : read < n
   pub within : n ≤ length history
-  pub admitted : place_refusal (take (n - 1) history) pres ≡ None
-  pub writes : (transaction_of history n).entries ≡ map entry_of drafts
+  pub admitted : place_refusal (take (n - 1) history) asked.pres ≡ None
+  pub writes : (transaction_of history n).entries ≡ asked.entries
   pub over : IsOver history (n, floor)
 
 -- the greatest number of some replies, and this one
@@ -100,12 +98,14 @@ IsCutOff history low floor answers rest =
     × IfSome late (IsLate history (highest low answers) (floor_after floor answers) line.command))
 
 -- The replies of a session that began at these numbers: behind how many transactions, and over a tree of which size at least. Each is what its line is
--- answered at its number; no number falls below that or the one before, and that of a `tx` rises; and each `tx` was placed over a tree no smaller than
--- the floor that the session had reached.
+-- answered at its number; no number falls below that or the one before, and that of a `tx` rises, nor does a statement read fewer transactions; and each `tx`
+-- was placed over a tree no smaller than the floor that the session had reached.
 pub record AreAnswers (hash : Hash) (low floor : ℕ) (history : List Transaction) (answers : List Answered) : Type 0 where
   pub each : All (λ a. IsAnswer hash history a.line.command a.number a.reply) answers
   pub least : All (Rises low) answers
   pub rising : AllPairs (λ a b. Rises a.number b) answers
+  pub least_read : All (ReadsFrom low) answers
+  pub reading : AllPairs (λ a b. ReadsFrom a.number b) answers
   pub floors : All (IsOver history) (floors_told floor answers)
 
 -- what one session came to in a phase that it began at these numbers

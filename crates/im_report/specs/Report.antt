@@ -1,6 +1,6 @@
 -- What a run of a script writes.
-use Rattle.std.specs.Prelude.{◌≡◌, ◌⊎◌, ℕ, ◌<◌, ◌≤◌, ◌+◌, ◌-◌, List, [], ◌∷◌, ◌++◌, length, take, drop, map, filter, min, Bool, IsTrue, All, AllPairs, Some, None, if◌then◌else◌, codes}
-use Rattle.std.specs.List.{flat_map, range_with_len}
+use Rattle.std.specs.Prelude.{◌≡◌, ◌⊎◌, ℕ, ◌<◌, ◌≤◌, ◌+◌, ◌-◌, List, [], ◌∷◌, ◌++◌, length, take, drop, map, filter, min, nat_eq, ◌||◌, Bool, IsTrue, All, AllPairs, Some, None, if◌then◌else◌, codes}
+use Rattle.std.specs.List.{flat_map, range_with_len, starts_with}
 use Rattle.std.specs.Str.{bytes_eq}
 use Rattle.std.specs.Fmt.{decimal}
 use Rattle.im_digest.specs.Digests.{Hash}
@@ -14,9 +14,10 @@ use Rattle.im_versions.specs.Admits.{place_refusal}
 use Rattle.im_versions.specs.declared.refusals.PlaceError.{PlaceError}
 use Rattle.im_report.specs.Reads.{place_reply, IsGetAnswer, IsHistoryAnswer, IsReadAt, IsScanAnswer}
 use Rattle.im_report.specs.Replies.{advance_reply, header_reply, item_reply, linked_reply, prove_reply, refused_reply, reserved_reply, state_reply, tx_reply}
+use Rattle.im_report.specs.Statements.{IsReadTold, IsSqlAnswer}
 use Rattle.im_script.specs.declared.commands.Line.{Line}
 use Rattle.im_script.specs.declared.commands.Command.{Command}
-use Rattle.im_script.specs.declared.commands.Command.TheVariants.{Set, Get, Scan, History, Header, State, Prove, Advance, Item, Link}
+use Rattle.im_script.specs.declared.commands.Command.TheVariants.{Set, Get, Scan, History, Header, State, Prove, Advance, Item, Link, Sql}
 
 -- the reply to a set at n. An entry's key that begins with octet 00 is refused first, then what is no
 -- transaction; then, by what stands after n transactions, that these are as many as there may be, and the first
@@ -42,6 +43,7 @@ IsAnswer hash history (Advance s t) n reply = reply ≡ advance_reply hash (take
 IsAnswer hash history (Item t i None) n reply = reply ≡ item_reply hash (take n history) t i n
 IsAnswer hash history (Item t i (Some s)) n reply = reply ≡ item_reply hash (take n history) t i s
 IsAnswer hash history (Link count) n reply = reply ≡ linked_reply
+IsAnswer hash history (Sql text) n reply = IsSqlAnswer history text n reply
 
 -- a line, the number before its reply, and the reply
 pub record Answered : Type 0 where
@@ -57,9 +59,30 @@ reply_line session n reply = session ++ codes " " ++ decimal n ++ codes " " ++ r
 abbrev pub answer_line : Answered → List ℕ
 answer_line a = reply_line a.line.session a.number a.reply
 
--- the reply is `tx <n>` at its own number
+-- a reply tells that number n was placed: `tx <n>`, behind which stands what a statement read
+abbrev pub tells_tx : List ℕ → ℕ → Bool
+tells_tx reply n = bytes_eq reply (tx_reply n) || starts_with nat_eq reply (tx_reply n ++ codes " read ")
+
+-- the reply tells so of its own number
 abbrev pub is_placed : Answered → Bool
-is_placed a = bytes_eq a.reply (tx_reply a.number)
+is_placed a = tells_tx a.reply a.number
+
+-- what a statement read, where its reply tells it, is no fewer transactions than these
+abbrev pub ReadsBy : ℕ → Command → ℕ → List ℕ → Type 0
+ReadsBy low (Set pres drafts) n reply = Unit {0}
+ReadsBy low (Get key at) n reply = Unit {0}
+ReadsBy low (Scan prefix at) n reply = Unit {0}
+ReadsBy low (History key) n reply = Unit {0}
+ReadsBy low (Header k) n reply = Unit {0}
+ReadsBy low State n reply = Unit {0}
+ReadsBy low (Prove s t) n reply = Unit {0}
+ReadsBy low (Advance s t) n reply = Unit {0}
+ReadsBy low (Item t i under) n reply = Unit {0}
+ReadsBy low (Link count) n reply = Unit {0}
+ReadsBy low (Sql text) n reply = (read : ℕ) → IsReadTold reply n read → low ≤ read
+
+abbrev pub ReadsFrom : ℕ → Answered → Type 0
+ReadsFrom low a = ReadsBy low a.line.command a.number a.reply
 
 -- the size of the tree behind a command at n: `link` raises it by its count, at most to n
 abbrev pub floor_by : Command → ℕ → ℕ → ℕ
@@ -73,6 +96,7 @@ floor_by State n floor = floor
 floor_by (Prove s t) n floor = floor
 floor_by (Advance s t) n floor = floor
 floor_by (Item t i under) n floor = floor
+floor_by (Sql text) n floor = floor
 
 -- the size of the tree behind some answered lines
 abbrev pub floor_after : ℕ → List Answered → ℕ
@@ -100,5 +124,8 @@ pub record Report (hash : Hash) (h0 h : List Transaction) (lines : List Line) (o
   -- no number falls, and that of a `tx` is above each before it
   pub within : All (λ a. (length h0 ≤ a.number) × (a.number ≤ length h)) answers
   pub rising : AllPairs (λ a b. (a.number ≤ b.number) × (IsTrue (is_placed b) → a.number < b.number)) answers
+  -- and what a statement read, where it is told, is no less than a number before it
+  pub least_read : All (ReadsFrom (length h0)) answers
+  pub reading : AllPairs (λ a b. ReadsFrom a.number b) answers
   -- each was placed over the tree that the lines before it had linked, from that of what was found on
   pub floor : map (λ tx. tx.bl) (drop (length h0) h) ≡ floors (length h0) answers

@@ -5,3 +5,4 @@
 pub mod laws;
 pub mod reads;
 pub mod replies;
+pub mod statements;

@@ -7,9 +7,9 @@ use Rattle.im_draft.specs.declared.drafts.Draft.{Draft}
 use Rattle.im_draft.specs.declared.preconditions.Pre.{Pre}
 use Rattle.im_text.specs.Fields.{IsOctets}
 use Rattle.im_script.specs.declared.commands.Command.{Command}
-use Rattle.im_script.specs.declared.commands.Command.TheVariants.{Set, Get, Scan, History, Header, State, Prove, Advance, Item, Link}
-use Rattle.im_script.specs.Script.{AreAsked, AreNumbers, IsItem, IsLookup, IsCommand}
-use Rattle.im_script.specs.Arguments.{IsSet, IsDelete, IsGet, IsScanCommand, IsHistoryCommand, IsHeaderCommand, IsState, IsProve, IsAdvance, IsItemCommand, IsLink}
+use Rattle.im_script.specs.declared.commands.Command.TheVariants.{Set, Get, Scan, History, Header, State, Prove, Advance, Item, Link, Sql}
+use Rattle.im_script.specs.Script.{AreAsked, AreNumbers, IsItem, IsLookup, IsStatementText, IsCommand}
+use Rattle.im_script.specs.Arguments.{IsSet, IsDelete, IsGet, IsScanCommand, IsHistoryCommand, IsHeaderCommand, IsState, IsProve, IsAdvance, IsItemCommand, IsLink, IsSql}
 
 seconds-differ : (o p q : ℕ) (a b : List ℕ) → (p == q) ≡ false → o ∷ p ∷ a ≡ o ∷ q ∷ b → ⊥
 seconds-differ o p q a b other e = heads-differ p q a b other (head-is o o (p ∷ a) (q ∷ b) e).1
@@ -31,6 +31,7 @@ only-set rest (Set pres drafts) (inl h) =
     (pres, drafts, refl, subst (λ (t : List ℕ). AreAsked t pres drafts) (append-same (codes "set") h.0 rest (sym h.1)) h.2)
 only-set rest (Set pres drafts) (inr h) = absurd (heads-differ 115 100 _ _ refl h.2)
 only-set rest (Scan prefix at) h = absurd (seconds-differ 115 101 99 _ _ refl h.1)
+only-set rest (Sql statement) h = absurd (seconds-differ 115 101 113 _ _ refl h.1)
 only-set rest State h = absurd (seconds-differ 115 101 116 _ _ refl h)
 only-set rest other h = absurd (heads-differ 115 _ _ _ refl h.1)
 
@@ -53,6 +54,7 @@ only-scan rest (Scan prefix at) h =
     (prefix, at, refl, subst (λ (t : List ℕ). IsLookup t prefix at) (append-same (codes "scan ") h.0 rest (sym h.1)) h.2)
 only-scan rest (Set pres drafts) (inl h) = absurd (seconds-differ 115 99 101 _ _ refl h.1)
 only-scan rest (Set pres drafts) (inr h) = absurd (heads-differ 115 100 _ _ refl h.2)
+only-scan rest (Sql statement) h = absurd (seconds-differ 115 99 113 _ _ refl h.1)
 only-scan rest State h = absurd (seconds-differ 115 99 116 _ _ refl h)
 only-scan rest other h = absurd (heads-differ 115 _ _ _ refl h.1)
 
@@ -77,6 +79,7 @@ only-state rest State h = (refl, append-same (codes "state") rest [] h)
 only-state rest (Set pres drafts) (inl h) = absurd (seconds-differ 115 116 101 _ _ refl h.1)
 only-state rest (Set pres drafts) (inr h) = absurd (heads-differ 115 100 _ _ refl h.2)
 only-state rest (Scan prefix at) h = absurd (seconds-differ 115 116 99 _ _ refl h.1)
+only-state rest (Sql statement) h = absurd (seconds-differ 115 116 113 _ _ refl h.1)
 only-state rest other h = absurd (heads-differ 115 _ _ _ refl h.1)
 
 pub only-prove : (rest : List ℕ) (c : Command) → IsCommand (codes "prove " ++ rest) c → IsProve rest c
@@ -106,6 +109,15 @@ only-link rest (Link n) h =
 only-link rest (Set pres drafts) h = absurd (no-set 108 _ pres drafts refl refl h)
 only-link rest State h = absurd (heads-differ 108 115 _ _ refl h)
 only-link rest other h = absurd (heads-differ 108 _ _ _ refl h.1)
+
+pub only-sql : (rest : List ℕ) (c : Command) → IsCommand (codes "sql " ++ rest) c → IsSql rest c
+only-sql rest (Sql statement) h =
+    (statement, refl, subst (λ (t : List ℕ). IsStatementText t statement) (append-same (codes "sql ") h.0 rest (sym h.1)) h.2)
+only-sql rest (Set pres drafts) (inl h) = absurd (seconds-differ 115 113 101 _ _ refl h.1)
+only-sql rest (Set pres drafts) (inr h) = absurd (heads-differ 115 100 _ _ refl h.2)
+only-sql rest (Scan prefix at) h = absurd (seconds-differ 115 113 99 _ _ refl h.1)
+only-sql rest State h = absurd (seconds-differ 115 113 116 _ _ refl h)
+only-sql rest other h = absurd (heads-differ 115 _ _ _ refl h.1)
 
 found : (word text rest : List ℕ) (P : Command → Type 0) → text ≡ word ++ rest → ((c : Command) → P c → IsCommand (word ++ rest) c) → ((c : Command) → IsCommand (word ++ rest) c → P c) → (o : Option Command) → Finds o P → Finds o (IsCommand text)
 found word text rest P e says only (Some c) h = subst (λ (t : List ℕ). IsCommand t c) (sym e) (says c h)
@@ -155,3 +167,7 @@ found-item text rest e =
 pub found-link : (text rest : List ℕ) → text ≡ codes "link " ++ rest → (o : Option Command) → Finds o (IsLink rest) → Finds o (IsCommand text)
 found-link text rest e =
     found (codes "link ") text rest (IsLink rest) e (λ c h. subst (λ (d : Command). IsCommand (codes "link " ++ rest) d) (sym h.1) (rest, refl, h.2)) (only-link rest)
+
+pub found-sql : (text rest : List ℕ) → text ≡ codes "sql " ++ rest → (o : Option Command) → Finds o (IsSql rest) → Finds o (IsCommand text)
+found-sql text rest e =
+    found (codes "sql ") text rest (IsSql rest) e (λ c h. subst (λ (d : Command). IsCommand (codes "sql " ++ rest) d) (sym h.1) (rest, refl, h.2)) (only-sql rest)

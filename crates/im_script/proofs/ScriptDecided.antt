@@ -1,9 +1,10 @@
 -- Whether a text says a line, and whether octets are a script.
 use Rattle.std.proofs.Common.{◌≡◌, ◌≢◌, ◌⊎◌, ◌==◌, ◌||◌, ℕ, zero, suc, length, nat_lt, List, [], ◌∷◌, ◌++◌, Option, Some, None, true, false, codes, inl, inr, refl, sym, subst, ap, ◌∙◌, append_assoc}
-use Rattle.std.specs.Str.{bytes_eq}
+use Rattle.std.specs.Str.{bytes_eq, is_utf8}
 use Rattle.std.proofs.lemmas.Bool.{both_ways}
 use Rattle.std.proofs.lemmas.Bool.Decides.{eqb_tells}
 use Rattle.std.proofs.lemmas.Slice.Eq.{bytes_eq-Decides}
+use Rattle.std.proofs.lemmas.Str.{IsUtf8-from_is_utf8, is_utf8-from_IsUtf8}
 use Rattle.im_text.specs.Cuts.{IsCut, Lacks}
 use Rattle.im_text.specs.Finds.{Finds}
 use Rattle.im_text.specs.Lines.{AreTexts}
@@ -12,18 +13,18 @@ use Rattle.im_text.proofs.CutLemmas.{Lacks-mark, append-same, heads-differ}
 use Rattle.im_text.proofs.LineLemmas.{texts-exist}
 use Rattle.im_text.specs.Fields.{IsOctets, is_session_octet}
 use Rattle.im_script.specs.declared.commands.Command.{Command}
-use Rattle.im_script.specs.declared.commands.Command.TheVariants.{Set, Get, Scan, History, Header, State, Prove, Advance, Item, Link}
+use Rattle.im_script.specs.declared.commands.Command.TheVariants.{Set, Get, Scan, History, Header, State, Prove, Advance, Item, Link, Sql}
 use Rattle.im_script.specs.declared.commands.Line.{Line}
-use Rattle.im_script.specs.Script.{deletion, AreNumbers, IsAt, IsCommand, IsScriptLine, IsLookup, IsPassedOver, IsScript, MayFollow, Say, Stop, end_of_phase, has_name, with_name, StopsAfter}
-use Rattle.im_script.specs.Arguments.{IsSet, IsDelete, IsGet, IsScanCommand, IsHistoryCommand, IsHeaderCommand, IsIndex, IsState, IsProve, IsAdvance, IsItemCommand, IsLink}
-use Rattle.im_script.proofs.CommandLemmas.{advance-no-numbers, found-set, found-delete, found-get, found-scan, found-history, found-header, found-state, found-prove, found-advance, found-item, found-link, prove-no-numbers}
+use Rattle.im_script.specs.Script.{deletion, AreNumbers, IsAt, IsCommand, IsScriptLine, IsLookup, IsPassedOver, IsScript, IsStatementText, MayFollow, Say, Stop, end_of_phase, has_name, with_name, StopsAfter}
+use Rattle.im_script.specs.Arguments.{IsSet, IsDelete, IsGet, IsScanCommand, IsHistoryCommand, IsHeaderCommand, IsIndex, IsState, IsProve, IsAdvance, IsItemCommand, IsLink, IsSql}
+use Rattle.im_script.proofs.CommandLemmas.{advance-no-numbers, found-set, found-delete, found-get, found-scan, found-history, found-header, found-state, found-prove, found-advance, found-item, found-link, found-sql, prove-no-numbers}
 use Rattle.im_text.proofs.DecideLemmas.{truth}
 use Rattle.im_script.proofs.Decisions.{Decided, after-decided, by-cut, decided-by, decided-else, first-field, index-decided, number-decided, octets-decided}
 use Rattle.im_script.proofs.FieldsDecided.{AsksBoth, asked-decided}
 use Rattle.im_script.proofs.LineLemmas.{line-bad-command, line-bad-session, line-no-space}
 use Rattle.im_script.proofs.LookupLemmas.{lookup-bad-at, lookup-bad-octets}
 use Rattle.im_script.proofs.NumberLemmas.{item-bad-index, item-bad-number, item-bad-under, item-of, numbers-bad-first, numbers-bad-second}
-use Rattle.im_script.proofs.Unique.{line-unique}
+use Rattle.im_script.proofs.Unique.{line-unique, some-octets}
 
 no-at : (o : ℕ) (text : List ℕ) → ((digits : List ℕ) (n : ℕ) → o ∷ text ≡ codes " @" ++ digits → IsNumber digits n → ⊥) → (at : Option ℕ) → IsAt (o ∷ text) at → ⊥
 no-at o text none None h = cc
@@ -122,24 +123,37 @@ link-decided : (text : List ℕ) → Decided (IsLink text)
 link-decided text =
     decided-by (IsNumber text) (IsLink text) (λ n h. inl (Link n, (n, refl, h))) (λ none c h. none h.0 h.2) (number-decided text)
 
+statement-decided : (text : List ℕ) → Decided (IsStatementText text)
+statement-decided [] = inr (λ statement h. h.1 refl)
+statement-decided (o ∷ text) = go (truth (is_utf8 (o ∷ text)))
+  where
+    go : (is_utf8 (o ∷ text) ≡ true) ⊎ (is_utf8 (o ∷ text) ≡ false) → Decided (IsStatementText (o ∷ text))
+    go (inl is) = inl (o ∷ text, (refl, some-octets o text, IsUtf8-from_is_utf8 (o ∷ text) is))
+    go (inr other) = inr (λ statement h. both_ways _ other (is_utf8-from_IsUtf8 (o ∷ text) h.2))
+
+sql-decided : (text : List ℕ) → Decided (IsSql text)
+sql-decided text =
+    decided-by (IsStatementText text) (IsSql text) (λ statement h. inl (Sql statement, (statement, refl, h))) (λ none c h. none h.0 h.2) (statement-decided text)
+
 -- a text doesn't begin with a word
 abbrev LacksWord : List ℕ → List ℕ → Type 0
 LacksWord text word = (rest : List ℕ) → text ≡ word ++ rest → ⊥
 
 -- a text that begins with the word of no command says none
 no-command : (text : List ℕ) → LacksWord text (codes "set") → LacksWord text (codes "del ") → LacksWord text (codes "get ") → LacksWord text (codes "scan ") → LacksWord text (codes "history ") → LacksWord text (codes "header ")
-    → LacksWord text (codes "state") → LacksWord text (codes "prove ") → LacksWord text (codes "advance ") → LacksWord text (codes "item ") → LacksWord text (codes "link ") → (c : Command) → IsCommand text c → ⊥
-no-command text set delete get scan history header state prove advance item link (Set pres drafts) (inl h) = set h.0 h.1
-no-command text set delete get scan history header state prove advance item link (Set pres drafts) (inr h) = delete h.1 h.2
-no-command text set delete get scan history header state prove advance item link (Get key at) h = get h.0 h.1
-no-command text set delete get scan history header state prove advance item link (Scan prefix at) h = scan h.0 h.1
-no-command text set delete get scan history header state prove advance item link (History key) h = history h.0 h.1
-no-command text set delete get scan history header state prove advance item link (Header n) h = header h.0 h.1
-no-command text set delete get scan history header state prove advance item link State h = state [] h
-no-command text set delete get scan history header state prove advance item link (Prove m n) h = prove h.0 h.1
-no-command text set delete get scan history header state prove advance item link (Advance m n) h = advance h.0 h.1
-no-command text set delete get scan history header state prove advance item link (Item n i u) h = item h.0 h.1
-no-command text set delete get scan history header state prove advance item link (Link n) h = link h.0 h.1
+    → LacksWord text (codes "state") → LacksWord text (codes "prove ") → LacksWord text (codes "advance ") → LacksWord text (codes "item ") → LacksWord text (codes "link ") → LacksWord text (codes "sql ") → (c : Command) → IsCommand text c → ⊥
+no-command text set delete get scan history header state prove advance item link sql (Set pres drafts) (inl h) = set h.0 h.1
+no-command text set delete get scan history header state prove advance item link sql (Set pres drafts) (inr h) = delete h.1 h.2
+no-command text set delete get scan history header state prove advance item link sql (Get key at) h = get h.0 h.1
+no-command text set delete get scan history header state prove advance item link sql (Scan prefix at) h = scan h.0 h.1
+no-command text set delete get scan history header state prove advance item link sql (History key) h = history h.0 h.1
+no-command text set delete get scan history header state prove advance item link sql (Header n) h = header h.0 h.1
+no-command text set delete get scan history header state prove advance item link sql State h = state [] h
+no-command text set delete get scan history header state prove advance item link sql (Prove m n) h = prove h.0 h.1
+no-command text set delete get scan history header state prove advance item link sql (Advance m n) h = advance h.0 h.1
+no-command text set delete get scan history header state prove advance item link sql (Item n i u) h = item h.0 h.1
+no-command text set delete get scan history header state prove advance item link sql (Link n) h = link h.0 h.1
+no-command text set delete get scan history header state prove advance item link sql (Sql statement) h = sql h.0 h.1
 
 says-command : (text : List ℕ) (P : Command → Type 0) → ((o : Option Command) → Finds o P → Finds o (IsCommand text)) → Decided P → Decided (IsCommand text)
 says-command text P found (inl h) = inl (h.0, found (Some h.0) h.1)
@@ -162,7 +176,8 @@ command-decided text = by-word text (codes "set") IsSet (found-set text) set-dec
     (λ prove. by-word text (codes "advance ") IsAdvance (found-advance text) advance-decided
     (λ advance. by-word text (codes "item ") IsItemCommand (found-item text) item-decided
     (λ item. by-word text (codes "link ") IsLink (found-link text) link-decided
-    (λ link. inr (no-command text set delete get scan history header state prove advance item link))))))))))))
+    (λ link. by-word text (codes "sql ") IsSql (found-sql text) sql-decided
+    (λ sql. inr (no-command text set delete get scan history header state prove advance item link sql)))))))))))))
 
 -- the line that a text says
 pub line-decided : (text : List ℕ) → Decided (IsScriptLine text)

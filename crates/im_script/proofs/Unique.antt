@@ -7,7 +7,7 @@ use Rattle.im_text.proofs.WordLemmas.{number-unique}
 use Rattle.im_draft.specs.declared.drafts.Draft.{Draft}
 use Rattle.im_draft.specs.declared.preconditions.Pre.{Pre}
 use Rattle.im_script.specs.declared.commands.Command.{Command}
-use Rattle.im_script.specs.declared.commands.Command.TheVariants.{Set, Get, Scan, History, Header, State, Prove, Advance, Item, Link}
+use Rattle.im_script.specs.declared.commands.Command.TheVariants.{Set, Get, Scan, History, Header, State, Prove, Advance, Item, Link, Sql}
 use Rattle.im_script.specs.declared.commands.Line.{Line}
 use Rattle.im_text.specs.Fields.{is_session_octet, IsSession}
 use Rattle.im_text.proofs.LineLemmas.{texts-unique}
@@ -16,7 +16,7 @@ use Rattle.im_script.proofs.FieldLemmas.{octets-unique, session-lacks}
 use Rattle.im_script.proofs.AskedLemmas.{asked-unique}
 use Rattle.im_script.proofs.NumberLemmas.{numbers-unique, item-unique}
 use Rattle.im_script.proofs.LookupLemmas.{lookup-unique}
-use Rattle.im_script.proofs.CommandLemmas.{only-set, only-delete, only-get, only-scan, only-history, only-header, only-state, only-prove, only-advance, only-item, only-link}
+use Rattle.im_script.proofs.CommandLemmas.{only-set, only-delete, only-get, only-scan, only-history, only-header, only-state, only-prove, only-advance, only-item, only-link, only-sql}
 
 command-unique : (text : List ℕ) (a b : Command) → IsCommand text a → IsCommand text b → a ≡ b
 command-unique text (Set p c) b (inl x) y =
@@ -57,6 +57,9 @@ command-unique text (Item n i u) b x y =
 command-unique text (Link m) b x y =
     let z = only-link x.0 b (subst (λ (t : List ℕ). IsCommand t b) x.1 y) in
     ap Link (number-unique x.0 m z.0 x.2 z.2) ∙ sym z.1
+command-unique text (Sql statement) b x y =
+    let z = only-sql x.0 b (subst (λ (t : List ℕ). IsCommand t b) x.1 y) in
+    ap Sql (x.2.0 ∙ sym z.2.0) ∙ sym z.1
 
 -- a text says one line at most
 pub line-unique : (text : List ℕ) (a b : Line) → IsScriptLine text a → IsScriptLine text b → a ≡ b
@@ -88,7 +91,8 @@ pub passed-no-line : (text : List ℕ) (line : Line) → IsPassedOver text → I
 passed-no-line text line (inl e) h = some-text line.session (32 ∷ h.0) (sym e ∙ h.1)
 passed-no-line text line (inr x) h = begins-no-session line.session (32 ∷ h.0) x.0 35 refl h.2 (sym x.1 ∙ h.1)
 
-some-octets : (o : ℕ) (rest : List ℕ) → o ∷ rest ≡ [] → ⊥
+-- what has an octet isn't empty
+pub some-octets : (o : ℕ) (rest : List ℕ) → o ∷ rest ≡ [] → ⊥
 some-octets o rest e = cc
 
 -- the text that ends a phase isn't passed over

@@ -5,9 +5,9 @@ use Rattle.im_text.specs.Words.{IsNumber}
 use Rattle.im_text.specs.Fields.{IsOctets}
 use Rattle.im_draft.specs.declared.drafts.Draft.{Draft}
 use Rattle.im_draft.specs.declared.preconditions.Pre.{Pre}
-use Rattle.im_script.specs.Script.{deletion, AreAsked, AreNumbers, IsItem, IsLookup, IsScriptLine, IsPassedOver, MayFollow, end_of_phase, with_name}
+use Rattle.im_script.specs.Script.{deletion, AreAsked, AreNumbers, IsItem, IsLookup, IsScriptLine, IsStatementText, IsPassedOver, MayFollow, end_of_phase, with_name}
 use Rattle.im_script.specs.declared.commands.Command.{Command}
-use Rattle.im_script.specs.declared.commands.Command.TheVariants.{Set, Get, Scan, History, Header, State, Prove, Advance, Item, Link}
+use Rattle.im_script.specs.declared.commands.Command.TheVariants.{Set, Get, Scan, History, Header, State, Prove, Advance, Item, Link, Sql}
 use Rattle.im_script.specs.declared.commands.Line.{Line}
 
 -- nothing is left, or a space comes first
@@ -66,6 +66,10 @@ IsItemCommand text command =
 -- the text behind `link `
 abbrev pub IsLink : List ℕ → Command → Type 0
 IsLink text command = (count : ℕ) × (command ≡ Link count) × IsNumber text count
+
+-- the text behind `sql `
+abbrev pub IsSql : List ℕ → Command → Type 0
+IsSql text command = (statement : List ℕ) × (command ≡ Sql statement) × IsStatementText text statement
 
 -- What was read of a script: the names of its sessions, the phases that were ended, and the lines behind these.
 pub record ReadSoFar : Type 0 where

@@ -1,5 +1,5 @@
 -- What a script says, by what its text is.
-use Rattle.std.specs.Prelude.{◌≡◌, ◌⊎◌, ◌<◌, ◌^◌, ◌||◌, ℕ, zero, suc, List, [], ◌∷◌, ◌++◌, length, nat_lt, Bool, IsTrue, Option, Some, None, if◌then◌else◌, codes, true, false}
+use Rattle.std.specs.Prelude.{◌≡◌, ◌≢◌, ◌⊎◌, ◌<◌, ◌^◌, ◌||◌, ℕ, zero, suc, List, [], ◌∷◌, ◌++◌, length, nat_lt, Bool, IsTrue, Option, Some, None, if◌then◌else◌, codes, true, false, IsUtf8}
 use Rattle.std.specs.List.{flat_map, list_any}
 use Rattle.std.specs.Str.{bytes_eq}
 use Rattle.im_text.specs.Lines.{AreTexts}
@@ -11,7 +11,7 @@ use Rattle.im_draft.specs.declared.preconditions.Pre.{Pre}
 use Rattle.im_draft.specs.declared.preconditions.Pre.TheVariants.{Exists, Missing, Since}
 use Rattle.im_text.specs.Fields.{IsSession, IsOctets}
 use Rattle.im_script.specs.declared.commands.Command.{Command}
-use Rattle.im_script.specs.declared.commands.Command.TheVariants.{Set, Get, Scan, History, Header, State, Prove, Advance, Item, Link}
+use Rattle.im_script.specs.declared.commands.Command.TheVariants.{Set, Get, Scan, History, Header, State, Prove, Advance, Item, Link, Sql}
 use Rattle.im_script.specs.declared.commands.Line.{Line}
 
 -- a precondition: `exists:K`, `missing:K` or `since:K@number`
@@ -74,6 +74,10 @@ abbrev pub IsItem : List ℕ → ℕ → ℕ → Option ℕ → Type 0
 IsItem text number index under =
     (numbers : List ℕ) × (mark : List ℕ) × (text ≡ numbers ++ mark) × AreNumbers numbers number index × (index < 2 ^ 32) × IsAt mark under
 
+-- the text of a statement: all that is left of the line. It isn't empty, and it is UTF-8
+abbrev pub IsStatementText : List ℕ → List ℕ → Type 0
+IsStatementText octets text = (text ≡ octets) × (octets ≢ []) × IsUtf8 octets
+
 -- the text of a command, its word first. `del K` is the set of the one entry that deletes K, without a precondition
 abbrev pub IsCommand : List ℕ → Command → Type 0
 IsCommand text (Set pres drafts) =
@@ -88,6 +92,7 @@ IsCommand text (Prove source target) = (numbers : List ℕ) × (text ≡ codes "
 IsCommand text (Advance source target) = (numbers : List ℕ) × (text ≡ codes "advance " ++ numbers) × AreNumbers numbers source target
 IsCommand text (Item number index under) = (rest : List ℕ) × (text ≡ codes "item " ++ rest) × IsItem rest number index under
 IsCommand text (Link count) = (digits : List ℕ) × (text ≡ codes "link " ++ digits) × IsNumber digits count
+IsCommand text (Sql statement) = (rest : List ℕ) × (text ≡ codes "sql " ++ rest) × IsStatementText rest statement
 
 -- the text of a line, without its LF: `<session>: <command>`
 abbrev pub IsScriptLine : List ℕ → Line → Type 0

@@ -1,3 +1,4 @@
+use crate::texts::Text;
 use im_draft::drafts::Drafts;
 use im_draft::preconditions::Pres;
 use im_octet::octets::Octets;
@@ -67,6 +68,11 @@ pub enum Command {
     Link {
         /// How many.
         count: u64,
+    },
+    /// Answers a statement of SQL behind all that is durable. Where it writes, it places a transaction, unless a key that it guards was written since.
+    Sql {
+        /// The text, whether it is in SQL's grammar or not.
+        text: Text,
     },
 }
 

@@ -11,3 +11,4 @@ pub mod phases;
 mod pres;
 pub mod scripts;
 mod sets;
+pub mod texts;

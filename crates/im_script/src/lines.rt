@@ -1,13 +1,14 @@
 ghost use Rattle.std.specs.Prelude.{IfOk};
 ghost use Rattle.im_text.specs.Finds.{Finds};
 ghost use Rattle.im_script.specs.Script.{IsCommand, IsScriptLine};
-ghost use Rattle.im_script.specs.Arguments.{IsSet, IsDelete, IsGet, IsScanCommand, IsHistoryCommand, IsHeaderCommand, IsState, IsProve, IsAdvance, IsItemCommand, IsLink};
+ghost use Rattle.im_script.specs.Arguments.{IsSet, IsDelete, IsGet, IsScanCommand, IsHistoryCommand, IsHeaderCommand, IsState, IsProve, IsAdvance, IsItemCommand, IsLink, IsSql};
 
 use crate::commands::{Command, Line};
 use crate::fields::first_field;
 use crate::lookups::read_lookup;
 use crate::numbers::{read_at, read_index, read_numbers};
 use crate::sets::read_asked;
+use crate::texts::read_text;
 use im_draft::drafts::{Attrs, Draft, Drafts};
 use im_draft::preconditions::Pres;
 use im_octet::octets::Octets;
@@ -138,6 +139,16 @@ fn read_link(text: &[u8]) -> Option<Command>
     Some(Command::Link { count })
 }
 
+// What stands behind `sql `.
+fn read_sql(alloc: Global, text: &[u8]) -> Result<Option<Command>, AllocError>
+    ensures { IfOk result (λ command. Finds command (IsSql text.now)) }
+{
+    let Some(text) = read_text(alloc, text)? else {
+        return Ok(None);
+    };
+    Ok(Some(Command::Sql { text }))
+}
+
 // What stands behind a session's name.
 fn read_command(alloc: Global, text: &[u8]) -> Result<Option<Command>, AllocError>
     ensures { IfOk result (λ command. Finds command (IsCommand text.now)) }
@@ -172,8 +183,11 @@ fn read_command(alloc: Global, text: &[u8]) -> Result<Option<Command>, AllocErro
     if let Some(rest) = after(text, b"item ") {
         return Ok(read_item(rest));
     }
-    match after(text, b"link ") {
-        Some(rest) => Ok(read_link(rest)),
+    if let Some(rest) = after(text, b"link ") {
+        return Ok(read_link(rest));
+    }
+    match after(text, b"sql ") {
+        Some(rest) => read_sql(alloc, rest),
         None => Ok(None),
     }
 }

@@ -121,12 +121,12 @@ cut_late hash start p answers line why others n cut late under still =
     record {
       slack = omega (arith, cut.run.leaves, cut.stuck.slack);
       risen = λ some. absurd (not_answered answers line (Some n) others some);
-      placed = λ items m most le all. let above = (late items m).above in let within = last most all in omega (arith, cut.run.placed, many, above, within);
+      placed = λ items m most le all. let l = late items m in let within = last most all in omega (arith, cut.run.placed, many, l.least, l.behind, within);
       exact = λ some linked durable. absurd (not_answered answers line (Some n) others some);
       just = λ linked durable items m all.
-          let above = (late items m).above in
+          let l = late items m in
           let within : n ≤ start.low + count_in out = last (start.low + count_in out) all in
-          let alone = alone_cut hash start p answers line why cut linked (omega (arith, above, within, many)) in
+          let alone = alone_cut hash start p answers line why cut linked (omega (arith, l.least, l.behind, within, many)) in
           let over : b.view.least.linked ≤ (transaction_of (history_of items) n).bl = (late items m).over in
           let below : (transaction_of (history_of items) n).bl ≤ p.view.least.linked = under items m in
           let reached : floor ≡ b.view.least.linked = cut.run.exact alone in

@@ -2,7 +2,6 @@
 use Rattle.std.proofs.Common.{◌≡◌, ◌⊎◌, ◌<◌, ◌≤◌, ℕ, List, [], length, map, slice_index_or, take, Option, Some, None, codes, false, true, unwrap_or, refl, ap, ap₂, sym, ◌∙◌, subst, arith, inl, inr}
 use Rattle.std.proofs.lemmas.Bool.{both_ways}
 use Rattle.std.proofs.lemmas.List.{length-take-le}
-use Rattle.std.specs.Str.{bytes_eq}
 use Rattle.im_accept.proofs.ShownLemmas.{no-entry-closed}
 use Rattle.im_accept.specs.Messages.{IsReadBack, item_between}
 use Rattle.im_digest.specs.Digests.{Hash}
@@ -15,7 +14,8 @@ use Rattle.im_proof.specs.Between.{anchor_between, dual_between, no_entry}
 use Rattle.im_proof.specs.Built.{path_of}
 use Rattle.im_proof.specs.declared.proofs.DualProof.{DualProof}
 use Rattle.im_report.proofs.PlacedLemmas.{beyond-not-placed, message-not-placed, no-entry-not-placed, other-letter, shown-not-placed}
-use Rattle.im_report.specs.Replies.{advance_reply, beyond_reply, header_reply, item_reply, item_shown, no_entry_reply, prove_reply, shown_header, state_reply, tx_reply}
+use Rattle.im_report.specs.Replies.{advance_reply, beyond_reply, header_reply, item_reply, item_shown, no_entry_reply, prove_reply, shown_header, state_reply}
+use Rattle.im_report.specs.Report.{tells_tx}
 use Rattle.im_script.specs.declared.commands.Command.TheVariants as asks
 use Rattle.im_session.proofs.ProvedLemmas.{advance_said, anchor_taken, dual_taken, entries_seen, few_taken, header_beyond, header_said, header_zero, item_said, no_item_said, prove_said, refused_said, state_empty, state_said, state_taken}
 use Rattle.im_session.proofs.ShowLemmas.{closed_again, shown_answered}
@@ -62,10 +62,10 @@ SaysHeader hash p n k reply =
     ⊎ (((1 ≤ k) × (n < k) × (reply ≡ beyond_reply n))
     ⊎ ((1 ≤ k) × (k ≤ n) × (k ≤ length p.view.seen) × (reply ≡ shown_header hash (header_of hash (history_of p.view.seen) k))))
 
-header_unplaced : (hash : Hash) (p : KnownPass) (n k : ℕ) (reply : List ℕ) → SaysHeader hash p n k reply → bytes_eq reply (tx_reply n) ≡ false
+header_unplaced : (hash : Hash) (p : KnownPass) (n k : ℕ) (reply : List ℕ) → SaysHeader hash p n k reply → tells_tx reply n ≡ false
 header_unplaced hash p n k reply (inl (none, e)) = other-letter 114 _ reply n refl e
-header_unplaced hash p n k reply (inr (inl (some, beyond, e))) = ap (λ (r : List ℕ). bytes_eq r (tx_reply n)) e ∙ beyond-not-placed n n
-header_unplaced hash p n k reply (inr (inr (some, within, seen, e))) = ap (λ (r : List ℕ). bytes_eq r (tx_reply n)) e ∙ shown-not-placed hash (header_of hash (history_of p.view.seen) k) n
+header_unplaced hash p n k reply (inr (inl (some, beyond, e))) = ap (λ (r : List ℕ). tells_tx r n) e ∙ beyond-not-placed n n
+header_unplaced hash p n k reply (inr (inr (some, within, seen, e))) = ap (λ (r : List ℕ). tells_tx r n) e ∙ shown-not-placed hash (header_of hash (history_of p.view.seen) k) n
 
 header_each : (hash : Hash) (p : KnownPass) (n k : ℕ) (reply : List ℕ) → n ≤ p.view.least.durable → SaysHeader hash p n k reply → (items : List LogItem) → MayBecome p items → reply ≡ header_reply hash (take n (history_of items)) k
 header_each hash p n k reply durable (inl (none, e)) items m = e ∙ header_zero hash (take n (history_of items)) k none
@@ -74,7 +74,7 @@ header_each hash p n k reply durable (inr (inr (some, within, seen, e))) items m
 
 pub header_answered : (hash : Hash) (old mid new : KnownPass) (k : ℕ) (answer : Answer) → HasLooked old mid new answer.number → SaysHeader hash new answer.number k answer.reply.items → IsAnswered hash old new (asks.Header k) answer
 header_answered hash old mid new k answer l says =
-    shown_answered hash old mid new (asks.Header k) answer l.first l.then l.first_gains l.then_gains l.is l.above (λ n f. refl) (header_unplaced hash new answer.number k answer.reply.items says)
+    shown_answered hash old mid new (asks.Header k) answer l.first l.then l.first_gains l.then_gains l.is l.above (λ n f. refl) (header_unplaced hash new answer.number k answer.reply.items says) tt
     (header_each hash new answer.number k answer.reply.items (looked_durable old mid new answer.number l) says) (λ items m. tt)
 
 -- where the store gave the header, and it is shown
@@ -89,9 +89,9 @@ SaysState hash p n reply =
     ((n ≡ 0) × (reply ≡ codes "refused empty"))
     ⊎ ((1 ≤ n) × (n ≤ length p.view.seen) × (reply ≡ text (says.State (header_of hash (history_of p.view.seen) n))) × HasMessage reply (says.State (header_of hash (history_of p.view.seen) n)))
 
-state_unplaced : (hash : Hash) (p : KnownPass) (n : ℕ) (reply : List ℕ) → SaysState hash p n reply → bytes_eq reply (tx_reply n) ≡ false
+state_unplaced : (hash : Hash) (p : KnownPass) (n : ℕ) (reply : List ℕ) → SaysState hash p n reply → tells_tx reply n ≡ false
 state_unplaced hash p n reply (inl (none, e)) = other-letter 114 _ reply n refl e
-state_unplaced hash p n reply (inr (some, seen, e, again)) = ap (λ (r : List ℕ). bytes_eq r (tx_reply n)) e ∙ message-not-placed (says.State (header_of hash (history_of p.view.seen) n)) n
+state_unplaced hash p n reply (inr (some, seen, e, again)) = ap (λ (r : List ℕ). tells_tx r n) e ∙ message-not-placed (says.State (header_of hash (history_of p.view.seen) n)) n
 
 state_each : (hash : Hash) (p : KnownPass) (n : ℕ) (reply : List ℕ) → n ≤ p.view.least.durable → SaysState hash p n reply → (items : List LogItem) → MayBecome p items → reply ≡ state_reply hash (take n (history_of items))
 state_each hash p n reply durable (inl (none, e)) items m =
@@ -107,7 +107,7 @@ state_again hash p n reply durable (inr (some, seen, e, again)) items m =
 pub state_answered : (hash : Hash) (old mid new : KnownPass) (answer : Answer) → HasLooked old mid new answer.number → SaysState hash new answer.number answer.reply.items → IsAnswered hash old new asks.State answer
 state_answered hash old mid new answer l says =
     let durable = looked_durable old mid new answer.number l in
-    shown_answered hash old mid new asks.State answer l.first l.then l.first_gains l.then_gains l.is l.above (λ n f. refl) (state_unplaced hash new answer.number answer.reply.items says)
+    shown_answered hash old mid new asks.State answer l.first l.then l.first_gains l.then_gains l.is l.above (λ n f. refl) (state_unplaced hash new answer.number answer.reply.items says) tt
     (state_each hash new answer.number answer.reply.items durable says) (state_again hash new answer.number answer.reply.items durable says)
 
 pub state_told : (hash : Hash) (old mid new : KnownPass) (answer : Answer) (header : Header) → HasLooked old mid new answer.number → 1 ≤ answer.number → AnswersHeader hash mid new answer.number header
@@ -129,9 +129,9 @@ SaysProof hash p n s t reply =
     IsRefusedBetween n s t reply
     ⊎ (AreSeen p n s t × (reply ≡ text (says.Dual (dual_between hash (history_of p.view.seen) s t))) × HasMessage reply (says.Dual (dual_between hash (history_of p.view.seen) s t)))
 
-proof_unplaced : (hash : Hash) (p : KnownPass) (n s t : ℕ) (reply : List ℕ) → SaysProof hash p n s t reply → bytes_eq reply (tx_reply n) ≡ false
+proof_unplaced : (hash : Hash) (p : KnownPass) (n s t : ℕ) (reply : List ℕ) → SaysProof hash p n s t reply → tells_tx reply n ≡ false
 proof_unplaced hash p n s t reply (inl refused) = refused.unplaced
-proof_unplaced hash p n s t reply (inr (are, e, again)) = ap (λ (r : List ℕ). bytes_eq r (tx_reply n)) e ∙ message-not-placed (says.Dual (dual_between hash (history_of p.view.seen) s t)) n
+proof_unplaced hash p n s t reply (inr (are, e, again)) = ap (λ (r : List ℕ). tells_tx r n) e ∙ message-not-placed (says.Dual (dual_between hash (history_of p.view.seen) s t)) n
 
 proof_each : (hash : Hash) (p : KnownPass) (n s t : ℕ) (reply : List ℕ) → n ≤ p.view.least.durable → SaysProof hash p n s t reply → (items : List LogItem) → MayBecome p items → reply ≡ prove_reply hash (take n (history_of items)) s t
 unfolding prove_reply
@@ -148,7 +148,7 @@ proof_again hash p n s t reply durable (inr (are, e, again)) items m =
 pub proof_answered : (hash : Hash) (old mid new : KnownPass) (s t : ℕ) (answer : Answer) → HasLooked old mid new answer.number → SaysProof hash new answer.number s t answer.reply.items → IsAnswered hash old new (asks.Prove s t) answer
 proof_answered hash old mid new s t answer l says =
     let durable = looked_durable old mid new answer.number l in
-    shown_answered hash old mid new (asks.Prove s t) answer l.first l.then l.first_gains l.then_gains l.is l.above (λ n f. refl) (proof_unplaced hash new answer.number s t answer.reply.items says)
+    shown_answered hash old mid new (asks.Prove s t) answer l.first l.then l.first_gains l.then_gains l.is l.above (λ n f. refl) (proof_unplaced hash new answer.number s t answer.reply.items says) tt
     (proof_each hash new answer.number s t answer.reply.items durable says) (proof_again hash new answer.number s t answer.reply.items durable says)
 
 -- two that the store found durable
@@ -169,9 +169,9 @@ abbrev pub SaysAdvance : Hash → KnownPass → ℕ → ℕ → ℕ → List ℕ
 SaysAdvance hash p n s t reply =
     IsRefusedBetween n s t reply ⊎ (AreSeen p n s t × (reply ≡ text (advance_of hash (history_of p.view.seen) s t)) × HasMessage reply (advance_of hash (history_of p.view.seen) s t))
 
-advance_unplaced : (hash : Hash) (p : KnownPass) (n s t : ℕ) (reply : List ℕ) → SaysAdvance hash p n s t reply → bytes_eq reply (tx_reply n) ≡ false
+advance_unplaced : (hash : Hash) (p : KnownPass) (n s t : ℕ) (reply : List ℕ) → SaysAdvance hash p n s t reply → tells_tx reply n ≡ false
 advance_unplaced hash p n s t reply (inl refused) = refused.unplaced
-advance_unplaced hash p n s t reply (inr (are, e, again)) = ap (λ (r : List ℕ). bytes_eq r (tx_reply n)) e ∙ message-not-placed (advance_of hash (history_of p.view.seen) s t) n
+advance_unplaced hash p n s t reply (inr (are, e, again)) = ap (λ (r : List ℕ). tells_tx r n) e ∙ message-not-placed (advance_of hash (history_of p.view.seen) s t) n
 
 advance_each : (hash : Hash) (p : KnownPass) (n s t : ℕ) (reply : List ℕ) → n ≤ p.view.least.durable → SaysAdvance hash p n s t reply → (items : List LogItem) → MayBecome p items → reply ≡ advance_reply hash (take n (history_of items)) s t
 unfolding advance_reply
@@ -190,7 +190,7 @@ pub advance_answered : (hash : Hash) (old mid new : KnownPass) (s t : ℕ) (answ
     → IsAnswered hash old new (asks.Advance s t) answer
 advance_answered hash old mid new s t answer l says =
     let durable = looked_durable old mid new answer.number l in
-    shown_answered hash old mid new (asks.Advance s t) answer l.first l.then l.first_gains l.then_gains l.is l.above (λ n f. refl) (advance_unplaced hash new answer.number s t answer.reply.items says)
+    shown_answered hash old mid new (asks.Advance s t) answer l.first l.then l.first_gains l.then_gains l.is l.above (λ n f. refl) (advance_unplaced hash new answer.number s t answer.reply.items says) tt
     (advance_each hash new answer.number s t answer.reply.items durable says) (advance_again hash new answer.number s t answer.reply.items durable says)
 
 pub advance_told : (hash : Hash) (old mid new : KnownPass) (s t : ℕ) (answer : Answer) (advance : Advance) → HasLooked old mid new answer.number → t ≤ answer.number → AnswersAdvance hash mid new s t advance
@@ -206,10 +206,10 @@ SaysItem hash p n t i s reply =
     ⊎ ((AreSeen p n t s × (length (transaction_of (history_of p.view.seen) t).entries ≤ i) × (reply ≡ no_entry_reply (length (transaction_of (history_of p.view.seen) t).entries)))
     ⊎ (AreSeen p n t s × (i < length (transaction_of (history_of p.view.seen) t).entries) × (reply ≡ text (item_between hash (history_of p.view.seen) t i s)) × HasMessage reply (item_between hash (history_of p.view.seen) t i s)))
 
-item_unplaced : (hash : Hash) (p : KnownPass) (n t i s : ℕ) (reply : List ℕ) → SaysItem hash p n t i s reply → bytes_eq reply (tx_reply n) ≡ false
+item_unplaced : (hash : Hash) (p : KnownPass) (n t i s : ℕ) (reply : List ℕ) → SaysItem hash p n t i s reply → tells_tx reply n ≡ false
 item_unplaced hash p n t i s reply (inl refused) = refused.unplaced
-item_unplaced hash p n t i s reply (inr (inl (are, beyond, e))) = ap (λ (r : List ℕ). bytes_eq r (tx_reply n)) e ∙ no-entry-not-placed (length (transaction_of (history_of p.view.seen) t).entries) n
-item_unplaced hash p n t i s reply (inr (inr (are, inside, e, again))) = ap (λ (r : List ℕ). bytes_eq r (tx_reply n)) e ∙ message-not-placed (item_between hash (history_of p.view.seen) t i s) n
+item_unplaced hash p n t i s reply (inr (inl (are, beyond, e))) = ap (λ (r : List ℕ). tells_tx r n) e ∙ no-entry-not-placed (length (transaction_of (history_of p.view.seen) t).entries) n
+item_unplaced hash p n t i s reply (inr (inr (are, inside, e, again))) = ap (λ (r : List ℕ). tells_tx r n) e ∙ message-not-placed (item_between hash (history_of p.view.seen) t i s) n
 
 item_each : (hash : Hash) (p : KnownPass) (n t i s : ℕ) (reply : List ℕ) → n ≤ p.view.least.durable → SaysItem hash p n t i s reply → (items : List LogItem) → MayBecome p items
     → reply ≡ item_reply hash (take n (history_of items)) t i s
@@ -238,7 +238,7 @@ pub item_answered_named : (hash : Hash) (old mid new : KnownPass) (t i s : ℕ) 
     → IsAnswered hash old new (asks.Item t i (Some s)) answer
 item_answered_named hash old mid new t i s answer l says =
     let durable = looked_durable old mid new answer.number l in
-    shown_answered hash old mid new (asks.Item t i (Some s)) answer l.first l.then l.first_gains l.then_gains l.is l.above (λ n f. refl) (item_unplaced hash new answer.number t i s answer.reply.items says)
+    shown_answered hash old mid new (asks.Item t i (Some s)) answer l.first l.then l.first_gains l.then_gains l.is l.above (λ n f. refl) (item_unplaced hash new answer.number t i s answer.reply.items says) tt
     (item_each hash new answer.number t i s answer.reply.items durable says) (item_read hash new answer.number t i s answer.reply.items durable says)
 
 -- under the last durable one
@@ -247,7 +247,7 @@ pub item_answered_last : (hash : Hash) (old mid new : KnownPass) (t i : ℕ) (an
 item_answered_last hash old mid new t i answer l says =
     let n : ℕ = answer.number in
     let durable = looked_durable old mid new n l in
-    shown_answered hash old mid new (asks.Item t i None) answer l.first l.then l.first_gains l.then_gains l.is l.above (λ k f. refl) (item_unplaced hash new n t i n answer.reply.items says)
+    shown_answered hash old mid new (asks.Item t i None) answer l.first l.then l.first_gains l.then_gains l.is l.above (λ k f. refl) (item_unplaced hash new n t i n answer.reply.items says) tt
     (item_each hash new n t i n answer.reply.items durable says)
     (λ items m. (let size : length (take n (history_of items)) ≡ n = length-take-le n (history_of items) (few_taken new items n m durable) in
     subst (λ (k : ℕ). is_open answer.reply.items ≡ true → HasMessage answer.reply.items (item_between hash (take n (history_of items)) t i k)) (sym size) (item_read hash new n t i n answer.reply.items durable says items m)))

@@ -129,11 +129,11 @@ abbrev pub BeginsAt : KnownPass → Session → Type 0
 BeginsAt p s = (s.pass.view.seen ≡ p.view.seen) × (s.pass.view.least ≡ p.view.least)
 
 -- one session more begins
-pub begun_push : (table : TableId) (first : KnownPass) (before after : List Session) (s : Session) (hands : List (List Line)) (mine : List Line) → after ≡ before ++ s ∷ [] → All (IsReady table) before → All (BeginsAt first) before
-    → map (λ (x : Session). x.lines.items) before ≡ hands → IsReady table s → BeginsAt first s → s.lines.items ≡ mine
-    → All (IsReady table) after × All (BeginsAt first) after × (map (λ (x : Session). x.lines.items) after ≡ hands ++ mine ∷ [])
-begun_push table first before after s hands mine is ready begins lines this here own = (
-  subst (All (IsReady table)) (sym is) (All-push (IsReady table) before s ready this),
+pub begun_push : (found : List LogItem) (table : TableId) (first : KnownPass) (before after : List Session) (s : Session) (hands : List (List Line)) (mine : List Line) → after ≡ before ++ s ∷ [] → All (IsReady found table) before → All (BeginsAt first) before
+    → map (λ (x : Session). x.lines.items) before ≡ hands → IsReady found table s → BeginsAt first s → s.lines.items ≡ mine
+    → All (IsReady found table) after × All (BeginsAt first) after × (map (λ (x : Session). x.lines.items) after ≡ hands ++ mine ∷ [])
+begun_push found table first before after s hands mine is ready begins lines this here own = (
+  subst (All (IsReady found table)) (sym is) (All-push (IsReady found table) before s ready this),
   subst (All (BeginsAt first)) (sym is) (All-push (BeginsAt first) before s begins here),
   ap (map (λ (x : Session). x.lines.items)) is ∙ map-append (λ (x : Session). x.lines.items) before (s ∷ [])
       ∙ (ap (λ (ls : List (List Line)). ls ++ s.lines.items ∷ []) lines ∙ ap (λ (l : List Line). hands ++ l ∷ []) own),

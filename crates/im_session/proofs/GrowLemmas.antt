@@ -1,5 +1,5 @@
 -- Lists that the one list may have grown to, and passes behind several calls.
-use Rattle.std.proofs.Common.{◌≡◌, ◌≤◌, ℕ, List, [], ◌∷◌, length, take, zero, suc, ◌-◌, Some, slice_get, slice_index_or, refl, ap, sym, ◌∙◌, arith, length-append}
+use Rattle.std.proofs.Common.{◌≡◌, ◌≤◌, ℕ, List, [], ◌∷◌, length, take, zero, suc, ◌-◌, Some, slice_get, slice_index_or, ap, sym, ◌∙◌, arith, length-append}
 use Rattle.std.proofs.lemmas.List.{take-append-le}
 use mathlib.Core.List.{IsPrefix}
 use Rattle.im_model.specs.History.{no_transaction, transaction_of}

@@ -24,3 +24,4 @@ pub mod RefusedLemmas
 pub mod AnswerLemmas
 pub mod ReadLemmas
 pub mod PlayedLemmas
+pub mod StatementLemmas

@@ -1,8 +1,9 @@
 -- A phase more behind those that were played.
-use Rattle.std.proofs.Common.{◌≡◌, inl, inr, ℕ, zero, suc, ◌≤◌, ◌++◌, List, [], ◌∷◌, max, Bool, true, false, Option, Some, None, if◌then◌else◌, refl, arith}
+use Rattle.std.proofs.Common.{◌≡◌, inl, inr, ℕ, zero, suc, ◌≤◌, ◌++◌, List, [], ◌∷◌, max, Bool, true, false, Option, Some, None, if◌then◌else◌, slice_index_or, refl, arith}
 use Rattle.std.specs.Prelude.{All, IfSome}
 use Rattle.im_digest.specs.Digests.{Hash}
 use Rattle.im_model.specs.declared.transactions.Transaction.{Transaction}
+use Rattle.im_report.proofs.SingleLemmas.{reads_more}
 use Rattle.im_report.specs.Outcomes.{AreAnswers, IsCutOff, IsLate, IsOver, IsSession, Outcome, floors_told, highest, of_session}
 use Rattle.im_report.specs.Report.{Answered, floor_after, floor_by, is_placed}
 use Rattle.im_report.specs.Sessions.{ArePhases, IsPhase, next_floor, next_low}
@@ -41,18 +42,19 @@ answers_less hash l f m g h answers le up s = record {
   each = s.each;
   least = λ i d lt. (let r = s.least i d lt in omega (arith, r.0, le), λ e. omega (arith, (s.least i d lt).1 e, le));
   rising = s.rising;
+  least_read = λ i d lt. reads_more l m le (slice_index_or answers i d) (s.least_read i d lt);
+  reading = s.reading;
   floors = floors_less h f g answers up s.floors;
 }
 
 pub late_less : (h : List Transaction) (l f m g : ℕ) (line : Line) (late : Option ℕ) → l ≤ m → f ≤ g → IfSome late (IsLate h m g line.command) → IfSome late (IsLate h l f line.command)
 late_less h l f m g line None le up s = s
 late_less h l f m g line (Some n) le up s = record {
-  pres = s.pres;
-  drafts = s.drafts;
+  read = s.read;
+  asked = s.asked;
   asks = s.asks;
-  free = s.free;
-  are = s.are;
-  above = omega (arith, s.above, le);
+  least = omega (arith, s.least, le);
+  behind = s.behind;
   within = s.within;
   admitted = s.admitted;
   writes = s.writes;

@@ -1,16 +1,16 @@
 -- What a session has answered, and one line more.
-use Rattle.std.proofs.Common.{◌≡◌, ℕ, ◌+◌, ◌≤◌, ◌++◌, List, [], ◌∷◌, length, take, Bool, true, false, Some, if◌then◌else◌, refl, ap, sym, ◌∙◌, subst, arith, append-nil, append_assoc, length-append}
+use Rattle.std.proofs.Common.{◌≡◌, ℕ, ◌+◌, ◌≤◌, ◌++◌, List, [], ◌∷◌, length, take, Bool, true, false, Some, if◌then◌else◌, refl, ap, sym, ◌∙◌, subst, arith, slice_index_or, append-nil, append_assoc, length-append}
 use Rattle.std.specs.Prelude.{All}
 use Rattle.std.proofs.lemmas.List.Elements.{All-push}
 use Rattle.std.proofs.lemmas.List.Quantifiers.{all_pairs_push}
 use Rattle.im_accept.specs.Messages.{IsReadBack}
 use Rattle.im_digest.specs.Digests.{Hash}
-use Rattle.im_report.proofs.SingleLemmas.{floor_both}
+use Rattle.im_report.proofs.SingleLemmas.{floor_both, reads_more}
 use Rattle.im_report.specs.Outcomes.{AreAnswers, IsOver, Rises, floors_told, number_told}
-use Rattle.im_report.specs.Report.{Answered, IsAnswer, floor_after, floor_by, is_placed}
+use Rattle.im_report.specs.Report.{Answered, IsAnswer, ReadsFrom, floor_after, floor_by, is_placed}
 use Rattle.im_report.specs.Sessions.{IsJustOver}
 use Rattle.im_script.specs.declared.commands.Command.{Command}
-use Rattle.im_script.specs.declared.commands.Command.TheVariants.{Set, Get, Scan, History, Header, State, Prove, Advance, Item, Link}
+use Rattle.im_script.specs.declared.commands.Command.TheVariants.{Set, Get, Scan, History, Header, State, Prove, Advance, Item, Link, Sql}
 use Rattle.im_session.proofs.GrowLemmas.{may_before}
 use Rattle.im_session.specs.Lines.{IsStep}
 use Rattle.im_session.specs.Runs.{IsAlone, IsRun, Start, numbers_told}
@@ -45,6 +45,7 @@ floor_more (Prove s t) n f g le = le
 floor_more (Advance s t) n f g le = le
 floor_more (Item t i under) n f g le = le
 floor_more (Link count) n f g le = omega arith
+floor_more (Sql text) n f g le = le
 
 -- of each pair, and of one more where there is one
 pairs_on : (P : ℕ × ℕ → Type 0) (ps : List (ℕ × ℕ)) (b : Bool) (n f : ℕ) → All P ps → (b ≡ true → P (n, f)) → All P (ps ++ pair_of b n f)
@@ -95,6 +96,9 @@ run_push hash start old new answers a r s l =
             least = All-push (Rises low) answers a before.least (omega (arith, r.from, s.rises.0), λ e. omega (arith, r.from, s.rises.1 e));
             rising = all_pairs_push (λ (b c : Answered). Rises b.number c) answers a before.rising
                 (λ k d lt. let known = r.known k d lt in (omega (arith, known, s.rises.0), λ e. omega (arith, known, s.rises.1 e)));
+            least_read = All-push (ReadsFrom low) answers a before.least_read (reads_more low old.view.least.durable r.from a s.reads);
+            reading = all_pairs_push (λ (b c : Answered). ReadsFrom b.number c) answers a before.reading
+                (λ k d lt. reads_more (slice_index_or answers k d).number old.view.least.durable (r.known k d lt) a s.reads);
             floors = subst (All (IsOver (history_of items))) (sym (floors_push start.floor answers a))
                 (pairs_on (IsOver (history_of items)) (floors_told start.floor answers) (is_placed a) a.number (floor_after start.floor answers) before.floors
                 (λ e. omega (arith, r.reached, s.over e items m)));
@@ -129,6 +133,8 @@ run_none hash p none leaves faults = record {
     each = λ i d lt. absurd (omega arith);
     least = λ i d lt. absurd (omega arith);
     rising = λ i j d lt le. absurd (omega arith);
+    least_read = λ i d lt. absurd (omega arith);
+    reading = λ i j d lt le. absurd (omega arith);
     floors = λ i d lt. absurd (omega arith);
   };
   again = λ items m i d lt. absurd (omega arith);

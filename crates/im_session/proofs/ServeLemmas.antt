@@ -42,6 +42,8 @@ use Rattle.im_session.specs.declared.errors.LineError.TheVariants.{DiskFault, Me
 use Rattle.im_session.specs.declared.sessions.Ended.{Ended}
 use Rattle.im_session.specs.declared.serve.Stopped.{Stopped}
 use Rattle.im_session.specs.declared.serve.Stopped.TheVariants as stops
+use Rattle.im_sqllaw.specs.Law.{KeepsSql}
+use Rattle.im_sqlmodel.specs.Kept.{IsSqlKept}
 use Rattle.im_store.specs.Closing.{AreAll, ClosesStore, leaves_linked, own_count, weight_in}
 use Rattle.im_store.specs.Names.{Naming}
 use Rattle.im_table.proofs.HistoryLemmas.{history_length}
@@ -107,6 +109,8 @@ session_unrun hash low floor h ls = record {
     each = λ i d lt. absurd (omega arith);
     least = λ i d lt. absurd (omega arith);
     rising = λ i j d lt less. absurd (omega arith);
+    least_read = λ i d lt. absurd (omega arith);
+    reading = λ i j d lt less. absurd (omega arith);
     floors = λ i d lt. absurd (omega arith);
   };
 }
@@ -205,10 +209,6 @@ phase_named script before after phase is =
     let lines : lines_of script ≡ lines_of before ++ (phase ++ lines_of after) = ap (λ (ps : List (List Line)). lines_of ps) is ∙ flat_map-append (λ (ls : List Line). ls) before (phase ∷ after) in
     let all : All P (lines_of before ++ (phase ++ lines_of after)) = subst (All P) lines (names-all [] (lines_of script)) in
     all-left P phase (lines_of after) (all-right P (lines_of before) (phase ++ lines_of after) all)
-
-pub list_none : {X : Type 0} (xs : List X) → length xs ≡ 0 → xs ≡ []
-list_none [] none = refl
-list_none (x ∷ xs) none = absurd (omega (arith, none))
 
 -- ---- phase behind phase
 
@@ -340,10 +340,10 @@ rose_less before now count few le (inr full) = inr full
 module _ {D : Type 0} (tells : D → Option Told) (counts : D → ℕ) (links : Bool) (n : Naming) (first now : KnownPass) (script : List (List Line)) (before written : Option (List ℕ)) (faults_before faults_now : ℕ)
     (disk : D) (constant : Option ℤ) (given : Option (List ℤ)) (end : Result Unit Stopped)
     (r : RunsPhases n.digest links first now script before written faults_before faults_now end)
-    (c : ClosesStore (λ _. Unit {0}) tells counts n.digest n.logs n.found n.synced n.faults n.time n.given (now ∷ []) disk constant given)
+    (c : ClosesStore KeepsSql tells counts n.digest n.logs n.found n.synced n.faults n.time n.given (now ∷ []) disk constant given)
     (durable : first.view.least.durable ≡ length n.found) (linked : first.view.least.linked ≡ length n.found)
     (none : first.view.own ≡ []) (unlinked : first.view.leaves ≡ 0) (untold : first.view.faults ≡ 0)
-    (weight : now.view.weight ≡ 1048576) (marked : All (λ item. item.found ≡ true) n.found) where
+    (weight : now.view.weight ≡ 1048576) (marked : All (λ item. item.found ≡ true) n.found) (keeps : IsSqlKept (history_of c.items)) where
   all_weight : AreAll (now ∷ [])
   all_weight = omega (arith, weight, sum_by-cons weight_in now [])
 
@@ -423,6 +423,7 @@ module _ {D : Type 0} (tells : D → Option Told) (counts : D → ℕ) (links : 
     all = r.all;
     history = history_of c.items;
     report = report;
+    kept = keeps;
     again = r.so_far.again c.items may;
     wrote = r.wrote;
     durable = c.durable;

@@ -1,25 +1,22 @@
 -- What one line makes of its session's pass, by the calls that it makes.
-use Rattle.std.proofs.Common.{◌≡◌, inl, inr, ℕ, ◌+◌, ◌-◌, ◌≤◌, ◌++◌, List, [], ◌∷◌, length, take, min, Bool, true, false, Option, Some, None, ℤ, map, if◌then◌else◌, true≢false, refl, ap, sym, ◌∙◌, subst, arith, append-nil}
+use Rattle.std.proofs.Common.{◌≡◌, ℕ, ◌+◌, ◌-◌, ◌≤◌, ◌++◌, List, [], ◌∷◌, length, take, min, Bool, true, false, Option, Some, None, ℤ, if◌then◌else◌, true≢false, ap, sym, ◌∙◌, subst, arith, append-nil}
 use Rattle.im_digest.specs.Digests.{Hash}
-use Rattle.im_draft.specs.Drafts.{entry_of, AreEntries, AreFree}
-use Rattle.im_draft.specs.declared.drafts.Draft.{Draft}
 use Rattle.im_model.specs.History.{transaction_of}
 use Rattle.im_model.specs.declared.transactions.Transaction.{Transaction}
 use Rattle.im_accept.specs.Messages.{IsReadBack}
+use Rattle.im_report.specs.Asking.{MayAsk}
 use Rattle.im_report.specs.Outcomes.{IsLate, number_told}
-use Rattle.im_report.specs.Report.{Answered, IsAnswer, floor_by, is_placed}
+use Rattle.im_report.specs.Report.{Answered, IsAnswer, ReadsBy, ReadsFrom, floor_by, is_placed}
 use Rattle.im_script.specs.declared.commands.Command.{Command}
-use Rattle.im_script.specs.declared.commands.Command.TheVariants.{Set, Link}
+use Rattle.im_script.specs.declared.commands.Command.TheVariants.{Link}
 use Rattle.im_script.specs.declared.commands.Line.{Line}
 use Rattle.im_session.proofs.GrowLemmas.{front_length, history_taken, transaction_at}
-use Rattle.im_session.specs.Lines.{IsStep, IsStuck, IsWhy, KnowsFault, MayBecome}
+use Rattle.im_session.specs.Lines.{IsCommit, IsStep, IsStuck, IsWhy, KnowsFault, MayBecome}
+use Rattle.im_session.specs.Statements.{HasCounted}
 use Rattle.im_session.specs.declared.errors.LineError.{LineError}
 use Rattle.im_session.specs.declared.errors.LineError.TheVariants.{DiskFault, Memory}
-use Rattle.std.specs.Str.{bytes_eq}
 use Rattle.std.proofs.lemmas.List.{take-map}
-use Rattle.std.proofs.lemmas.Slice.Eq.{bytes_eq-Decides}
-use Rattle.im_report.specs.Reads.{place_reply}
-use Rattle.im_report.specs.Replies.{tx_reply}
+use Rattle.im_store.proofs.GainLemmas.{gains_same, later_self}
 use Rattle.im_store.proofs.ProveLemmas.{transaction_front}
 use Rattle.im_store.specs.Commits.{HasPlaced, IsRefusedDurably}
 use Rattle.im_tx.specs.Asked.{Asked}
@@ -55,17 +52,18 @@ slack_kept old new l g = omega (arith, l.linked, g.leaves)
 -- A line whose reply tells no transaction: what its reply says is given for each list, at a number that was durable as the line loaded it first.
 pub shown_step : (hash : Hash) (old mid new : KnownPass) (a : Answered) → Later old mid → Later mid new → Gains [] 0 0 old mid → Gains [] 0 0 mid new
     → mid.view.least.durable ≡ a.number → old.view.least.durable ≤ a.number → is_placed a ≡ false
-    → ((n f : ℕ) → floor_by a.line.command n f ≡ f)
+    → ((n f : ℕ) → floor_by a.line.command n f ≡ f) → ReadsFrom old.view.least.durable a
     → ((items : List LogItem) → MayBecome new items → IsAnswer hash (history_of items) a.line.command a.number a.reply)
     → ((items : List LogItem) → MayBecome new items → IsReadBack hash (take a.number (history_of items)) a.line.command a.reply)
     → IsStep hash old new a
-shown_step hash old mid new a l m g k is above none floor answer again =
+shown_step hash old mid new a l m g k is above none floor reads answer again =
     let told : number_told (Some a) ≡ [] = ap (λ (b : Bool). if b then a.number ∷ [] else []) none in
     let whole = later_both old mid new l m in
     record {
       answer = answer;
       again = again;
       rises = (above, λ e. absurd (true≢false (sym e ∙ none)));
+      reads = reads;
       known = omega (arith, is, m.durable);
       own = k.own ∙ (append-nil mid.view.own ∙ g.own) ∙ ap (λ (xs : List ℕ). old.view.own ++ xs) (sym told);
       over = λ e. absurd (true≢false (sym e ∙ none));
@@ -91,6 +89,7 @@ link_step hash old mid new a count before size l m g linked k is above asks none
       answer = answer;
       again = again;
       rises = (above, λ e. absurd (true≢false (sym e ∙ none)));
+      reads = subst (λ (c : Command). ReadsBy old.view.least.durable c a.number a.reply) (sym asks) tt;
       known = omega (arith, is, m.durable);
       own = k.own ∙ (append-nil mid.view.own ∙ g.own) ∙ ap (λ (xs : List ℕ). old.view.own ++ xs) (sym told);
       over = λ e. absurd (true≢false (sym e ∙ none));
@@ -127,107 +126,124 @@ placed_stands time asked old new n p items m =
       under = subst (λ (t : Transaction). t.bl ≤ new.view.least.linked) (sym whole) at.most;
     }
 
+-- what a pass knows to be durable, it has counted
+pub counted_here : (p : KnownPass) → HasCounted p p p.view.least.durable
+counted_here p = record { later = later_self p; gains = gains_same p; least = omega arith; known = omega arith }
+
+-- a line whose command asks for this, judged behind so many transactions: they were counted at an earlier moment of its pass
+pub record Asks (first old new : KnownPass) (read : ℕ) (command : Command) (asked : Asked) : Type 0 where
+  pub counted : HasCounted first old read
+  pub commits : IsCommit command
+  pub asks : (items : List LogItem) → MayBecome new items → MayAsk (history_of items) read command asked
+
 -- a commit that was placed, and has no reply
-pub late_of : (time : Option ℤ) (asked : Asked) (old new : KnownPass) (n : ℕ) (drafts : List Draft) → AreFree drafts → AreEntries drafts → asked.entries ≡ map entry_of drafts
-    → HasPlaced time asked old new n → (items : List LogItem) → MayBecome new items → IsLate (history_of items) old.view.least.durable old.view.least.linked (Set asked.pres drafts) n
-late_of time asked old new n drafts free are same p items m =
+pub late_of : (time : Option ℤ) (asked : Asked) (first old new : KnownPass) (read n : ℕ) (command : Command) → Asks first old new read command asked → HasPlaced time asked old new n
+    → (items : List LogItem) → MayBecome new items → IsLate (history_of items) first.view.least.durable first.view.least.linked command n
+late_of time asked first old new read n command a p items m =
     let s = placed_stands time asked old new n p items m in
     record {
-      pres = asked.pres;
-      drafts = drafts;
-      asks = refl;
-      free = free;
-      are = are;
-      above = p.later;
+      read = read;
+      asked = asked;
+      asks = a.asks items m;
+      least = a.counted.least;
+      behind = omega (arith, a.counted.known, p.later);
       within = s.within;
       admitted = s.admitted;
-      writes = s.writes ∙ same;
-      over = s.over;
+      writes = s.writes;
+      over = omega (arith, a.counted.later.linked, s.over);
     }
 
--- a commit that has a receipt: its reply is `tx` and its number
-pub tx_step : (hash : Hash) (time : Option ℤ) (asked : Asked) (old new : KnownPass) (n : ℕ) (session : List ℕ) (drafts : List Draft) (reply : List ℕ)
-    → AreFree drafts → AreEntries drafts → asked.entries ≡ map entry_of drafts → HasPlaced time asked old new n → n ≤ new.view.least.durable → Later old new → Gains (n ∷ []) 0 0 old new
-    → reply ≡ tx_reply n
-    → IsStep hash old new (record { line = record { session = session; command = Set asked.pres drafts }; number = n; reply = reply })
-tx_step hash time asked old new n session drafts reply free are same p durable l g says =
-    let stands = placed_stands time asked old new n p in
-    let placed : bytes_eq reply (tx_reply n) ≡ true = (bytes_eq-Decides reply (tx_reply n)).1 says in
-    let told : number_told (Some (record { line = record { session = session; command = Set asked.pres drafts }; number = n; reply = reply })) ≡ n ∷ [] = ap (λ (b : Bool). if b then n ∷ [] else []) placed in
+-- a commit that has a receipt: its reply tells its number
+pub tx_step : (hash : Hash) (time : Option ℤ) (asked : Asked) (first old new : KnownPass) (read : ℕ) (a : Answered) → HasCounted first old read → HasPlaced time asked old new a.number
+    → a.number ≤ new.view.least.durable → Later old new → Gains (a.number ∷ []) 0 0 old new → is_placed a ≡ true → ((n f : ℕ) → floor_by a.line.command n f ≡ f) → ReadsFrom first.view.least.durable a
+    → ((items : List LogItem) → MayBecome new items → StandsFor old new (history_of items) asked a.number → IsAnswer hash (history_of items) a.line.command a.number a.reply)
+    → ((items : List LogItem) → MayBecome new items → IsReadBack hash (take a.number (history_of items)) a.line.command a.reply)
+    → IsStep hash first new a
+tx_step hash time asked first old new read a c p durable l g placed floor reads answer again =
+    let stands = placed_stands time asked old new a.number p in
+    let told : number_told (Some a) ≡ a.number ∷ [] = ap (λ (b : Bool). if b then a.number ∷ [] else []) placed in
+    let before = c.later in
     record {
-      answer = λ items m. let s = stands items m in inr (free, inr (are, inr (omega (arith, p.above), s.admitted, s.writes ∙ same, says)));
-      again = λ items m. tt;
-      rises = (omega (arith, p.later), λ _. p.later);
+      answer = λ items m. answer items m (stands items m);
+      again = again;
+      rises = (omega (arith, before.durable, p.later), λ _. omega (arith, before.durable, p.later));
+      reads = reads;
       known = durable;
-      own = g.own ∙ ap (λ (xs : List ℕ). old.view.own ++ xs) (sym told);
-      over = λ _ items m. (stands items m).over;
+      own = g.own ∙ (ap (λ (xs : List ℕ). xs ++ a.number ∷ []) (c.gains.own ∙ append-nil first.view.own) ∙ ap (λ (xs : List ℕ). first.view.own ++ xs) (sym told));
+      over = λ _ items m. (let over = (stands items m).over in omega (arith, before.linked, over));
       under = λ _ items m. (stands items m).under;
-      floor = l.linked;
-      calm = omega (arith, g.faults);
-      linked_none = λ _. omega (arith, g.leaves);
-      slack = omega (arith, l.linked, g.leaves);
-      just = λ same still. omega (arith, same, g.leaves);
+      floor = omega (arith, floor a.number first.view.least.linked, before.linked, l.linked);
+      calm = omega (arith, c.gains.faults, g.faults);
+      linked_none = λ _. omega (arith, c.gains.leaves, g.leaves);
+      slack = omega (arith, before.linked, l.linked, c.gains.leaves, g.leaves);
+      just = λ same still. omega (arith, same, floor a.number first.view.least.linked, c.gains.leaves, g.leaves);
     }
 
 -- a commit that was refused behind so many transactions, which are durable
-pub refused_step : (hash : Hash) (asked : Asked) (old new : KnownPass) (why : PlaceError) (at : ℕ) (session : List ℕ) (drafts : List Draft) (reply : List ℕ)
-    → AreFree drafts → AreEntries drafts → IsRefusedDurably asked old new why at → Later old new → Gains [] 0 0 old new → reply ≡ place_reply why
-    → bytes_eq reply (tx_reply at) ≡ false
-    → IsStep hash old new (record { line = record { session = session; command = Set asked.pres drafts }; number = at; reply = reply })
-refused_step hash asked old new why at session drafts reply free are r l g says other =
+pub refused_step : (hash : Hash) (asked : Asked) (first old new : KnownPass) (read : ℕ) (why : PlaceError) (a : Answered) → HasCounted first old read → IsRefusedDurably asked old new why a.number
+    → Later old new → Gains [] 0 0 old new → is_placed a ≡ false → ((n f : ℕ) → floor_by a.line.command n f ≡ f) → ReadsFrom first.view.least.durable a
+    → ((items : List LogItem) → MayBecome new items → place_refusal (take a.number (history_of items)) asked.pres ≡ Some why → IsAnswer hash (history_of items) a.line.command a.number a.reply)
+    → ((items : List LogItem) → MayBecome new items → IsReadBack hash (take a.number (history_of items)) a.line.command a.reply)
+    → IsStep hash first new a
+refused_step hash asked first old new read why a c r l g other floor reads answer again =
     let j = r.judged in
-    let told : number_told (Some (record { line = record { session = session; command = Set asked.pres drafts }; number = at; reply = reply })) ≡ [] = ap (λ (b : Bool). if b then at ∷ [] else []) other in
+    let told : number_told (Some a) ≡ [] = ap (λ (b : Bool). if b then a.number ∷ [] else []) other in
+    let before = c.later in
     record {
       answer = λ items m.
-          let front : take at (history_of items) ≡ history_of (take at new.view.seen) = history_taken new items at m j.within ∙ take-map (λ (x : LogItem). x.tx) at new.view.seen in
-          inr (free, inr (are, inl (why, ap (λ (h : List Transaction). place_refusal h asked.pres) front ∙ j.refused, says)));
-      again = λ items m. tt;
-      rises = (j.later, λ e. absurd (true≢false (sym e ∙ other)));
+          let front : take a.number (history_of items) ≡ history_of (take a.number new.view.seen) = history_taken new items a.number m j.within ∙ take-map (λ (x : LogItem). x.tx) a.number new.view.seen in
+          answer items m (ap (λ (h : List Transaction). place_refusal h asked.pres) front ∙ j.refused);
+      again = again;
+      rises = (omega (arith, before.durable, j.later), λ e. absurd (true≢false (sym e ∙ other)));
+      reads = reads;
       known = r.durable;
-      own = g.own ∙ ap (λ (xs : List ℕ). old.view.own ++ xs) (sym told);
+      own = g.own ∙ (append-nil old.view.own ∙ (c.gains.own ∙ ap (λ (xs : List ℕ). first.view.own ++ xs) (sym told)));
       over = λ e. absurd (true≢false (sym e ∙ other));
       under = λ e. absurd (true≢false (sym e ∙ other));
-      floor = l.linked;
-      calm = omega (arith, g.faults);
-      linked_none = λ _. omega (arith, g.leaves);
-      slack = omega (arith, l.linked, g.leaves);
-      just = λ same still. omega (arith, same, g.leaves);
+      floor = omega (arith, floor a.number first.view.least.linked, before.linked, l.linked);
+      calm = omega (arith, c.gains.faults, g.faults);
+      linked_none = λ _. omega (arith, c.gains.leaves, g.leaves);
+      slack = omega (arith, before.linked, l.linked, c.gains.leaves, g.leaves);
+      just = λ same still. omega (arith, same, floor a.number first.view.least.linked, c.gains.leaves, g.leaves);
     }
 
--- a placed commit whose text can't be kept for want of memory
-pub late_stuck : (time : Option ℤ) (asked : Asked) (old new : KnownPass) (n : ℕ) (session : List ℕ) (drafts : List Draft) (why : LineError)
-    → AreFree drafts → AreEntries drafts → asked.entries ≡ map entry_of drafts → HasPlaced time asked old new n → Later old new → new.view.own ≡ old.view.own ++ n ∷ [] → new.view.leaves ≡ old.view.leaves
-    → KnowsFault why old new → IsStuck old new (record { session = session; command = Set asked.pres drafts }) why
-late_stuck time asked old new n session drafts why free are same p l own leaves fault = record {
-  because = reaches why;
-  fault = fault;
-  late = Some n;
-  own = own;
-  tx = λ items m. late_of time asked old new n drafts free are same p items m;
-  under = λ items m. (placed_stands time asked old new n p items m).under;
-  still = leaves;
-  slack = omega (arith, l.linked, leaves);
-}
-  where
-    reaches : (w : LineError) → IsWhy w (Set asked.pres drafts)
-    reaches DiskFault = record { pres = asked.pres; drafts = drafts; asks = refl; free = free; are = are }
-    reaches Memory = tt
+-- a command that asks for something reaches the disk
+reaches : (command : Command) (why : LineError) → IsCommit command → IsWhy why command
+reaches command DiskFault commits = commits
+reaches command Memory commits = tt
+
+-- a placed commit without a reply
+pub late_stuck : (time : Option ℤ) (asked : Asked) (first old new : KnownPass) (read n : ℕ) (session : List ℕ) (command : Command) (why : LineError) → Asks first old new read command asked
+    → HasPlaced time asked old new n → Later old new → new.view.own ≡ old.view.own ++ n ∷ [] → new.view.leaves ≡ old.view.leaves → KnowsFault why first new
+    → IsStuck first new (record { session = session; command = command }) why
+late_stuck time asked first old new read n session command why a p l own leaves fault =
+    let before = a.counted.later in
+    let gains = a.counted.gains in
+    record {
+      because = reaches command why a.commits;
+      fault = fault;
+      late = Some n;
+      own = own ∙ ap (λ (xs : List ℕ). xs ++ n ∷ []) (gains.own ∙ append-nil first.view.own);
+      tx = λ items m. late_of time asked first old new read n command a p items m;
+      under = λ items m. (placed_stands time asked old new n p items m).under;
+      still = omega (arith, leaves, gains.leaves);
+      slack = omega (arith, before.linked, l.linked, leaves, gains.leaves);
+    }
 
 -- a commit that wasn't placed, and has no reply
-pub unplaced_stuck : (asked : Asked) (old new : KnownPass) (session : List ℕ) (drafts : List Draft) (why : LineError)
-    → AreFree drafts → AreEntries drafts → Later old new → new.view.own ≡ old.view.own ++ [] → new.view.leaves ≡ old.view.leaves
-    → KnowsFault why old new → IsStuck old new (record { session = session; command = Set asked.pres drafts }) why
-unplaced_stuck asked old new session drafts why free are l own leaves fault = record {
-  because = reaches why;
-  fault = fault;
-  late = None;
-  own = own;
-  tx = tt;
-  under = tt;
-  still = tt;
-  slack = omega (arith, l.linked, leaves);
-}
-  where
-    reaches : (w : LineError) → IsWhy w (Set asked.pres drafts)
-    reaches DiskFault = record { pres = asked.pres; drafts = drafts; asks = refl; free = free; are = are }
-    reaches Memory = tt
+pub unplaced_stuck : (first old new : KnownPass) (read : ℕ) (session : List ℕ) (command : Command) (why : LineError) → HasCounted first old read → IsCommit command
+    → Later old new → new.view.own ≡ old.view.own ++ [] → new.view.leaves ≡ old.view.leaves → KnowsFault why first new
+    → IsStuck first new (record { session = session; command = command }) why
+unplaced_stuck first old new read session command why c commits l own leaves fault =
+    let before = c.later in
+    let gains = c.gains in
+    record {
+      because = reaches command why commits;
+      fault = fault;
+      late = None;
+      own = own ∙ (append-nil old.view.own ∙ gains.own);
+      tx = tt;
+      under = tt;
+      still = tt;
+      slack = omega (arith, before.linked, l.linked, leaves, gains.leaves);
+    }

@@ -9,6 +9,7 @@ use Rattle.im_session.specs.declared.errors.LineError.{LineError}
 use Rattle.im_session.specs.declared.errors.LineError.TheVariants as line
 use Rattle.im_session.specs.declared.errors.LineError.TheVariants.{Memory}
 use Rattle.im_report.specs.Reads.{place_reply}
+use Rattle.im_report.specs.Statements.{conflict_reply, full_read_reply}
 use Rattle.im_store.specs.declared.errors.CommitError.{CommitError}
 use Rattle.im_store.specs.declared.errors.CommitError.TheVariants.{DiskFault, Exists, Full, Missing, Modified, Stopped}
 use Rattle.im_store.specs.declared.errors.CommitError.TheVariants as fails
@@ -33,6 +34,26 @@ IsRefusal (Full at) answer = (answer.number ≡ at) × (answer.reply.items ≡ p
 IsRefusal (DiskFault placed) answer = ⊥
 IsRefusal (Stopped faults placed) answer = ⊥
 IsRefusal (fails.Memory placed) answer = ⊥
+
+-- the reply to a statement whose commit was refused, judged behind so many transactions: a statement asks for no key to be live or missing
+abbrev pub IsStatementRefusal : ℕ → CommitError → Answer → Type 0
+IsStatementRefusal read (Missing key at) answer = ⊥
+IsStatementRefusal read (Exists key tx at) answer = ⊥
+IsStatementRefusal read (Modified key tx at) answer = (answer.number ≡ at) × (answer.reply.items ≡ conflict_reply key tx read)
+IsStatementRefusal read (Full at) answer = (answer.number ≡ at) × (answer.reply.items ≡ full_read_reply read)
+IsStatementRefusal read (DiskFault placed) answer = ⊥
+IsStatementRefusal read (Stopped faults placed) answer = ⊥
+IsStatementRefusal read (fails.Memory placed) answer = ⊥
+
+-- a commit whose preconditions are those of a statement: no other refusal comes
+abbrev pub IsOfStatement : CommitError → Type 0
+IsOfStatement (Missing key at) = ⊥
+IsOfStatement (Exists key tx at) = ⊥
+IsOfStatement (Modified key tx at) = Unit {0}
+IsOfStatement (Full at) = Unit {0}
+IsOfStatement (DiskFault placed) = Unit {0}
+IsOfStatement (Stopped faults placed) = Unit {0}
+IsOfStatement (fails.Memory placed) = Unit {0}
 
 -- why a commit without a receipt has no reply
 abbrev pub fault_of : CommitError → LineError

@@ -1,6 +1,7 @@
 pub mod Lines
 pub mod Answered
 pub mod Shown
+pub mod Statements
 pub mod Runs
 pub mod Dealing
 pub mod Gathered

@@ -1,19 +1,20 @@
 -- What one line does to the pass of its session.
-use Rattle.std.specs.Prelude.{◌≡◌, ◌≤◌, ◌+◌, ◌++◌, ℕ, List, length, take, IsTrue, IfSome, Option, Some}
+use Rattle.std.specs.Prelude.{◌≡◌, ◌≤◌, ◌+◌, ◌++◌, ℕ, List, length, take, IsTrue, IfSome, Option, Some, Ok}
 use mathlib.Core.List.{IsPrefix}
 use Rattle.im_digest.specs.Digests.{Hash}
 use Rattle.im_accept.specs.Messages.{IsReadBack}
 use Rattle.im_draft.specs.Drafts.{AreEntries, AreFree}
-use Rattle.im_draft.specs.declared.drafts.Draft.{Draft}
-use Rattle.im_draft.specs.declared.preconditions.Pre.{Pre}
 use Rattle.im_model.specs.History.{transaction_of, IsHistory}
 use Rattle.im_report.specs.Outcomes.{IsLate, IsOver, Rises, number_or_none, number_told}
-use Rattle.im_report.specs.Report.{Answered, IsAnswer, floor_by, is_placed}
+use Rattle.im_report.specs.Report.{Answered, IsAnswer, ReadsFrom, floor_by, is_placed}
 use Rattle.im_script.specs.declared.commands.Command.{Command}
-use Rattle.im_script.specs.declared.commands.Command.TheVariants.{Set, Get, Scan, History, Header, State, Prove, Advance, Item, Link}
+use Rattle.im_script.specs.declared.commands.Command.TheVariants.{Set, Get, Scan, History, Header, State, Prove, Advance, Item, Link, Sql}
 use Rattle.im_script.specs.declared.commands.Line.{Line}
 use Rattle.im_session.specs.declared.errors.LineError.{LineError}
 use Rattle.im_session.specs.declared.errors.LineError.TheVariants.{DiskFault, Memory}
+use Rattle.im_sqlparse.specs.Statements.{statement_of}
+use Rattle.im_sqlparse.specs.declared.statements.Form.{Form}
+use Rattle.im_sqlparse.specs.declared.statements.Form.TheVariants as form
 use Rattle.im_table.specs.Histories.{history_of}
 use Rattle.im_table.specs.Known.{KnownPass}
 use Rattle.im_table.specs.declared.items.LogItem.{LogItem}
@@ -30,6 +31,7 @@ pub record IsStep (hash : Hash) (old new : KnownPass) (a : Answered) : Type 0 wh
   pub answer : (items : List LogItem) → MayBecome new items → IsAnswer hash (history_of items) a.line.command a.number a.reply
   pub again : (items : List LogItem) → MayBecome new items → IsReadBack hash (take a.number (history_of items)) a.line.command a.reply
   pub rises : Rises old.view.least.durable a
+  pub reads : ReadsFrom old.view.least.durable a
   pub known : a.number ≤ new.view.least.durable
   pub own : new.view.own ≡ old.view.own ++ number_told (Some a)
   pub over : IsTrue (is_placed a) → (items : List LogItem) → MayBecome new items → IsOver (history_of items) (a.number, old.view.least.linked)
@@ -42,13 +44,29 @@ pub record IsStep (hash : Hash) (old new : KnownPass) (a : Answered) : Type 0 wh
       → new.view.least.durable ≡ old.view.least.durable + length (number_told (Some a))
       → floor_by a.line.command a.number old.view.least.linked ≡ new.view.least.linked
 
--- a `set` or `del` whose drafts are entries of a transaction, none with a key that begins with the octet 00: no other line reaches the disk
-pub record IsCommit (command : Command) : Type 0 where
-  pub pres : List Pre
-  pub drafts : List Draft
-  pub asks : command ≡ Set pres drafts
-  pub free : AreFree drafts
-  pub are : AreEntries drafts
+-- a statement that may ask for something to be written: any but a SELECT
+abbrev pub MayWrite : Form → Type 0
+MayWrite (form.CreateTable c) = Unit {0}
+MayWrite (form.CreateIndex c) = Unit {0}
+MayWrite (form.Upsert s) = Unit {0}
+MayWrite (form.Insert s) = Unit {0}
+MayWrite (form.Delete s) = Unit {0}
+MayWrite (form.Select s) = ⊥
+
+-- a `set` or `del` whose drafts are entries of a transaction, none with a key that begins with the octet 00, or the text of a statement that may write: no
+-- other line reaches the disk
+abbrev pub IsCommit : Command → Type 0
+IsCommit (Set pres drafts) = AreFree drafts × AreEntries drafts
+IsCommit (Get key at) = ⊥
+IsCommit (Scan prefix at) = ⊥
+IsCommit (History key) = ⊥
+IsCommit (Header k) = ⊥
+IsCommit State = ⊥
+IsCommit (Prove s t) = ⊥
+IsCommit (Advance s t) = ⊥
+IsCommit (Item t i under) = ⊥
+IsCommit (Link count) = ⊥
+IsCommit (Sql text) = (said : Form) × (statement_of text ≡ Ok said) × MayWrite said
 
 -- why a line has no reply: the disk fails, or had failed, only at one that reaches it, and memory may run out at any
 abbrev pub IsWhy : LineError → Command → Type 0
@@ -83,3 +101,4 @@ IsShowing (Prove s t) = Unit {0}
 IsShowing (Advance s t) = Unit {0}
 IsShowing (Item t i under) = Unit {0}
 IsShowing (Link count) = ⊥
+IsShowing (Sql text) = ⊥

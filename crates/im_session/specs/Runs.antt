@@ -8,6 +8,7 @@ use Rattle.im_report.specs.Report.{Answered, answer_line, floor_after}
 use Rattle.im_report.specs.Sessions.{IsJustOver}
 use Rattle.im_script.specs.declared.commands.Line.{Line}
 use Rattle.im_session.specs.Lines.{IsStuck, MayBecome}
+use Rattle.im_session.specs.Statements.{IsFoundKept}
 use Rattle.im_session.specs.declared.errors.LineError.{LineError}
 use Rattle.im_session.specs.declared.sessions.Session.{Session}
 use Rattle.im_table.specs.Histories.{history_of}
@@ -60,8 +61,9 @@ HasRun hash start p lines answers None = (map (λ a. a.line) answers ≡ lines) 
 HasRun hash start p lines answers (Some why) =
     (line : Line) × (others : List Line) × (lines ≡ map (λ a. a.line) answers ++ line ∷ others) × IsCutAt hash start p answers line why
 
--- a session that may begin: its pass has the weight of one, and has placed and linked nothing
-pub record IsReady (table : TableId) (s : Session) : Type 0 where
+-- a session that may begin: its pass has the weight of one, and has placed and linked nothing; the keys of what was found that begin with octet 00 are SQL's
+pub record IsReady (found : List LogItem) (table : TableId) (s : Session) : Type 0 where
+  pub kept : IsFoundKept found
   pub pass : IsPassOf table s.pass
   pub weight : s.pass.view.weight ≡ 1
   pub none : s.pass.view.own ≡ []

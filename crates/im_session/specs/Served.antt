@@ -19,6 +19,7 @@ use Rattle.im_session.specs.declared.errors.LineError.{LineError}
 use Rattle.im_session.specs.declared.errors.LineError.TheVariants as line
 use Rattle.im_session.specs.declared.serve.Stopped.{Stopped}
 use Rattle.im_session.specs.declared.serve.Stopped.TheVariants as stops
+use Rattle.im_sqlmodel.specs.Kept.{IsSqlKept}
 use Rattle.im_store.specs.Names.{Naming}
 use Rattle.im_table.specs.Histories.{history_of}
 use Rattle.im_table.specs.Known.{KnownPass}
@@ -93,7 +94,7 @@ pub record RunsPhases (hash : Hash) (links : Bool) (old new : KnownPass) (script
   pub wrote : WritesPhases phases before now faults_before faults_now end
 
 -- What a script came to, as far as its phases were run: all of them where it ended well. The phases' report is that of one history, from what was found to
--- what was placed, and each message in it is read as the one that was asked for. Each image of the disk now stands for a front part of that history, which holds
+-- what was placed, whose keys that begin with octet 00 are SQL's, and each message in it is read as the one that was asked for. Each image of the disk now stands for a front part of that history, which holds
 -- the number of each reply; and since the opening's first sync each image of each moment stood for one that holds what was found. Where each line that was run
 -- was answered, each image now stands for the whole history, and so does what reads give, the values put by the rule. The clock was asked
 -- once for each transaction that was placed, in order, and for nothing else. The disk got the calls of batches of these transactions, in order, and no other
@@ -106,6 +107,7 @@ pub record Serves {D : Type 0} (told : D → Option Told) (faults : D → ℕ) (
   pub all : end ≡ Ok tt → unrun ≡ []
   pub history : List Transaction
   pub report : SessionsReport n.digest links (history_of n.found) history phases
+  pub kept : IsSqlKept history
   pub again : All (λ outcomes. AreReadBack n.digest history (replies_in outcomes)) phases
   pub wrote : WritesPhases phases written_before written_now sink_before sink_now end
   pub durable : ℕ

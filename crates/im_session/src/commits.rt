@@ -15,9 +15,10 @@ use im_draft::preconditions::Pres;
 use im_edge::clock::Clock;
 use im_report::reads::place_text;
 use im_report::replies::{refused_text, reserved_text, tx_text};
+use im_sqllaw::law::SqlKeys;
+use im_sqllaw::laws::other_entries_may_be_placed;
 use im_store::errors::CommitError;
 use im_store::store::Store;
-use im_table::law::Free;
 use im_table::pass::Pass;
 use im_table::tip_name::TipName;
 use im_tx::prepare::prepare;
@@ -62,17 +63,19 @@ fn refused(alloc: Global, error: CommitError) -> Result<Answer, LineError>
 fn commit<H: Hash32, D: Disk, C: Clock, N: TipName, R: Wait>(
     rt: &R,
     alloc: Global,
-    store: &Store<'_, H, D, C, Free, N>,
+    store: &Store<'_, H, D, C, SqlKeys, N>,
     pass: &mut Pass,
     prepared: Prepared,
 ) -> Result<Answer, LineError>
     requires pass { IsPassOf N.table pass.old }
+    requires free { (drafts : List TheDraft) × AreFree drafts × (prepared.entries ≡ map entry_of drafts) }
     ensures later { Later pass.old pass.new }
     ensures ok { IfOk result (λ answer. (drafts : List TheDraft) → AreFree drafts → AreEntries drafts → prepared.entries ≡ map entry_of drafts
         → IsAnswered N.digest pass.old pass.new (Set prepared.pres drafts) answer) }
     ensures err { IfErr result (λ why. (drafts : List TheDraft) → AreFree drafts → AreEntries drafts → prepared.entries ≡ map entry_of drafts
         → IsUnanswered pass.old pass.new (Set prepared.pres drafts) why) }
 {
+    other_entries_may_be_placed();
     match store.commit(rt, alloc, pass, prepared) {
         Ok(receipt) => {
             let number = receipt.id;
@@ -89,7 +92,7 @@ fn commit<H: Hash32, D: Disk, C: Clock, N: TipName, R: Wait>(
 pub(crate) fn answer_set<H: Hash32, D: Disk, C: Clock, N: TipName, R: Wait>(
     rt: &R,
     alloc: Global,
-    store: &Store<'_, H, D, C, Free, N>,
+    store: &Store<'_, H, D, C, SqlKeys, N>,
     pass: &mut Pass,
     pres: Pres,
     drafts: Vec<Draft>,
@@ -118,7 +121,7 @@ pub(crate) fn answer_set<H: Hash32, D: Disk, C: Clock, N: TipName, R: Wait>(
 pub(crate) fn answer_link<H: Hash32, D: Disk, C: Clock, N: TipName, R: Wait>(
     rt: &R,
     alloc: Global,
-    store: &Store<'_, H, D, C, Free, N>,
+    store: &Store<'_, H, D, C, SqlKeys, N>,
     pass: &mut Pass,
     count: u64,
 ) -> Result<Answer, LineError>

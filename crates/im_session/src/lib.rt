@@ -13,4 +13,5 @@ mod proofs;
 mod reads;
 pub mod serve;
 pub mod sessions;
+mod statements;
 mod writing;

@@ -5,6 +5,7 @@ ghost use Rattle.im_report.specs.Report.{answer_line, Answered as TheAnswered};
 ghost use Rattle.im_session.specs.Answered.{IsAnswered, IsUnanswered};
 ghost use Rattle.im_session.specs.Lines.{IsShowing, IsStep, IsStuck};
 ghost use Rattle.im_session.specs.Runs.{HasRun, IsDone, IsReady, start_of};
+ghost use Rattle.im_session.specs.Statements.{IsFoundKept};
 ghost use Rattle.im_table.specs.Passes.{IsPassOf, Later};
 
 use crate::answers::Answer;
@@ -13,6 +14,7 @@ use crate::errors::LineError;
 use crate::proofs::{answer_advance, answer_header, answer_item, answer_prove, answer_state};
 use crate::reads::{answer_get, answer_history, answer_scan};
 use crate::sessions::Session;
+use crate::statements::answer_sql;
 use im_digest::Hash32;
 use im_disk::disk::Disk;
 use im_edge::clock::Clock;
@@ -20,8 +22,8 @@ use im_edge::gate::{Gate, Point};
 use im_octet::octets::Octets;
 use im_report::replies::reply_text;
 use im_script::commands::{Command, Line};
+use im_sqllaw::law::SqlKeys;
 use im_store::store::Store;
-use im_table::law::Free;
 use im_table::pass::Pass;
 use im_table::tip_name::TipName;
 use std::alloc::Global;
@@ -32,11 +34,12 @@ use std::sync::Wait;
 fn answer<H: Hash32, D: Disk, C: Clock, N: TipName, R: Wait>(
     rt: &R,
     alloc: Global,
-    store: &Store<'_, H, D, C, Free, N>,
+    store: &Store<'_, H, D, C, SqlKeys, N>,
     pass: &mut Pass,
     command: Command,
 ) -> Result<Answer, LineError>
     requires pass { IsPassOf N.table pass.old }
+    requires found { IsFoundKept N.found }
     ensures later { Later pass.old pass.new }
     ensures ok { IfOk result (λ answer. IsAnswered N.digest pass.old pass.new command answer) }
     ensures err { IfErr result (λ why. IsUnanswered pass.old pass.new command why) }
@@ -46,6 +49,7 @@ fn answer<H: Hash32, D: Disk, C: Clock, N: TipName, R: Wait>(
             answer_set(rt, alloc, store, pass, pres, drafts.into_vec())
         }
         Command::Link { count } => answer_link(rt, alloc, store, pass, count),
+        Command::Sql { text } => answer_sql(rt, alloc, store, pass, text.as_str()),
         command => show(rt, alloc, store, pass, command),
     }
 }
@@ -54,7 +58,7 @@ fn answer<H: Hash32, D: Disk, C: Clock, N: TipName, R: Wait>(
 fn show<H: Hash32, D: Disk, C: Clock, N: TipName, R: Wait>(
     rt: &R,
     alloc: Global,
-    store: &Store<'_, H, D, C, Free, N>,
+    store: &Store<'_, H, D, C, SqlKeys, N>,
     pass: &mut Pass,
     command: Command,
 ) -> Result<Answer, LineError>
@@ -79,7 +83,7 @@ fn show<H: Hash32, D: Disk, C: Clock, N: TipName, R: Wait>(
             index,
             under,
         } => answer_item(rt, alloc, store, pass, number, index, under),
-        Command::Set { .. } | Command::Link { .. } => unreachable!(),
+        Command::Set { .. } | Command::Link { .. } | Command::Sql { .. } => unreachable!(),
     }
 }
 
@@ -87,12 +91,13 @@ fn show<H: Hash32, D: Disk, C: Clock, N: TipName, R: Wait>(
 fn run_line<H: Hash32, D: Disk, C: Clock, N: TipName, R: Wait>(
     rt: &R,
     alloc: Global,
-    store: &Store<'_, H, D, C, Free, N>,
+    store: &Store<'_, H, D, C, SqlKeys, N>,
     pass: &mut Pass,
     texts: &mut Vec<Octets>,
     line: Line,
 ) -> Result<(), LineError>
     requires pass { IsPassOf N.table pass.old }
+    requires found { IsFoundKept N.found }
     ensures later { Later pass.old pass.new }
     ensures ok { OnOk result ((a : TheAnswered) × (a.line ≡ line) × IsStep N.digest pass.old pass.new a × (texts.new.items ≡ texts.old.items ++ answer_line a ∷ [])) }
     ensures err { IfErr result (λ why. IsStuck pass.old pass.new line why × (texts.new.items ≡ texts.old.items)) }
@@ -110,11 +115,11 @@ fn run_lines<H: Hash32, D: Disk, C: Clock, G: Gate, N: TipName, R: Wait>(
     rt: &R,
     alloc: Global,
     gate: &G,
-    store: &Store<'_, H, D, C, Free, N>,
+    store: &Store<'_, H, D, C, SqlKeys, N>,
     session: &mut Session,
     lines: Vec<Line>,
 ) -> Option<LineError>
-    requires ready { IsReady N.table session.old }
+    requires ready { IsReady N.found N.table session.old }
     ensures pass { IsPassOf N.table session.new.pass × (session.new.pass.view.weight ≡ 1) }
     ensures name { session.new.number ≡ session.old.number }
     ensures seen { IsPrefix session.old.pass.view.seen session.new.pass.view.seen }
@@ -151,10 +156,10 @@ pub(crate) fn run_session<H: Hash32, D: Disk, C: Clock, G: Gate, N: TipName, R: 
     rt: &R,
     alloc: Global,
     gate: &G,
-    store: &Store<'_, H, D, C, Free, N>,
+    store: &Store<'_, H, D, C, SqlKeys, N>,
     session: &mut Session,
 )
-    requires ready { IsReady N.table session.old }
+    requires ready { IsReady N.found N.table session.old }
     ensures done { IsDone N.digest N.table session.old session.new }
 {
     let lines = mem::replace(&mut session.lines, Vec::new(alloc));

@@ -10,8 +10,8 @@ use im_digest::Hash32;
 use im_disk::disk::Disk;
 use im_edge::clock::Clock;
 use im_edge::gate::Gate;
+use im_sqllaw::law::SqlKeys;
 use im_store::store::Store;
-use im_table::law::Free;
 use im_table::pass::Pass;
 use im_table::tip_name::TipName;
 use std::alloc::Global;
@@ -44,7 +44,7 @@ pub(crate) struct Helpers {
 fn link_on<H: Hash32, D: Disk, C: Clock, N: TipName, R: Wait>(
     rt: &R,
     alloc: Global,
-    store: &Store<'_, H, D, C, Free, N>,
+    store: &Store<'_, H, D, C, SqlKeys, N>,
     ended: &AtomicBool,
     mut pass: Pass,
 ) -> Pass
@@ -67,7 +67,7 @@ fn link_on<H: Hash32, D: Disk, C: Clock, N: TipName, R: Wait>(
 fn index_on<H: Hash32, D: Disk, C: Clock, N: TipName, R: Wait>(
     rt: &R,
     alloc: Global,
-    store: &Store<'_, H, D, C, Free, N>,
+    store: &Store<'_, H, D, C, SqlKeys, N>,
     ended: &AtomicBool,
     mut pass: Pass,
 ) -> Pass
@@ -90,7 +90,7 @@ fn index_on<H: Hash32, D: Disk, C: Clock, N: TipName, R: Wait>(
 fn link_where<H: Hash32, D: Disk, C: Clock, N: TipName, R: Wait>(
     rt: &R,
     alloc: Global,
-    store: &Store<'_, H, D, C, Free, N>,
+    store: &Store<'_, H, D, C, SqlKeys, N>,
     ended: &AtomicBool,
     pass: Pass,
     links: bool,
@@ -114,8 +114,8 @@ fn run_sessions<
     G: Gate + Sync,
     N: TipName + Send + Sync,
     R: Threads + Wait + Sync,
->(rt: &R, alloc: Global, gate: &G, store: &Store<'_, H, D, C, Free, N>, sessions: &mut [Session])
-    requires { All (IsReady N.table) sessions.old }
+>(rt: &R, alloc: Global, gate: &G, store: &Store<'_, H, D, C, SqlKeys, N>, sessions: &mut [Session])
+    requires { All (IsReady N.found N.table) sessions.old }
     ensures len { length sessions.new ≡ length sessions.old }
     ensures done { (i : ℕ) (d : _) → i < length sessions.old → IsDone N.digest N.table (slice_index_or sessions.old i d) (slice_index_or sessions.new i d) }
 {
@@ -124,7 +124,7 @@ fn run_sessions<
         sessions,
         MOST_SESSIONS,
         &|_, session: &mut Session|
-            requires { IsReady N.table session.old }
+            requires { IsReady N.found N.table session.old }
             ensures { IsDone N.digest N.table session.old session.new }
         { run_session(rt, alloc, gate, store, session) },
     );
@@ -142,11 +142,11 @@ fn run_all<
     rt: &R,
     alloc: Global,
     gate: &G,
-    store: &Store<'_, H, D, C, Free, N>,
+    store: &Store<'_, H, D, C, SqlKeys, N>,
     ended: &AtomicBool,
     mut sessions: Vec<Session>,
 ) -> Vec<Session>
-    requires { All (IsReady N.table) sessions.items }
+    requires { All (IsReady N.found N.table) sessions.items }
     ensures { AreDone N.digest N.table sessions.items result.items }
 {
     run_sessions(rt, alloc, gate, store, sessions.as_mut_slice());
@@ -164,7 +164,7 @@ fn help<
 >(
     rt: &R,
     alloc: Global,
-    store: &Store<'_, H, D, C, Free, N>,
+    store: &Store<'_, H, D, C, SqlKeys, N>,
     ended: &AtomicBool,
     helpers: Helpers,
 ) -> (Pass, Pass)
@@ -206,11 +206,11 @@ pub(crate) fn run_phase<
     rt: &R,
     alloc: Global,
     gate: &G,
-    store: &Store<'_, H, D, C, Free, N>,
+    store: &Store<'_, H, D, C, SqlKeys, N>,
     sessions: Vec<Session>,
     helpers: Helpers,
 ) -> (Vec<Session>, Pass, Pass)
-    requires sessions { All (IsReady N.table) sessions.items }
+    requires sessions { All (IsReady N.found N.table) sessions.items }
     requires helpers { IsIdle N.table helpers.linker × IsIdle N.table helpers.indexer }
     ensures done { AreDone N.digest N.table sessions.items result.0.items }
     ensures linker { IsHelper N.table result.1 }
@@ -227,7 +227,7 @@ pub(crate) fn run_phase<
         { help(rt, alloc, store, ended, helpers) },
         helpers,
         &|sessions: Vec<Session>| -> Vec<Session>
-            requires { All (IsReady N.table) sessions.items }
+            requires { All (IsReady N.found N.table) sessions.items }
             ensures { AreDone N.digest N.table sessions.items result.items }
         { run_all(rt, alloc, gate, store, ended, sessions) },
         sessions,

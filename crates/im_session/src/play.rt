@@ -7,6 +7,7 @@ ghost use Rattle.im_session.specs.Dealing.{AreDealt, AreNamed};
 ghost use Rattle.im_session.specs.Phases.{EndsPhase, IsPlayed, KnowsFaults};
 ghost use Rattle.im_session.specs.Gathered.{AreGathered, AreHanded, IsWholePass};
 ghost use Rattle.im_session.specs.Runs.{IsReady};
+ghost use Rattle.im_session.specs.Statements.{IsFoundKept};
 ghost use Rattle.im_session.specs.Written.{first_texts, stop_of};
 ghost use Rattle.im_table.specs.Passes.{IsPassOf};
 
@@ -19,8 +20,8 @@ use im_edge::clock::Clock;
 use im_edge::gate::Gate;
 use im_octet::octets::Octets;
 use im_script::phases::Phase;
+use im_sqllaw::law::SqlKeys;
 use im_store::store::Store;
-use im_table::law::Free;
 use im_table::pass::Pass;
 use im_table::tip_name::TipName;
 use std::alloc::{AllocError, Global};
@@ -68,17 +69,18 @@ fn room_for(alloc: Global, names: &[Octets], phase: Phase) -> Result<Room, Alloc
 // A session for each list of lines, with a pass split off the main one, which keeps the rest. It takes no memory.
 fn hand_out<H: Hash32, D: Disk, C: Clock, N: TipName>(
     alloc: Global,
-    store: &Store<'_, H, D, C, Free, N>,
+    store: &Store<'_, H, D, C, SqlKeys, N>,
     main: &mut Pass,
     lines: Vec<Lines>,
     run: &[u64; 8],
     mut sessions: Vec<Session>,
 ) -> Vec<Session>
+    requires found { IsFoundKept N.found }
     requires pass { IsPassOf N.table main.old }
     requires room { (length lines.items ≤ 8) × (length lines.items + 1 < main.old.view.weight) }
     requires none { (sessions.items ≡ []) × (length lines.items ≤ vec_capacity sessions) }
     ensures left { AreHanded N.table main.old main.new (length lines.items) }
-    ensures ready { All (IsReady N.table) result.items }
+    ensures ready { All (IsReady N.found N.table) result.items }
     ensures begins { All (λ s. (s.pass.view.seen ≡ main.old.view.seen) × (s.pass.view.least ≡ main.old.view.least)) result.items }
     ensures lines { map (λ s. s.lines.items) result.items ≡ lines.items }
 {
@@ -99,7 +101,7 @@ fn hand_out<H: Hash32, D: Disk, C: Clock, N: TipName>(
 
 // Takes the passes of the sessions in, and gives what else they left. It takes no memory.
 fn gather<H: Hash32, D: Disk, C: Clock, N: TipName>(
-    store: &Store<'_, H, D, C, Free, N>,
+    store: &Store<'_, H, D, C, SqlKeys, N>,
     main: &mut Pass,
     sessions: Vec<Session>,
     run: &mut [u64; 8],
@@ -145,13 +147,14 @@ pub(crate) fn play<
     rt: &R,
     alloc: Global,
     gate: &G,
-    store: &Store<'_, H, D, C, Free, N>,
+    store: &Store<'_, H, D, C, SqlKeys, N>,
     main: &mut Pass,
     names: &[Octets],
     run: &mut [u64; 8],
     phase: Phase,
     links: bool,
 ) -> Result<Played, AllocError>
+    requires found { IsFoundKept N.found }
     requires pass { IsWholePass N.table main.old }
     requires named { AreNamed names.now phase }
     requires apart { AllPairs (λ a b. a ≢ b) names.now }

@@ -16,10 +16,10 @@ use im_disk::disk::Disk;
 use im_edge::clock::Clock;
 use im_header::alh;
 use im_report::replies::{beyond_text, header_shown, no_entry_text, order_text};
+use im_sqllaw::law::SqlKeys;
 use im_store::answers::{Advance, ProvedEntry};
 use im_store::errors::{ItemError, ProveError};
 use im_store::store::Store;
-use im_table::law::Free;
 use im_table::pass::Pass;
 use im_table::tip_name::TipName;
 use im_wire::messages::Message;
@@ -67,7 +67,7 @@ fn proved<T: Drop>(given: Result<T, ProveError>) -> Result<T, AllocError>
 pub(crate) fn answer_header<H: Hash32, D: Disk, C: Clock, N: TipName, R: Wait>(
     rt: &R,
     alloc: Global,
-    store: &Store<'_, H, D, C, Free, N>,
+    store: &Store<'_, H, D, C, SqlKeys, N>,
     pass: &mut Pass,
     k: u64,
 ) -> Result<Answer, LineError>
@@ -94,7 +94,7 @@ pub(crate) fn answer_header<H: Hash32, D: Disk, C: Clock, N: TipName, R: Wait>(
 pub(crate) fn answer_state<H: Hash32, D: Disk, C: Clock, N: TipName, R: Wait>(
     rt: &R,
     alloc: Global,
-    store: &Store<'_, H, D, C, Free, N>,
+    store: &Store<'_, H, D, C, SqlKeys, N>,
     pass: &mut Pass,
 ) -> Result<Answer, LineError>
     requires pass { IsPassOf N.table pass.old }
@@ -116,7 +116,7 @@ pub(crate) fn answer_state<H: Hash32, D: Disk, C: Clock, N: TipName, R: Wait>(
 pub(crate) fn answer_prove<H: Hash32, D: Disk, C: Clock, N: TipName, R: Wait>(
     rt: &R,
     alloc: Global,
-    store: &Store<'_, H, D, C, Free, N>,
+    store: &Store<'_, H, D, C, SqlKeys, N>,
     pass: &mut Pass,
     s: u64,
     t: u64,
@@ -139,7 +139,7 @@ pub(crate) fn answer_prove<H: Hash32, D: Disk, C: Clock, N: TipName, R: Wait>(
 pub(crate) fn answer_advance<H: Hash32, D: Disk, C: Clock, N: TipName, R: Wait>(
     rt: &R,
     alloc: Global,
-    store: &Store<'_, H, D, C, Free, N>,
+    store: &Store<'_, H, D, C, SqlKeys, N>,
     pass: &mut Pass,
     s: u64,
     t: u64,
@@ -185,7 +185,7 @@ fn entry_text(alloc: Global, proved: ProvedEntry) -> Result<Vec<u8>, AllocError>
 pub(crate) fn answer_item<H: Hash32, D: Disk, C: Clock, N: TipName, R: Wait>(
     rt: &R,
     alloc: Global,
-    store: &Store<'_, H, D, C, Free, N>,
+    store: &Store<'_, H, D, C, SqlKeys, N>,
     pass: &mut Pass,
     t: u64,
     index: u32,

@@ -18,9 +18,9 @@ use im_edge::clock::Clock;
 use im_index::snapshot::Snapshot;
 use im_report::reads::{history_text, scan_text, value_text};
 use im_report::replies::beyond_text;
+use im_sqllaw::law::SqlKeys;
 use im_store::errors::SnapshotError;
 use im_store::store::Store;
-use im_table::law::Free;
 use im_table::pass::Pass;
 use im_table::tip_name::TipName;
 use im_view::errors::ViewError;
@@ -102,10 +102,10 @@ fn history_shown<V: KvView>(
 }
 
 // What stands of the keys behind the first n transactions. Where too few are indexed, it indexes once, as many as there may be, and asks again.
-fn keys_at<H: Hash32, D: Disk, C: Clock, N: TipName, R: Wait>(
+pub(crate) fn keys_at<H: Hash32, D: Disk, C: Clock, N: TipName, R: Wait>(
     rt: &R,
     alloc: Global,
-    store: &Store<'_, H, D, C, Free, N>,
+    store: &Store<'_, H, D, C, SqlKeys, N>,
     pass: &mut Pass,
     n: u64,
 ) -> Result<Snapshot, AllocError>
@@ -133,7 +133,7 @@ fn keys_at<H: Hash32, D: Disk, C: Clock, N: TipName, R: Wait>(
 pub(crate) fn answer_get<H: Hash32, D: Disk, C: Clock, N: TipName, R: Wait>(
     rt: &R,
     alloc: Global,
-    store: &Store<'_, H, D, C, Free, N>,
+    store: &Store<'_, H, D, C, SqlKeys, N>,
     pass: &mut Pass,
     key: &[u8],
     at: Option<u64>,
@@ -153,7 +153,7 @@ pub(crate) fn answer_get<H: Hash32, D: Disk, C: Clock, N: TipName, R: Wait>(
 pub(crate) fn answer_scan<H: Hash32, D: Disk, C: Clock, N: TipName, R: Wait>(
     rt: &R,
     alloc: Global,
-    store: &Store<'_, H, D, C, Free, N>,
+    store: &Store<'_, H, D, C, SqlKeys, N>,
     pass: &mut Pass,
     prefix: &[u8],
     at: Option<u64>,
@@ -173,7 +173,7 @@ pub(crate) fn answer_scan<H: Hash32, D: Disk, C: Clock, N: TipName, R: Wait>(
 pub(crate) fn answer_history<H: Hash32, D: Disk, C: Clock, N: TipName, R: Wait>(
     rt: &R,
     alloc: Global,
-    store: &Store<'_, H, D, C, Free, N>,
+    store: &Store<'_, H, D, C, SqlKeys, N>,
     pass: &mut Pass,
     key: &[u8],
 ) -> Result<Answer, LineError>

@@ -1,4 +1,4 @@
-ghost use Rattle.std.specs.Prelude.{◌≡◌, ◌≢◌, ◌<◌, ◌≤◌, AllPairs, List, [], length, true, vec_capacity};
+ghost use Rattle.std.specs.Prelude.{◌≡◌, ◌≢◌, ◌<◌, ◌≤◌, AllPairs, List, [], length, vec_capacity};
 ghost use Rattle.std.specs.List.{All, flat_map};
 ghost use Rattle.im_report.specs.Outcomes.{Outcome};
 ghost use Rattle.im_script.specs.Script.{lines_of, names_of};
@@ -6,6 +6,7 @@ ghost use Rattle.im_session.specs.Dealing.{AreNamed};
 ghost use Rattle.im_session.specs.Gathered.{IsWholePass};
 ghost use Rattle.im_report.specs.Sessions.{phase_text};
 ghost use Rattle.im_session.specs.Phases.{EndsPhase};
+ghost use Rattle.im_session.specs.Statements.{IsFoundKept};
 ghost use Rattle.im_session.specs.Served.{EndsBy, RunsPhase, RunsPhases, Serves, WritesPhase};
 ghost use Rattle.im_session.specs.Written.{first_texts, stop_of};
 ghost use Rattle.im_store.specs.Names.{naming_of};
@@ -20,9 +21,10 @@ use im_edge::gate::Gate;
 use im_edge::sink::{Sink, WriteFault};
 use im_octet::octets::Octets;
 use im_script::phases::{Phase, Script};
+use im_sqllaw::law::SqlKeys;
+use im_sqllaw::laws::a_list_is_kept;
 use im_store::opened::Opened;
 use im_store::store::Store;
-use im_table::law::Free;
 use im_table::pass::Pass;
 use im_table::tip_name::TipName;
 use std::alloc::Global;
@@ -87,13 +89,14 @@ fn run_one<
     alloc: Global,
     gate: &G,
     sink: &mut K,
-    store: &Store<'_, H, D, C, Free, N>,
+    store: &Store<'_, H, D, C, SqlKeys, N>,
     main: &mut Pass,
     names: &[Octets],
     run: &mut [u64; 8],
     phase: Phase,
     links: bool,
 ) -> Result<(), Stopped>
+    requires found { IsFoundKept N.found }
     requires pass { IsWholePass N.table main.old }
     requires named { AreNamed names.now phase }
     requires apart { AllPairs (λ a b. a ≢ b) names.now }
@@ -124,11 +127,12 @@ fn run_phases<
     alloc: Global,
     gate: &G,
     sink: &mut K,
-    store: &Store<'_, H, D, C, Free, N>,
+    store: &Store<'_, H, D, C, SqlKeys, N>,
     main: &mut Pass,
     script: Script,
     links: bool,
 ) -> Result<(), Stopped>
+    requires found { IsFoundKept N.found }
     requires pass { IsWholePass N.table main.old }
     requires named { script.names.items ≡ names_of [] (lines_of script.phases.items) }
     requires few { length script.names.items ≤ 8 }
@@ -165,7 +169,7 @@ pub fn serve<
     alloc: Global,
     gate: &G,
     sink: &mut K,
-    opened: Opened<'_, H, D, C, Free>,
+    opened: Opened<'_, H, D, C, SqlKeys>,
     mut passes: Vec<Pass>,
     script: Script,
     links: bool,
@@ -174,7 +178,7 @@ pub fn serve<
     requires hash { H.digest opened.hash ≡ N.digest }
     requires disk { (D.told opened.disk ≡ N.synced) × (D.faults opened.disk ≡ N.faults) }
     requires clock { (C.constant opened.clock ≡ N.time) × (C.given opened.clock ≡ N.given) }
-    requires marked { All (λ item. item.found ≡ true) opened.found }
+    requires found { IsFoundKept opened.found }
     requires passes { (passes.items ≡ []) × (1 ≤ vec_capacity passes) }
     requires named { script.names.items ≡ names_of [] (lines_of script.phases.items) }
     requires few { length script.names.items ≤ 8 }
@@ -184,5 +188,6 @@ pub fn serve<
     let end = run_phases(rt, alloc, gate, sink, &store, &mut main, script, links);
     passes.push_reserved(main);
     let (disk, clock) = store.close(passes);
+    a_list_is_kept();
     Served { disk, clock, end }
 }

@@ -6,8 +6,8 @@ use im_words::{Link, Request, WordsError, read_words};
 use std::alloc::{AllocError, Global};
 use std::test::Fail;
 
-// A fork, want of memory, two digests where the third file begins, and a line of the greatest number.
-const ENDS: [(Status, u8, &str, &[u8]); 4] = [
+// A fork, want of memory, two digests where the third file begins, a line of the greatest number, and a transaction.
+const ENDS: [(Status, u8, &str, &[u8]); 5] = [
     (Status::Forked, 10, "forked", b"im: forked\n"),
     (Status::Memory, 11, "memory", b"im: memory\n"),
     (
@@ -29,6 +29,7 @@ const ENDS: [(Status, u8, &str, &[u8]); 4] = [
         "kept",
         b"im: kept 18446744073709551615\n",
     ),
+    (Status::SqlKept { tx: 1 }, 14, "sql", b"im: sql 1\n"),
 ];
 
 #[test]

@@ -18,12 +18,14 @@ enum Wanted {
     Missing(&'static [u8]),
     // Three entries, of which the last one has this value.
     Third(&'static [u8]),
+    // A statement of SQL, whose text is this.
+    Statement(&'static str),
 }
 
-use Wanted::{Missing, Nothing, Number, Third};
+use Wanted::{Missing, Nothing, Number, Statement, Third};
 
 // Texts alone, and what they ask for. The reader of a script passes a comment over before.
-const WANTED: [(&str, Wanted); 7] = [
+const WANTED: [(&str, Wanted); 9] = [
     ("# a comment", Nothing),
     ("a: scan p @18446744073709551615", Number(u64::MAX)),
     ("a: item 5 4294967295", Number(4_294_967_295)),
@@ -31,6 +33,8 @@ const WANTED: [(&str, Wanted); 7] = [
     ("a: set missing:0x k=v", Missing(b"")),
     ("a: set missing:k", Missing(b"k")),
     ("a: set k=1 j=0x6162 0x=0x", Third(b"")),
+    ("a: sql ", Nothing),
+    ("a: sql  SELECT", Statement(" SELECT")),
 ];
 
 // Whether a command is a scan, an item or a link, and its last number this one.
@@ -65,6 +69,14 @@ fn has_third(command: &Command, wanted: &[u8]) -> bool {
     }
 }
 
+// Whether a command answers a statement of this text.
+fn is_statement(command: &Command, wanted: &str) -> bool {
+    let Command::Sql { text } = command else {
+        return false;
+    };
+    text.as_str() == wanted
+}
+
 // Whether a text asks for this.
 fn asks_for(alloc: Global, text: &str, wanted: Wanted) -> Result<bool, AllocError> {
     let Some(line) = read_line(alloc, text.as_bytes())? else {
@@ -75,6 +87,7 @@ fn asks_for(alloc: Global, text: &str, wanted: Wanted) -> Result<bool, AllocErro
         Number(number) => ends_with(&line.command, number),
         Missing(key) => is_where_missing(&line.command, key),
         Third(value) => has_third(&line.command, value),
+        Statement(text) => is_statement(&line.command, text),
     };
     drop(line);
     Ok(asks)
@@ -109,6 +122,7 @@ fn the_headers_that_clients_keep(rt: HostRuntime) -> Result<(), Fail> {
         ("a: advance 3 6", Some(3), 6),
         ("a: item 3 0", Some(9), 9),
         ("a: item 3 0 @6", Some(6), 6),
+        ("a: sql SELECT * FROM t", None, 9),
     ];
     for (text, kept, next) in wanted {
         assert!(rt; numbers_of(rt.alloc(), text)? == (kept, next), "{text}");

@@ -6,6 +6,7 @@ use Rattle.im_disk.proofs.Leaving.{if_told}
 use Rattle.im_disk.specs.declared.calls.Call.TheVariants.{Synced}
 use Rattle.im_format.specs.Damages.{image_checks}
 use Rattle.im_format.specs.Standing.{Stands}
+use Rattle.im_format.proofs.HeldRecords.{Has32}
 use Rattle.im_model.specs.declared.transactions.Transaction.{Transaction}
 use Rattle.im_mtree.specs.Checks.{first_fail}
 use Rattle.im_script.specs.declared.commands.Line.{Line}
@@ -15,8 +16,10 @@ use Rattle.im_app.specs.Runs.{HasOneSession, IsGiven}
 use Rattle.im_app.specs.Statuses.{EndsWriting}
 use Rattle.im_app.specs.declared.status.Status.{Status}
 use Rattle.im_app.specs.declared.status.Status.TheVariants as the
+use Rattle.im_sqlmodel.specs.Kept.{IsFirstUnsound, IsSqlKept}
 use Rattle.im_app.proofs.FateLemmas.{Ends, ends-other, fate, unread-told, writing-run}
-use Rattle.im_app.proofs.RunLemmas.{alone-same, front-told, given-not, part-told, reading-for, read-told, same-found, whole-told}
+use Rattle.im_app.proofs.FoundLemmas.{front-kept}
+use Rattle.im_app.proofs.RunLemmas.{alone-same, by-writing, front-told, given-not, part-told, reading-for, read-told, same-found, whole-told}
 use Rattle.im_app.proofs.run.run.Goals as goal
 
 pub returns-in-Ok-clause-report : goal.returns-in-Ok-clause-report
@@ -59,6 +62,7 @@ returns-in-Ok-clause-fate g c = λ no_read no_write no_device.
     let hash : Hash = g.H.Hash32.digest c.args.hash.now in
     let disk : Option Told = g.D.Disk.told c.args.disk in
     let status : Status = c.run_script.result.status in
+    let long : Has32 hash = record { long = (g.met.H.Hash32 g.world.𝓛 g.world.𝓜 g.world.𝓡 ((λ s x. x), (λ x. x), (λ x. x), λ x. x)).size c.args.hash.now } in
     let given = c.in-Ok.ensures.given in
     let script : List ℕ = given.0 in
     let phases : List (List Line) = c.in-Ok.script.phases.items in
@@ -66,6 +70,7 @@ returns-in-Ok-clause-fate g c = λ no_read no_write no_device.
     let ends : Ends hash disk status script = record {
       given = λ e. (phases, given.2);
       opened = λ d e. (phases, given.2);
+      judged = λ tx e. (phases, given.2);
       ends = writing-run status ran.ends;
       no_usage = λ e. ends-other EndsWriting status the.Usage ran.ends e (λ x. x);
       no_read = λ e. ends-other EndsWriting status the.ReadFault ran.ends e (λ x. x);
@@ -76,10 +81,22 @@ returns-in-Ok-clause-fate g c = λ no_read no_write no_device.
       damaged = λ d e. if_told (λ t. (first_fail (image_checks hash (seen t)) ≡ Err d) × (g.D.Disk.told c.run_script.result.disk ≡ Some (after Synced t)))
           (λ t. first_fail (image_checks hash (seen t)) ≡ Err d) (λ t p. p.0) disk (ran.damaged d e);
       whole = λ e. let w = ran.report script given.2 e in
-          if_told (λ t. Stands hash (seen t) w.report.found) (λ t. (found : List Transaction) × Stands hash (seen t) found) (λ t s. (w.report.found, s)) disk w.report.found_is;
+          let kept : IsSqlKept w.report.found = front-kept w.report.found w.report.history w.report.report.begins w.report.kept in
+          if_told (λ t. Stands hash (seen t) w.report.found) (λ t. (found : List Transaction) × Stands hash (seen t) found × IsSqlKept found) (λ t s. (w.report.found, s, kept)) disk w.report.found_is;
+      first = λ tx e. let f = (ran.not_kept tx e).0 in
+          if_told (λ t. Stands hash (seen t) f.found) (λ t. (found : List Transaction) × Stands hash (seen t) found × IsFirstUnsound found tx) (λ t s. (f.found, s, f.first)) disk f.stands;
       sound = ran.sound;
     } in
-    read-told (g.S.Source.left c.args.source.now) script (HasRunFate hash disk status) given.1 (fate hash disk status script ends)
+    read-told (g.S.Source.left c.args.source.now) script (HasRunFate hash disk status) given.1 (fate hash disk status script long ends)
+
+pub returns-in-Ok-clause-sink_count : goal.returns-in-Ok-clause-sink_count
+returns-in-Ok-clause-sink_count g c = λ write fault want.
+    let ran = c.run_script.ensures in
+    elim (by-writing c.run_script.result.status ran.ends write fault want) [
+      | inl done ↦ ran.sink_count done
+      | inr (inl damaged) ↦ ap g.K.Sink.faults (ran.nothing damaged.0 damaged.1).0
+      | inr (inr unkept) ↦ ap g.K.Sink.faults (ran.not_kept unkept.0 unkept.1).1
+    ]
 
 -- the lines that are told of are those that were read
 pub returns-in-Ok-clause-disk_alone : goal.returns-in-Ok-clause-disk_alone
@@ -96,7 +113,9 @@ returns-in-Err-clause-disk_alone g c = λ want. alone-same (g.S.Source.left c.ar
 pub returns-in-Err-clause-fate : goal.returns-in-Err-clause-fate
 returns-in-Err-clause-fate g c = λ no_read no_write no_device.
     let read = c.in-Err.ensures in
-    unread-told (g.H.Hash32.digest c.args.hash.now) (g.D.Disk.told c.args.disk) c.in-Err.status (g.S.Source.left c.args.source.now)
+    let hash : Hash = g.H.Hash32.digest c.args.hash.now in
+    let long : Has32 hash = record { long = (g.met.H.Hash32 g.world.𝓛 g.world.𝓜 g.world.𝓡 ((λ s x. x), (λ x. x), (λ x. x), λ x. x)).size c.args.hash.now } in
+    unread-told hash (g.D.Disk.told c.args.disk) c.in-Err.status (g.S.Source.left c.args.source.now) long
     read.ends (λ e. no_read (read.read (ap Err e))) (λ k e. read.script k (ap Err e)) (λ e. read.long (ap Err e))
 
 pub returns-in-Err-clause-grows : goal.returns-in-Err-clause-grows

@@ -127,3 +127,24 @@ pub returns-in-Ok-Run-clause-disk_count : goal.returns-in-Ok-Run-clause-disk_cou
 returns-in-Ok-Run-clause-disk_count g c = λ fault want.
     let asks : AsksRun (map string_bytes c.args.words.now) = (c.in-Ok-Run.logs, c.in-Ok-Run.link, c.in-Ok-Run.ensures.asked ∙ ap Some c.in-Ok-Run.field-0-is) in
     c.run.ensures.disk_count fault (want asks)
+
+-- a run that wasn't begun
+pub returns-in-Ok-Run-clause-nothing : goal.returns-in-Ok-Run-clause-nothing
+returns-in-Ok-Run-clause-nothing g c = λ asks how.
+    let ran = c.run.ensures in
+    elim how [
+      | inl unread ↦ (ran.nothing unread.0 unread.1).0
+      | inr (inl damaged) ↦ (ran.unread damaged.0 damaged.1).0
+      | inr (inr unkept) ↦ (ran.not_kept unkept.0 unkept.1).1
+    ]
+
+pub returns-in-Ok-Run-clause-idle : goal.returns-in-Ok-Run-clause-idle
+returns-in-Ok-Run-clause-idle g c = λ how.
+    let ran = c.run.ensures in
+    let asks : AsksRun (map string_bytes c.args.words.now) = (c.in-Ok-Run.logs, c.in-Ok-Run.link, c.in-Ok-Run.ensures.asked ∙ ap Some c.in-Ok-Run.field-0-is) in
+    elim how [
+      | inl other ↦ absurd (let both = sym other ∙ asks.2 in cc)
+      | inr (inl unread) ↦ (ran.nothing unread.0 unread.1).1.0
+      | inr (inr (inl damaged)) ↦ (ran.unread damaged.0 damaged.1).1
+      | inr (inr (inr unkept)) ↦ (ran.not_kept unkept.0 unkept.1).2
+    ]

@@ -1,5 +1,5 @@
 use Rattle.std.proofs.lemmas.Result.{IfOk-weaker}
-use Rattle.im_script.proofs.CommandLemmas.{found-set, found-delete, found-get, found-scan, found-history, found-header, found-state, found-prove, found-advance, found-item, found-link}
+use Rattle.im_script.proofs.CommandLemmas.{found-set, found-delete, found-get, found-scan, found-history, found-header, found-state, found-prove, found-advance, found-item, found-link, found-sql}
 use Rattle.im_script.proofs.lines.read_command.Goals as goal
 
 pub returns-in-Some : goal.returns-in-Some
@@ -45,3 +45,7 @@ returns-in-Some-after-9 c =
 pub returns-in-Some-after-10 : goal.returns-in-Some-after-10
 returns-in-Some-after-10 c =
     found-link c.args.text.now c.in-Some-after-10.rest.now c.in-Some-after-10.ensures.some c.read_link.result c.read_link.ensures
+
+pub returns-in-Some-after-11 : goal.returns-in-Some-after-11
+returns-in-Some-after-11 c =
+    IfOk-weaker c.read_sql.result _ _ (λ o h. found-sql c.args.text.now c.in-Some-after-11.rest.now c.in-Some-after-11.ensures.some o h) c.read_sql.ensures

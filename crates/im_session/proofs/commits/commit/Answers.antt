@@ -1,8 +1,10 @@
-use Rattle.std.proofs.Common.{List, ◌≡◌, map, sym, subst}
+use Rattle.std.proofs.Common.{List, ℕ, ◌≡◌, ◌≢◌, ◌∷◌, All, map, sym, subst}
+use Rattle.std.proofs.lemmas.List.Elements.{All-map}
 use Rattle.std.proofs.lemmas.Result.{IfErr-weaker, IfOk-weaker}
 use Rattle.im_octet.proofs.Common.{if-err}
 use Rattle.im_draft.specs.Drafts.{entry_of, AreEntries, AreFree}
 use Rattle.im_draft.specs.declared.drafts.Draft.{Draft}
+use Rattle.im_model.specs.declared.entries.Entry.{Entry}
 use Rattle.im_script.specs.declared.commands.Command.TheVariants.{Set}
 use Rattle.im_session.proofs.CommitLemmas.{error_unanswered, receipt_answered, receipt_unanswered, refusal_answered}
 use Rattle.im_session.specs.Answered.{IsUnanswered}
@@ -11,8 +13,16 @@ use Rattle.im_session.specs.declared.errors.LineError.TheVariants.{Memory}
 use Rattle.im_table.specs.Known.{KnownPass}
 use Rattle.im_session.proofs.commits.commit.Goals as goal
 
+-- no entry's key begins with octet 00
+free-entries : (drafts : List Draft) (entries : List Entry) → AreFree drafts → entries ≡ map entry_of drafts → All (λ e. (rest : List ℕ) → e.key ≢ 0 ∷ rest) entries
+free-entries drafts entries free same =
+    let IsOther : Entry → Type 0 = λ e. (rest : List ℕ) → e.key ≢ 0 ∷ rest in
+    subst (λ (es : List Entry). All IsOther es) (sym same) (All-map IsOther entry_of drafts free)
+
 pub commit-requires-clause-law : goal.commit-requires-clause-law
-commit-requires-clause-law g c = λ items begins allowed admitted item fresh writes. tt
+commit-requires-clause-law g c =
+    let asked = c.requires.free in
+    c.other_entries_may_be_placed.ensures c.args.pass.now.view.seen c.args.prepared (free-entries asked.0 c.args.prepared.entries asked.1 asked.2)
 
 -- it was committed
 pub returns-in_err-reply-in-Ok-clause-err : goal.returns-in_err-reply-in-Ok-clause-err

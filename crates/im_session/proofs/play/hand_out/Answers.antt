@@ -16,7 +16,7 @@ loop-mine-init g c = record {
   all = search rules;
   number = refl;
   left = handed_none g.N.TipName.table c.args.main.now c.requires.pass;
-  ready = subst (All (IsReady g.N.TipName.table)) (sym c.requires.none.0) (λ i d lt. absurd (omega arith));
+  ready = subst (All (IsReady g.N.TipName.found g.N.TipName.table)) (sym c.requires.none.0) (λ i d lt. absurd (omega arith));
   begins = subst (All (BeginsAt c.args.main.now)) (sym c.requires.none.0) (λ i d lt. absurd (omega arith));
   lines = ap (map (λ (s : Session). s.lines.items)) c.requires.none.0;
   room = c.requires.none.1;
@@ -77,8 +77,8 @@ loop-mine-preserved g c =
     let handed : AreHanded table first new (length c.loop-mine.yielded + 1) =
     handed_push table first old new (length c.loop-mine.yielded) i.left p.left.0 (omega (arith, i.left.weight, more, c.requires.room.1)) p.left.1 p.same.0 p.same.1 p.gains.own p.gains.leaves p.gains.faults in
     let count : length c.loop-mine.yielded + 1 ≡ length (c.loop-mine.yielded ++ mine ∷ []) = omega (arith, length-append c.loop-mine.yielded (mine ∷ [])) in
-    let begun = begun_push table first c.loop-mine.sessions.items c.push_reserved.new.self.items _ c.loop-mine.yielded mine c.push_reserved.ensures.items i.ready i.begins i.lines
-    (record { pass = p.given.0; weight = p.given.1; none = p.none.0; linked_none = p.none.1; told_none = p.none.2; texts = search rules }) (p.copy.0 ∙ i.left.seen, p.copy.1 ∙ i.left.least) (search rules) in
+    let begun = begun_push g.N.TipName.found table first c.loop-mine.sessions.items c.push_reserved.new.self.items _ c.loop-mine.yielded mine c.push_reserved.ensures.items i.ready i.begins i.lines
+    (record { kept = c.requires.found; pass = p.given.0; weight = p.given.1; none = p.none.0; linked_none = p.none.1; told_none = p.none.2; texts = search rules }) (p.copy.0 ∙ i.left.seen, p.copy.1 ∙ i.left.least) (search rules) in
     record {
       can = tt;
       finite = tt;

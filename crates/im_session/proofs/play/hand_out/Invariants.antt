@@ -14,7 +14,7 @@ invariant-loop-mine g l = record {
   all : l.fn.lines.items ≡ l.yielded ++ l.mine-iterator.rest.items;
   number : l.number ≡ length l.yielded;
   left : AreHanded g.N.TipName.table l.initial.main l.main (length l.yielded);
-  ready : All (IsReady g.N.TipName.table) l.sessions.items;
+  ready : All (IsReady g.N.TipName.found g.N.TipName.table) l.sessions.items;
   begins : All (BeginsAt l.initial.main) l.sessions.items;
   lines : map (λ (s : Session). s.lines.items) l.sessions.items ≡ l.yielded;
   room : length l.fn.lines.items ≤ vec_capacity l.sessions;

@@ -1,6 +1,7 @@
 use Rattle.std.proofs.Common.{rules, ◌≡◌, ◌∙◌, ℕ, List, [], length, sym, subst, Err, Ok}
+use Rattle.std.proofs.lemmas.List.{nil_from_length}
 use Rattle.im_script.specs.declared.commands.Line.{Line}
-use Rattle.im_session.proofs.ServeLemmas.{list_none, ran_none, ran_played, ran_refused}
+use Rattle.im_session.proofs.ServeLemmas.{ran_none, ran_played, ran_refused}
 use Rattle.im_session.specs.Served.{RunsPhase}
 use Rattle.im_session.specs.declared.errors.LineError.TheVariants.{Memory}
 use Rattle.im_session.specs.declared.serve.Stopped.TheVariants as stops
@@ -14,7 +15,7 @@ returns-then-is_empty-clause-ran g c =
     let faults : ℕ = g.K.Sink.faults c.args.sink.now in
     let same : c.as_slice.result.now ≡ c.args.phase = search rules in
     let empty : length c.as_slice.result.now ≡ 0 = search rules in
-    let none : c.args.phase ≡ [] = sym same ∙ list_none c.as_slice.result.now empty in
+    let none : c.args.phase ≡ [] = sym same ∙ nil_from_length c.as_slice.result.now empty in
     subst (λ (ls : List Line). RunsPhase g.N.TipName.digest c.args.links c.args.main.now c.args.main.now ls written written faults faults (Ok tt)) (sym none)
     (ran_none g.N.TipName.digest c.args.links c.args.main.now written faults)
 

@@ -1,9 +1,10 @@
 use Rattle.std.proofs.Common.{rules, ◌≡◌, ◌≢◌, ◌++◌, ◌∷◌, [], ◌∙◌, ℕ, List, length, ap, sym, subst, arith, append_assoc, append-nil, Result, Err, Ok}
 use Rattle.std.specs.Prelude.{AllPairs}
+use Rattle.std.proofs.lemmas.List.{nil_from_length}
 use Rattle.im_script.specs.Script.{lines_of, names_of}
 use Rattle.im_script.specs.declared.commands.Line.{Line}
 use Rattle.im_script.proofs.NameLemmas.{names-apart}
-use Rattle.im_session.proofs.ServeLemmas.{list_none, phase_named, well_done, well_next, well_none, well_stops}
+use Rattle.im_session.proofs.ServeLemmas.{phase_named, well_done, well_next, well_none, well_stops}
 use Rattle.im_session.specs.Dealing.{AreNamed}
 use Rattle.im_session.specs.Served.{RunsPhases}
 use Rattle.im_session.specs.declared.serve.Stopped.{Stopped}
@@ -65,4 +66,4 @@ returns-clause-ran g c =
     let i = c.loop-phase.invariant in
     let rest = c.loop-phase.phase-iterator.rest in
     let none : length rest.items ≡ 0 = search rules in
-    well_done c.args.script.phases.items (i.all ∙ ap (λ (l : List (List Line)). c.loop-phase.yielded ++ l) (list_none rest.items none) ∙ append-nil c.loop-phase.yielded) i.well
+    well_done c.args.script.phases.items (i.all ∙ ap (λ (l : List (List Line)). c.loop-phase.yielded ++ l) (nil_from_length rest.items none) ∙ append-nil c.loop-phase.yielded) i.well

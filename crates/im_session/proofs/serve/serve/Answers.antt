@@ -1,11 +1,11 @@
-use Rattle.std.proofs.Common.{rules, ◌≡◌, ◌∷◌, [], List, true, length, ap, subst, sym, arith}
-use Rattle.std.specs.List.{All}
+use Rattle.std.proofs.Common.{rules, ◌≡◌, ◌∷◌, [], List, length, ap, subst, sym, arith}
 use Rattle.im_session.proofs.ServeLemmas.{serves_of}
 use Rattle.im_session.specs.Served.{Serves}
+use Rattle.im_session.specs.Statements.{IsFoundKept}
+use Rattle.im_sqllaw.specs.Law.{KeepsSql}
 use Rattle.im_store.specs.Closing.{ClosesStore}
 use Rattle.im_store.specs.Names.{Naming, naming_of}
 use Rattle.im_table.specs.Known.{KnownPass}
-use Rattle.im_table.specs.declared.items.LogItem.{LogItem}
 use Rattle.im_session.proofs.serve.serve.Goals as goal
 
 pub returns : goal.returns
@@ -26,17 +26,22 @@ returns g c =
     let disk = c.close-disk.result.0 in
     let clock = c.close-disk.result.1 in
     let passes : c.push_reserved.new.self.items ≡ now ∷ [] = search rules in
-    let closes = subst (λ (ps : List KnownPass). ClosesStore (λ _. Unit {0}) g.D.Disk.told g.D.Disk.faults n.digest n.logs n.found n.synced n.faults n.time n.given ps disk (g.C.Clock.constant clock) (g.C.Clock.given clock)) passes
+    let closes = subst (λ (ps : List KnownPass). ClosesStore KeepsSql g.D.Disk.told g.D.Disk.faults n.digest n.logs n.found n.synced n.faults n.time n.given ps disk (g.C.Clock.constant clock) (g.C.Clock.given clock)) passes
     c.close-disk.ensures in
     let store = c.named-store.ensures in
-    let marked = subst (All (λ (item : LogItem). item.found ≡ true)) c.requires.tip.1 c.requires.marked in
+    let sound = subst IsFoundKept c.requires.tip.1 c.requires.found in
+    let keeps = c.a_list_is_kept.ensures n.found closes.items closes.goes_on sound.marked closes.history closes.meets.law sound.kept in
     let serves = serves_of g.D.Disk.told g.D.Disk.faults c.args.links n first now c.args.script.phases.items (g.K.Sink.written c.args.sink.now) (g.K.Sink.written c.run_phases-end.new.sink)
     (g.K.Sink.faults c.args.sink.now) (g.K.Sink.faults c.run_phases-end.new.sink) disk (g.C.Clock.constant clock) (g.C.Clock.given clock) c.run_phases-end.result c.run_phases-end.ensures.ran closes
-    store.durable store.known.0 store.none.0 store.none.1 store.none.2 c.run_phases-end.ensures.pass.1 marked in
+    store.durable store.known.0 store.none.0 store.none.1 store.none.2 c.run_phases-end.ensures.pass.1 sound.marked keeps in
     record {
       served = subst (λ (m : Naming). Serves g.D.Disk.told g.D.Disk.faults c.args.links m c.args.script.phases.items (g.K.Sink.written c.args.sink.now) (g.K.Sink.written c.run_phases-end.new.sink)
           (g.K.Sink.faults c.args.sink.now) (g.K.Sink.faults c.run_phases-end.new.sink) disk (g.C.Clock.constant clock) (g.C.Clock.given clock) c.run_phases-end.result) (sym named) serves;
     }
+
+-- what was found is what the store is named by
+pub run_phases-end-requires-clause-found : goal.run_phases-end-requires-clause-found
+run_phases-end-requires-clause-found g c κs within = subst IsFoundKept c.requires.tip.1 c.requires.found
 
 -- there is room for the one pass
 pub push_reserved-requires : goal.push_reserved-requires

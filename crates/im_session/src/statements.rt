@@ -1,0 +1,176 @@
+//! Replies to statements of SQL.
+
+ghost use Rattle.std.specs.Prelude.{◌≡◌, ◌≤◌, ℕ, List, IfErr, IfOk, Ok};
+ghost use Rattle.im_script.specs.declared.commands.Command.TheVariants.{Sql};
+ghost use Rattle.im_session.specs.Answered.{IsAnswered, IsOfStatement, IsStatementRefusal, IsUnanswered, fault_of};
+ghost use Rattle.im_session.specs.Statements.{AsksBehind, HasCounted, IsFoundKept};
+ghost use Rattle.im_sqlparse.specs.Formed.{IsStatement};
+ghost use Rattle.im_sqlparse.specs.Statements.{statement_of};
+ghost use Rattle.im_sqlparse.specs.declared.statements.Form.{Form as TheForm};
+ghost use Rattle.im_sqlreply.specs.Shown.{IsShown};
+ghost use Rattle.im_table.specs.Known.{KnownPass};
+ghost use Rattle.im_table.specs.Passes.{IsPassOf, Later};
+
+use crate::answers::Answer;
+use crate::errors::LineError;
+use crate::reads::keys_at;
+use im_digest::Hash32;
+use im_disk::disk::Disk;
+use im_edge::clock::Clock;
+use im_report::statements::{conflict_text, full_read_text, tx_read_text};
+use im_sql::run::run;
+use im_sqllaw::law::SqlKeys;
+use im_sqllaw::laws::{a_list_is_kept, a_statement_asks_since, a_statement_may_be_placed};
+use im_sqlmodel::answers::{SqlError, SqlOut};
+use im_sqlparse::errors::ParseError;
+use im_sqlparse::laws::what_is_read_is_formed;
+use im_sqlparse::parse;
+use im_sqlparse::statements::Stmt;
+use im_sqlreply::errors::{error_text, syntax_text};
+use im_sqlreply::rows::rows_text;
+use im_store::errors::CommitError;
+use im_store::store::Store;
+use im_table::pass::Pass;
+use im_table::tip_name::TipName;
+use im_tx::prepared::Prepared;
+use std::alloc::Global;
+use std::sync::Wait;
+
+// The reply to a statement whose commit has no receipt, where it has one: that a key was written since, or that no more transactions may be placed.
+fn unplaced(alloc: Global, error: CommitError, read: u64) -> Result<Answer, LineError>
+    requires asked { IsOfStatement error }
+    ensures ok { IfOk result (λ answer. IsStatementRefusal read error answer) }
+    ensures err { IfErr result (λ why. why ≡ fault_of error) }
+{
+    match error {
+        CommitError::Modified { key, tx, at } => {
+            let reply = conflict_text(alloc, key.as_slice(), tx, read)?;
+            drop(key);
+            Ok(Answer { number: at, reply })
+        }
+        CommitError::Full { at } => {
+            let reply = full_read_text(alloc, read)?;
+            Ok(Answer { number: at, reply })
+        }
+        CommitError::DiskFault { .. } | CommitError::Stopped { .. } => Err(LineError::DiskFault),
+        CommitError::Memory { .. } => Err(LineError::Memory),
+        CommitError::Missing { .. } | CommitError::Exists { .. } => unreachable!(),
+    }
+}
+
+// Commits what a statement asks for, judged behind `read` transactions. It is tried once.
+fn commit_read<H: Hash32, D: Disk, C: Clock, N: TipName, R: Wait>(
+    rt: &R,
+    alloc: Global,
+    store: &Store<'_, H, D, C, SqlKeys, N>,
+    pass: &mut Pass,
+    prepared: Prepared,
+    read: u64,
+) -> Result<Answer, LineError>
+    requires pass { IsPassOf N.table pass.old }
+    requires asks { (said : TheForm) × AsksBehind pass.old said read prepared }
+    ensures later { Later pass.old pass.new }
+    ensures ok { IfOk result (λ answer. (first : KnownPass) (text : List ℕ) (said : TheForm) → HasCounted first pass.old read → statement_of text ≡ Ok said
+        → AsksBehind pass.old said read prepared → IsAnswered N.digest first pass.new (Sql text) answer) }
+    ensures err { IfErr result (λ why. (first : KnownPass) (text : List ℕ) (said : TheForm) → HasCounted first pass.old read → statement_of text ≡ Ok said
+        → AsksBehind pass.old said read prepared → IsUnanswered first pass.new (Sql text) why) }
+{
+    a_statement_may_be_placed();
+    a_statement_asks_since();
+    match store.commit(rt, alloc, pass, prepared) {
+        Ok(receipt) => {
+            let number = receipt.id;
+            drop(receipt);
+            let reply = tx_read_text(alloc, number, read)?;
+            Ok(Answer { number, reply })
+        }
+        Err(error) => unplaced(alloc, error, read),
+    }
+}
+
+// The reply of an answer that asks for nothing to be placed; want of memory has none.
+fn shown(alloc: Global, answer: Result<SqlOut, SqlError>) -> Result<Vec<u8>, LineError>
+    requires shown { (prepared : _) → answer ≡ Ok (SqlOut.Write prepared) → ⊥ }
+    ensures ok { IfOk result (λ reply. IsShown answer reply.items) }
+    ensures err { IfErr result (λ why. why ≡ LineError.Memory) }
+{
+    match answer {
+        Ok(SqlOut::Rows(rows)) => {
+            let reply = rows_text(alloc, &rows);
+            drop(rows);
+            Ok(reply?)
+        }
+        Ok(SqlOut::Nothing) => Ok(Vec::from_slice(alloc, b"none")?),
+        Ok(SqlOut::Write(_)) => unreachable!(),
+        Err(error) => {
+            let reply = error_text(alloc, &error);
+            drop(error);
+            Ok(reply?)
+        }
+    }
+}
+
+// Answers a statement whose line counted so many transactions.
+fn answer_statement<H: Hash32, D: Disk, C: Clock, N: TipName, R: Wait>(
+    rt: &R,
+    alloc: Global,
+    store: &Store<'_, H, D, C, SqlKeys, N>,
+    pass: &mut Pass,
+    stmt: &Stmt,
+    number: u64,
+) -> Result<Answer, LineError>
+    requires pass { IsPassOf N.table pass.old }
+    requires found { IsFoundKept N.found }
+    requires formed { IsStatement stmt.now }
+    requires counted { number ≤ pass.old.view.least.durable }
+    ensures later { Later pass.old pass.new }
+    ensures ok { IfOk result (λ answer. (first : KnownPass) (text : List ℕ) → HasCounted first pass.old number → statement_of text ≡ Ok stmt.now
+        → IsAnswered N.digest first pass.new (Sql text) answer) }
+    ensures err { IfErr result (λ why. (first : KnownPass) (text : List ℕ) → HasCounted first pass.old number → statement_of text ≡ Ok stmt.now
+        → IsUnanswered first pass.new (Sql text) why) }
+{
+    let keys = keys_at(rt, alloc, store, pass, number)?;
+    store.show(rt, pass);
+    a_list_is_kept();
+    let answer = run(alloc, &keys, stmt, number);
+    drop(keys);
+    match answer {
+        Ok(SqlOut::Write(prepared)) => commit_read(rt, alloc, store, pass, prepared, number),
+        answer => {
+            let reply = shown(alloc, answer)?;
+            Ok(Answer { number, reply })
+        }
+    }
+}
+
+/// Answers `sql`: what the statement answers behind all that is durable as the line began. Where it is to write, a transaction is committed under its
+/// preconditions. Where another session has written a key since that they guard, that is told, and nothing is tried again. What a statement costs is said at
+/// `im_sql::run`, and at the store's `snapshot` and `commit`; it also waits for the book's lock once.
+pub(crate) fn answer_sql<H: Hash32, D: Disk, C: Clock, N: TipName, R: Wait>(
+    rt: &R,
+    alloc: Global,
+    store: &Store<'_, H, D, C, SqlKeys, N>,
+    pass: &mut Pass,
+    text: &str,
+) -> Result<Answer, LineError>
+    requires pass { IsPassOf N.table pass.old }
+    requires found { IsFoundKept N.found }
+    ensures later { Later pass.old pass.new }
+    ensures ok { IfOk result (λ answer. IsAnswered N.digest pass.old pass.new (Sql text.now) answer) }
+    ensures err { IfErr result (λ why. IsUnanswered pass.old pass.new (Sql text.now) why) }
+{
+    let number = store.tip(pass);
+    match parse(alloc, text) {
+        Ok(stmt) => {
+            what_is_read_is_formed();
+            let answer = answer_statement(rt, alloc, store, pass, &stmt, number);
+            drop(stmt);
+            answer
+        }
+        Err(ParseError::Syntax(fault)) => {
+            let reply = syntax_text(alloc, fault)?;
+            Ok(Answer { number, reply })
+        }
+        Err(ParseError::Memory) => Err(LineError::Memory),
+    }
+}
