@@ -3,4 +3,5 @@
 #![tactic(auto)]
 
 mod copies;
+mod judging;
 pub mod seated;

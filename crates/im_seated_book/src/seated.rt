@@ -1,4 +1,4 @@
-ghost use Rattle.std.specs.Prelude.{◌≡◌, ◌<◌, ◌≤◌, ◌⊎◌, ◌+◌, ◌∷◌, ◌++◌, [], false, Some, length, FitsSigned, IfErr, IfOk, IfSome, OnErr};
+ghost use Rattle.std.specs.Prelude.{◌≡◌, ◌<◌, ◌≤◌, ◌⊎◌, ◌+◌, ◌∷◌, ◌++◌, [], false, Some, length, FitsSigned, IfErr, IfOk, IfSome, None, OnErr, OnOk};
 ghost use Rattle.std.specs.Int.{w64};
 ghost use Rattle.im_edge.specs.Clocks.{AddsTimes};
 ghost use mathlib.Core.List.{IsPrefix};
@@ -16,8 +16,10 @@ ghost use Rattle.im_book.specs.Booked.{last_bl};
 ghost use Rattle.im_seated_book.specs.Seats.{HasTimed, HaveReferences, HoldsItems, IsPlaced, IsPut, MayBePlaced};
 
 use crate::copies::{part, records_of};
+use crate::judging::judge_over;
 use im_book::book::Book;
 use im_digest::{D32, Hash32};
+use im_draft::preconditions::Pres;
 use im_edge::clock::Clock;
 use im_entry::digests::entry_root;
 use im_format::records::Record;
@@ -193,8 +195,10 @@ impl<C: Clock, N: TipName> SeatedBook<C, N> {
     /// Places what was prepared behind all that is placed, where the limit isn't reached and the preconditions hold, and
     /// answers its number. It stands over the tree of this moment, whose lock is held too, and its time is the clock's,
     /// which is asked only where it is placed. Whatever the answer is, the pass has then seen the whole list, behind which
-    /// the preconditions were judged; it loads the word placed once. It hashes each value twice, and each entry, the header and the nodes of the
-    /// tree's root once.
+    /// the preconditions were judged; it loads the word placed once. It hashes each value twice, and each entry, the header
+    /// and the nodes of the tree's root once. Where there are preconditions, the index of keys is brought up first: each
+    /// key that was placed since the last such call is copied, once in all; with b the number of binary digits of the
+    /// number of versions, each precondition then costs at most b * (b + 1) comparisons of keys.
     ///
     /// # Errors
     ///
@@ -224,9 +228,20 @@ impl<C: Clock, N: TipName> SeatedBook<C, N> {
     {
         self.show(tip, pass);
         let (entries, pres) = prepared.into_parts();
-        self.book.judge(pres)?;
+        self.judge(alloc, pres)?;
         let number = self.put(alloc, hash, entries, tree, tip, pass)?;
         Ok(number)
+    }
+
+    // Judges preconditions behind all that is placed, with the index of keys brought up to it where there are some.
+    fn judge(&mut self, alloc: Global, pres: Pres) -> Result<(), PlaceError>
+        ensures same { self.new ≡ self.old }
+        ensures admitted { OnOk result (place_refusal (history_of self.old) pres ≡ None) }
+        ensures refused { IfErr result (λ why. (why ≡ PlaceError.Memory) ⊎ (place_refusal (history_of self.old) pres ≡ Some why)) }
+        ensures room { OnOk result (length self.old < 1048576) }
+    {
+        judge_over(alloc, &mut self.book, pres)?;
+        Ok(())
     }
 
     // Places a transaction of these entries, for a pass that has seen the whole list.

@@ -1,4 +1,4 @@
-use Rattle.std.proofs.Common.{rules, ◌≡◌, ◌∙◌, List, None, length, ap, subst, arith}
+use Rattle.std.proofs.Common.{rules, ◌≡◌, ◌∙◌, List, [], ◌∷◌, ◌++◌, None, length, ap, sym, subst, arith}
 use mathlib.Core.List.{IsPrefix}
 use Rattle.im_model.specs.declared.entries.Entry.{Entry}
 use Rattle.im_model.specs.History.{IsHistory}
@@ -18,7 +18,8 @@ put-requires-clause-law g c item new entries =
     let list = c.show.new.self in
     let begins = subst (λ (l : List LogItem). IsPrefix c.args.pass.now.view.seen l) c.show.ensures.seen.0 c.show.ensures.later.seen in
     let admitted : place_refusal (history_of list) c.args.prepared.pres ≡ None = search rules in
-    c.requires.law list begins c.show.ensures.meets.law admitted item new (entries ∙ c.into_parts-entries.ensures.entries)
+    subst (λ (l : List LogItem). g.L.Law.allows (l ++ item ∷ [])) (sym c.judge.ensures.same)
+    (c.requires.law list begins c.show.ensures.meets.law admitted item new (entries ∙ c.into_parts-entries.ensures.entries))
 
 pub returns-clause-later : goal.returns-clause-later
 returns-clause-later g c = later_both c.args.pass.now c.show.new.pass c.put.new.pass c.show.ensures.later c.in_ok-number.ensures.later
@@ -33,7 +34,7 @@ returns-clause-placed g c =
     let list = c.args.self.now in
     let time = g.N.TipName.time in
     let put = c.in_ok-number.ensures.placed in
-    let here = subst (λ (l : List LogItem). IsPut l c.into_parts-entries.result.0 c.put.new.tree.size time c.show.new.pass c.put.new.pass c.in_ok-number.number) c.show.ensures.same put in
+    let here = subst (λ (l : List LogItem). IsPut l c.into_parts-entries.result.0 c.put.new.tree.size time c.show.new.pass c.put.new.pass c.in_ok-number.number) (c.judge.ensures.same ∙ c.show.ensures.same) put in
     let asked = subst (λ (l : List Entry). IsPut list l c.put.new.tree.size time c.show.new.pass c.put.new.pass c.in_ok-number.number) c.into_parts-entries.ensures.entries here in
     record {
       put = put_later list c.args.prepared.entries c.put.new.tree.size time c.args.pass.now c.show.new.pass c.put.new.pass c.in_ok-number.number c.show.ensures.later c.show.ensures.adds asked;
