@@ -13,7 +13,7 @@ use Rattle.std.specs.List.Sorted.{IsStrictlySortedBy}
 use Rattle.std.specs.Map.{keys_of}
 use Rattle.std.specs.Option.{option_map}
 use Rattle.std.specs.Ordering.{nat_cmp}
-use Rattle.std.specs.Prelude.{IfSome, IsTrue}
+use Rattle.std.specs.Prelude.{Result, Ok, Err, IfOk, OnOk, IfSome, IsTrue}
 use Rattle.std.specs.Str.{bytes_eq}
 use Rattle.std.specs.declared.cmp.Ordering.{Ordering}
 use Rattle.std.specs.declared.cmp.Ordering.TheVariants.{Less}
@@ -144,6 +144,11 @@ among-newest newest key v is = among-found newest key v (tree.get_by (λ k. slic
         let place = place_from_lookup (is_at (λ (k : Bor (List ℕ)). slice_cmp nat_cmp key k.now)) newest.entries w found in
         let same : w.now ≡ v = cc in
         subst (IsAmong (versions_at newest.entries)) same (among-place newest.entries place.0 (place.1, w) place.2)
+
+-- what follows from both clauses of an answer
+pub both-ok : {T E : Type 0} (r : Result T E) (P : T → Type 0) (Q : Type 0) (R : T → Type 0) → ((x : T) → P x → Q → R x) → IfOk r P → OnOk r Q → IfOk r R
+both-ok (Ok x) P Q R f p q = f x p q
+both-ok (Err e) P Q R f p q = tt
 
 -- the live versions of a map that has the last ones of a history are a scan of it
 pub scan-newest : (history : List Transaction) (prefix : List ℕ) (newest : Newest) (shown : List Version) → tree.IsOrdered lent_cmp newest

@@ -7,6 +7,7 @@ ghost use Rattle.im_versions.specs.Versions.{versions_from, versions_in};
 ghost use Rattle.im_versions.specs.declared.versions.Version.{Version as TheVersion};
 ghost use Rattle.im_index.specs.Runs.{IsRunOf, HoldInOrder, AreHalving, lengths, settled, taken_in};
 
+use crate::blocks::hint_all;
 use crate::run::Run;
 use crate::shared::Shared;
 use im_model::entries::Entry;
@@ -57,6 +58,7 @@ fn sorted(alloc: Global, mut versions: Vec<Shared>) -> Result<Run, AllocError>
     ensures { IfOk result (λ run. IsRunOf run versions.items) }
 {
     versions.sort_by(by_key)?;
+    hint_all(&mut versions);
     Run::of(alloc, versions)
 }
 

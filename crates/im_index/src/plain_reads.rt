@@ -6,7 +6,7 @@ ghost use Rattle.im_model.specs.declared.transactions.Transaction.{Transaction};
 ghost use Rattle.im_versions.specs.Versions.{all_versions, is_of, IsScan};
 ghost use Rattle.im_index.specs.Newest.{last_of, HasNewest};
 
-use crate::maps::{live_of, put};
+use crate::maps::{copies_of, live_of, put};
 use im_versions::versions::{Version, Versions};
 use std::alloc::{AllocError, Global};
 use std::collections::BTreeMap;
@@ -82,7 +82,8 @@ pub(crate) fn scan(
     ensures { (history : List Transaction) → versions.now ≡ all_versions history → IfOk result (λ shown. IsScan history prefix.now shown) }
 {
     let newest = newest(alloc, versions, prefix)?;
-    Ok(Versions::from_vec(live_of(alloc, &newest)?))
+    let live = live_of(alloc, &newest)?;
+    copies_of(alloc, live.as_slice())
 }
 
 // The last version of each key that begins with a prefix.

@@ -1,6 +1,6 @@
 //! What is read off runs. A call that counts its steps has a twin that counts nothing.
 
-ghost use Rattle.std.specs.Prelude.{◌≡◌, ◌≤◌, ◌<◌, ◌+◌, ◌*◌, ◌++◌, ℕ, List, All, IsTrue, true, filter, length, nat_le, take, IfOk, OnOk};
+ghost use Rattle.std.specs.Prelude.{◌≡◌, ◌≤◌, ◌<◌, ◌+◌, ◌*◌, ◌++◌, ℕ, List, All, IsTrue, true, filter, length, map, nat_le, take, IfOk, OnOk};
 ghost use Rattle.std.specs.List.{last_or, flat_map};
 ghost use Rattle.std.specs.List.Sorted.{IsSorted};
 ghost use Rattle.im_model.specs.declared.transactions.Transaction.{Transaction};
@@ -12,7 +12,7 @@ ghost use Rattle.im_index.specs.Newest.{HasNewest};
 ghost use Rattle.im_index.specs.Runs.{HasDigits};
 
 use crate::blocks::{block_len, block_upto};
-use crate::maps::{live_of, put};
+use crate::maps::{copies_of, live_of, put};
 use crate::run::Run;
 use crate::search::{begun, last, of_key};
 use crate::shared::Shared;
@@ -182,19 +182,19 @@ fn put_last<'v>(
     Ok(())
 }
 
-// Copies of the last versions of the live keys that begin with a prefix, after the first `n` transactions, in
-// rising order, with the steps counted. In each run it compares the first version of each key that begins with it, and the
+// The last versions of the live keys that begin with a prefix, after the first `n` transactions, in rising order, lent, with
+// the steps counted. In each run it compares the first version of each key that begins with it, and the
 // version behind these keys.
-pub(crate) fn scan_steps<L: Ledger>(
+pub(crate) fn scan_steps<'r, L: Ledger>(
     alloc: Global,
-    runs: &[Run],
+    runs: &'r [Run],
     prefix: &[u8],
     n: u64,
     steps: &mut Steps<L>,
-) -> Result<Versions, AllocError>
+) -> Result<Vec<&'r Version>, AllocError>
     requires sorted { All (IsSorted numbered) runs.now }
     requires counted { All (λ r. All (λ (v : TheVersion). 0 < v.tx) r) runs.now }
-    ensures scan { (history : List Transaction) → AreRunsOf runs.now history → IfOk result (λ shown. IsScan (take n history) prefix.now shown) }
+    ensures scan { (history : List Transaction) → AreRunsOf runs.now history → IfOk result (λ shown. IsScan (take n history) prefix.now (map (λ v. v.now) shown.items)) }
     ensures cost { (b : ℕ) → All (λ r. HasDigits b (length r)) runs.now
         → steps.new ≤ steps.old + length runs.now * (b + 1) + length (filter (λ v. begins_with prefix.now v.key) (flat_map (λ r. r) runs.now)) }
 {
@@ -202,25 +202,39 @@ pub(crate) fn scan_steps<L: Ledger>(
     for run in runs {
         put_last(&mut newest, begun(run.as_slice(), prefix, steps), n)?;
     }
-    Ok(Versions::from_vec(live_of(alloc, &newest)?))
+    live_of(alloc, &newest)
 }
 
 // The same, with a count that nobody reads.
-fn scan_counted<L: Ledger>(
+fn scan_counted<'r, L: Ledger>(
     alloc: Global,
-    runs: &[Run],
+    runs: &'r [Run],
     prefix: &[u8],
     n: u64,
     blank: Blank,
-) -> Result<Versions, AllocError>
+) -> Result<Vec<&'r Version>, AllocError>
     requires name { blank.name ≡ L.name }
     requires parts { blank.parts ≡ L.parts }
     requires some { 0 < blank.parts }
     requires sorted { All (IsSorted numbered) runs.now }
     requires counted { All (λ r. All (λ (v : TheVersion). 0 < v.tx) r) runs.now }
-    ensures { (history : List Transaction) → AreRunsOf runs.now history → IfOk result (λ shown. IsScan (take n history) prefix.now shown) }
+    ensures { (history : List Transaction) → AreRunsOf runs.now history → IfOk result (λ shown. IsScan (take n history) prefix.now (map (λ v. v.now) shown.items)) }
 {
     scan_steps(alloc, runs, prefix, n, &mut Steps::<L>::new(blank))
+}
+
+// The last versions of the live keys that begin with a prefix, after the first `n` transactions, in rising order, lent.
+pub(crate) fn scan_lent<'r>(
+    alloc: Global,
+    runs: &'r [Run],
+    prefix: &[u8],
+    n: u64,
+) -> Result<Vec<&'r Version>, AllocError>
+    requires sorted { All (IsSorted numbered) runs.now }
+    requires counted { All (λ r. All (λ (v : TheVersion). 0 < v.tx) r) runs.now }
+    ensures { (history : List Transaction) → AreRunsOf runs.now history → IfOk result (λ shown. IsScan (take n history) prefix.now (map (λ v. v.now) shown.items)) }
+{
+    scan_counted::<Brand>(alloc, runs, prefix, n, Blank::new(1))
 }
 
 // Copies of the last versions of the live keys that begin with a prefix, after the first `n` transactions, in
@@ -235,5 +249,5 @@ pub(crate) fn scan(
     requires counted { All (λ r. All (λ (v : TheVersion). 0 < v.tx) r) runs.now }
     ensures { (history : List Transaction) → AreRunsOf runs.now history → IfOk result (λ shown. IsScan (take n history) prefix.now shown) }
 {
-    scan_counted::<Brand>(alloc, runs, prefix, n, Blank::new(1))
+    copies_of(alloc, scan_lent(alloc, runs, prefix, n)?.as_slice())
 }

@@ -1,3 +1,4 @@
+use crate::maps::copies_of;
 use crate::run::Run;
 use crate::steps::Steps;
 use crate::{changes, reads};
@@ -15,9 +16,9 @@ use std::sync::ledger::Ledger;
 /// What a read costs, where the runs hold a number of versions with b binary digits: `get` compares at most
 /// b * (b + 1) keys, `versions` at most 2 * b * b, and it copies the versions that it tells. `scan` compares the prefix
 /// with at most b * (b + 1) keys and one more for each version in the runs whose key begins with it. In fact it compares
-/// it with one version of each key in each run, and passes over the others, twice, by comparing keys with each other: about
-/// four times as many as their number has binary digits; of each run the last version of each key among the first n
-/// transactions is put into a map. `changes` finds the versions likewise, and looks at the number of each. Versions of
+/// it with one version of each key in each run, whose run says how many more follow, and passes over these, twice, by comparing
+/// the last of them and the one behind them with it; of each run the last version of each key among the first n
+/// transactions is put into a map. `scan` copies the versions that it tells, and `scan_lent` lends them. `changes` finds the versions likewise, and looks at the number of each. Versions of
 /// transactions behind the snapshot's are among those that the runs hold.
 ///
 /// # Thread safety
@@ -42,7 +43,7 @@ impl Model for Snapshot {
 }
 
 impl Snapshot {
-    ghost use Rattle.std.specs.Prelude.{◌≡◌, ◌≤◌, ◌+◌, ◌*◌, ℕ, List, filter, length, take, IfOk};
+    ghost use Rattle.std.specs.Prelude.{◌≡◌, ◌≤◌, ◌+◌, ◌*◌, ℕ, List, filter, length, map, take, IfOk};
     ghost use Rattle.std.specs.List.{flat_map};
     ghost use Rattle.im_model.specs.declared.transactions.Transaction.{Transaction};
     ghost use Rattle.im_versions.specs.Versions.{begins_with, last_version, versions_of, IsScan};
@@ -113,7 +114,22 @@ impl Snapshot {
         ensures cost { (b : ℕ) → HasDigits b (held self.now.runs)
             → steps.new ≤ steps.old + b * (b + 1) + length (filter (λ v. begins_with prefix.now v.key) (flat_map (λ r. r) self.now.runs)) }
     {
-        Ok(reads::scan_steps(alloc, &self.runs, prefix, n, steps)?)
+        let shown = reads::scan_steps(alloc, &self.runs, prefix, n, steps)?;
+        Ok(copies_of(alloc, shown.as_slice())?)
+    }
+
+    /// Answers as `scan`, and lends the versions that it tells. Its only error is want of memory.
+    pub fn scan_lent(
+        &self,
+        alloc: Global,
+        prefix: &[u8],
+        n: u64,
+    ) -> Result<Vec<&Version>, ViewError>
+        requires { (history : List Transaction) × IsSnapshotOf self.now history × (n ≤ length history) }
+        ensures { (history : List Transaction) → IsSnapshotOf self.now history → n ≤ length history
+            → IfOk result (λ shown. IsScan (take n history) prefix.now (map (λ v. v.now) shown.items)) }
+    {
+        Ok(reads::scan_lent(alloc, &self.runs, prefix, n)?)
     }
 }
 

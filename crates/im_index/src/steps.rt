@@ -5,8 +5,7 @@ use std::sync::ledger::{Blank, Book, Ledger, Share};
 
 /// How many steps were taken. A step is one comparison of keys, or of keys with their numbers. Only the calls that compare
 /// a key which is looked for, or a prefix, add to it. What isn't counted: the comparisons of kept versions with each other,
-/// by which a scan passes over the versions of a key (for each key and run about four times as many as the number of its
-/// versions there has binary digits), and those of the map that a scan fills. It takes no memory and no time. A clause
+/// by which a scan passes over the versions of a key (for each key and run four), and those of the map that a scan fills. It takes no memory and no time. A clause
 /// sees the number.
 #[derive(Drop)]
 pub struct Steps<L: Ledger> {

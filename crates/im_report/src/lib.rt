@@ -2,6 +2,7 @@
 //! in `specs/`, and the texts of replies.
 #![tactic(auto)]
 
+mod decimals;
 pub mod laws;
 pub mod reads;
 pub mod replies;

@@ -1,9 +1,10 @@
-ghost use Rattle.std.specs.Prelude.{ℕ, ◌≡◌, ◌≢◌, ◌++◌, take, codes, option_copied, IfOk, OnOk, OnErr};
+ghost use Rattle.std.specs.Prelude.{ℕ, ◌≡◌, ◌≢◌, ◌++◌, map, take, codes, option_copied, IfOk, OnOk, OnErr};
 ghost use Rattle.std.specs.Fmt.{decimal};
 ghost use Rattle.im_report.specs.Reads.{history_reply, bare_or_hex, place_reply, scan_reply, scanned_text, value_reply, version_text};
 
+use crate::decimals::push_decimal;
 use im_text::words::is_bare;
-use im_text::writing::{push_hex, push_number};
+use im_text::writing::push_hex;
 use im_versions::refusals::PlaceError;
 use im_versions::versions::Version;
 use std::alloc::{AllocError, Global};
@@ -50,7 +51,7 @@ fn push_written(
     ensures part { OnErr result ((n : ℕ) × (out.new.items ≡ out.old.items ++ take n (text.now ++ bare_or_hex octets.now ++ mark.now ++ decimal tx))) }
 {
     push_octets(alloc, out, text, octets)?;
-    push_number(alloc, out, mark, tx)
+    push_decimal(out, mark, tx)
 }
 
 // A text and octets.
@@ -128,11 +129,11 @@ fn push_scanned(alloc: Global, out: &mut Vec<u8>, version: &Version) -> Result<(
 
 /// The reply of live keys, each as its last version: `scan <count>` and ` K=V@<m>` for each, in their order.
 #[tactic(auto, unfolding(crate::specs::Reads::scan_reply))]
-pub fn scan_text(alloc: Global, shown: &[Version]) -> Result<Vec<u8>, AllocError>
-    ensures { IfOk result (λ text. text.items ≡ scan_reply shown.now) }
+pub fn scan_text(alloc: Global, shown: &[&Version]) -> Result<Vec<u8>, AllocError>
+    ensures { IfOk result (λ text. text.items ≡ scan_reply (map (λ v. v.now) shown.now)) }
 {
     let mut out = Vec::new(alloc);
-    push_number(alloc, &mut out, b"scan ", shown.len() as u64)?;
+    push_decimal(&mut out, b"scan ", shown.len() as u64)?;
     for version in shown {
         push_scanned(alloc, &mut out, version)?;
     }
@@ -146,7 +147,7 @@ fn push_version(alloc: Global, out: &mut Vec<u8>, version: &Version) -> Result<(
     ensures part { OnErr result ((n : ℕ) × (out.new.items ≡ out.old.items ++ take n (version_text version.now))) }
 {
     if version.deleted {
-        push_number(alloc, out, b" !@", version.tx)
+        push_decimal(out, b" !@", version.tx)
     } else {
         push_written(alloc, out, b" ", version.value.as_slice(), b"@", version.tx)
     }
@@ -159,7 +160,7 @@ pub fn history_text(alloc: Global, versions: &[Version]) -> Result<Vec<u8>, Allo
     ensures { IfOk result (λ text. text.items ≡ history_reply versions.now) }
 {
     let mut out = Vec::new(alloc);
-    push_number(alloc, &mut out, b"history ", versions.len() as u64)?;
+    push_decimal(&mut out, b"history ", versions.len() as u64)?;
     for version in versions {
         push_version(alloc, &mut out, version)?;
     }

@@ -1,6 +1,7 @@
 //! Replies that are read off a view of the keys, after a number of transactions that is named or after all of them.
 
 ghost use Rattle.std.specs.Prelude.{◌≡◌, ◌<◌, ◌≤◌, ℕ, List, [], length, unwrap_or, IfErr, IfNone, IfOk, IfSome, Some};
+ghost use Rattle.im_index.specs.Indexed.{IsSnapshotOf};
 ghost use Rattle.im_model.specs.declared.transactions.Transaction.{Transaction};
 ghost use Rattle.im_report.specs.Reads.{IsGetAnswer, IsHistoryAnswer, IsReadAt, IsScanAnswer};
 ghost use Rattle.im_report.specs.Replies.{beyond_reply};
@@ -67,22 +68,22 @@ fn get_text<V: KvView>(
     value_text(alloc, version.as_ref())
 }
 
-// The reply to `scan`, over a view of so many transactions.
-fn scan_shown<V: KvView>(
+// The reply to `scan`, over a snapshot of so many transactions.
+fn scan_shown(
     alloc: Global,
-    view: &V,
+    keys: &Snapshot,
     count: u64,
     prefix: &[u8],
     at: Option<u64>,
 ) -> Result<Vec<u8>, AllocError>
-    requires { (history : List Transaction) × V.stands view.now history × (count ≡ length history) }
-    ensures { (history : List Transaction) → V.stands view.now history → count ≡ length history → IfOk result (λ reply. IsReadAt history at (IsScanAnswer prefix.now) reply.items) }
+    requires { (history : List Transaction) × IsSnapshotOf keys.now history × (count ≡ length history) }
+    ensures { (history : List Transaction) → IsSnapshotOf keys.now history → count ≡ length history → IfOk result (λ reply. IsReadAt history at (IsScanAnswer prefix.now) reply.items) }
 {
     if let Some(refused) = refused_beyond(alloc, count, at)? {
         return Ok(refused);
     }
-    let shown = view
-        .scan(alloc, prefix, at.unwrap_or(count))
+    let shown = keys
+        .scan_lent(alloc, prefix, at.unwrap_or(count))
         .map_err(in_memory)?;
     scan_text(alloc, shown.as_slice())
 }

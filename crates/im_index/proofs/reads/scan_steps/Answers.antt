@@ -1,11 +1,12 @@
-use Rattle.std.proofs.Common.{◌≡◌, ◌≤◌, ◌<◌, ◌+◌, ◌*◌, ◌++◌, ℕ, List, length, take, arith, ap, sym, subst, ◌∙◌, length-append, mul-le-mul_right}
+use Rattle.std.proofs.Common.{◌≡◌, ◌≤◌, ◌<◌, ◌+◌, ◌*◌, ◌++◌, ℕ, List, length, map, take, arith, ap, sym, subst, ◌∙◌, length-append, mul-le-mul_right}
 use Rattle.std.proofs.Math.Nat.{add-mul}
 use Rattle.std.proofs.lemmas.List.{length-take-le, take_all}
 use Rattle.std.proofs.lemmas.List.Elements.{filter_passes}
+use Rattle.std.specs.BTreeMap.{IsOrdered}
 use Rattle.std.specs.List.{All, filter}
 use Rattle.std.specs.List.Sorted.{IsSorted}
 use Rattle.std.specs.Prelude.{IsTrue}
-use Rattle.im_versions.specs.Versions.{begins_with}
+use Rattle.im_versions.specs.Versions.{begins_with, IsScan}
 use Rattle.im_versions.specs.declared.versions.Version.{Version}
 use Rattle.im_index.specs.Marks.{numbered}
 use Rattle.im_index.specs.Newest.{HasNewest}
@@ -13,7 +14,7 @@ use Rattle.im_index.specs.Runs.{HasDigits}
 use Rattle.im_index.proofs.CostLemmas.{begun-fewer, take-longer}
 use Rattle.im_index.proofs.HoldLemmas.{joined}
 use Rattle.im_index.proofs.NewestLemmas.{begun-more, is_begun, is_within, looked_at, looked_at-more, looked_at-newest}
-use Rattle.im_index.proofs.ScanLemmas.{scan-newest}
+use Rattle.im_index.proofs.ScanLemmas.{both-ok, is_kept, lent_cmp, scan-newest, versions_at}
 use Rattle.im_index.proofs.reads.scan_steps.Goals as goal
 
 pub begun-requires-clause-sorted : goal.begun-requires-clause-sorted
@@ -82,12 +83,6 @@ returns-in_err-put_last-clause-cost g c = λ b fits.
       length-append (filter (is_begun prefix) (joined (take i runs))) (filter (is_begun prefix) run),
     )
 
-pub returns-in_err-live_of-clause-cost : goal.returns-in_err-live_of-clause-cost
-returns-in_err-live_of-clause-cost g c = λ b fits.
-    let whole = take_all c.loop-run.run-index c.args.runs.now (omega (arith, c.loop-run-test.false)) in
-    subst (λ (rs : List (List Version)). c.loop-run.steps ≤ c.args.steps.now + length rs * (b + 1) + length (filter (is_begun c.args.prefix.now) (joined rs))) whole
-    (c.loop-run.invariant.cost b fits)
-
 pub returns-clause-cost : goal.returns-clause-cost
 returns-clause-cost g c = λ b fits.
     let whole = take_all c.loop-run.run-index c.args.runs.now (omega (arith, c.loop-run-test.false)) in
@@ -101,6 +96,8 @@ returns-clause-scan g c = λ history are.
     let newest = c.loop-run.newest in
     let whole = take_all c.loop-run.run-index c.args.runs.now (omega (arith, c.loop-run-test.false)) in
     let has = subst (λ (rs : List (List Version)). HasNewest (looked_at prefix n rs) prefix newest) whole c.loop-run.invariant.newest in
-    scan-newest (take n history) prefix newest c.from_vec.result c.in_ok-live_of.ensures.ordered
-    (looked_at-newest prefix n c.args.runs.now history newest are has)
-    (c.from_vec.ensures ∙ c.in_ok-live_of.ensures.live)
+    both-ok c.live_of.result (λ live. map (λ v. v.now) live.items ≡ filter is_kept (versions_at newest.entries)) (IsOrdered lent_cmp newest)
+    (λ live. IsScan (take n history) prefix (map (λ v. v.now) live.items))
+    (λ live is ordered. scan-newest (take n history) prefix newest (map (λ v. v.now) live.items) ordered
+    (looked_at-newest prefix n c.args.runs.now history newest are has) is)
+    c.live_of.ensures.live c.live_of.ensures.ordered

@@ -18,6 +18,6 @@ returns-clause-part c =
     let text : List ℕ = c.args.text.now in
     let octets : List ℕ = bare_or_hex c.args.octets.now in
     let old : List ℕ = c.args.out.now.items in
-    subst (λ (l : List ℕ). OnErr c.push_number.result ((n : ℕ) × (c.push_number.new.out.items ≡ old ++ take n l))) (sym (append_assoc (text ++ octets) c.args.mark.now (decimal c.args.tx)))
-    (behind-err c.push_number.result old c.push_octets.new.out.items c.push_number.new.out.items (text ++ octets) (c.args.mark.now ++ decimal c.args.tx)
-    (c.in_ok-push_octets.ensures.whole ∙ append_assoc old text octets) c.push_number.ensures.part)
+    subst (λ (l : List ℕ). OnErr c.push_decimal.result ((n : ℕ) × (c.push_decimal.new.out.items ≡ old ++ take n l))) (sym (append_assoc (text ++ octets) c.args.mark.now (decimal c.args.tx)))
+    (behind-err c.push_decimal.result old c.push_octets.new.out.items c.push_decimal.new.out.items (text ++ octets) (c.args.mark.now ++ decimal c.args.tx)
+    (c.in_ok-push_octets.ensures.whole ∙ append_assoc old text octets) c.push_decimal.ensures.part)

@@ -3,6 +3,6 @@ use Rattle.im_session.proofs.ReadLemmas.{read-beyond, some-said}
 use Rattle.im_session.proofs.reads.scan_shown.Goals as goal
 
 pub returns-in-Some : goal.returns-in-Some
-returns-in-Some g c history stands size =
+returns-in-Some c history stands size =
     let refused = some-said _ _ c.in-Some.refused c.in-Some.is c.in_ok-refused.ensures.refused in
     read-beyond history c.args.at (IsScanAnswer c.args.prefix.now) c.in-Some.refused.items c.args.count refused.0 size refused.1 refused.2 refused.3

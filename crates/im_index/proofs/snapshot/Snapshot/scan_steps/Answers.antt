@@ -1,6 +1,7 @@
-use Rattle.std.proofs.Common.{◌≡◌, ◌≤◌, ◌<◌, ◌+◌, ◌*◌, ℕ, List, filter, length, ap, sym, subst, ◌∙◌}
+use Rattle.std.proofs.Common.{◌≡◌, ◌≤◌, ◌<◌, ◌+◌, ◌*◌, ℕ, List, filter, length, map, take, ap, sym, subst, ◌∙◌}
 use Rattle.std.specs.List.{All}
 use Rattle.std.specs.List.Sorted.{IsSorted}
+use Rattle.im_versions.specs.Versions.{IsScan}
 use Rattle.im_versions.specs.declared.versions.Version.{Version}
 use Rattle.im_index.specs.Indexed.{AreRunsOf, Indexed}
 use Rattle.im_index.specs.Marks.{numbered}
@@ -26,7 +27,8 @@ pub returns-clause-value : goal.returns-clause-value
 returns-clause-value g c = λ history is within.
     let runs : c.deref.result.now ≡ c.args.self.now.runs = c.deref.ensures.value ∙ ap (λ (k : Indexed). k.runs) c.self.view_is in
     let are : AreRunsOf c.deref.result.now is.whole = subst (λ (rs : List (List Version)). AreRunsOf rs is.whole) (sym runs) is.runs in
-    snapshot-scan c.args.self.now history c.args.prefix.now c.args.n c.in_ok-scan_steps.field-0 is within (c.in_ok-scan_steps.ensures.scan is.whole are)
+    subst (IsScan (take c.args.n history) c.args.prefix.now) (sym (c.in_ok-copies_of.ensures ∙ ap (map (λ v. v.now)) c.as_slice.ensures.value))
+    (snapshot-scan c.args.self.now history c.args.prefix.now c.args.n (map (λ v. v.now) c.in_ok-shown.shown.items) is within (c.in_ok-shown.ensures.scan is.whole are))
 
 pub returns-clause-cost : goal.returns-clause-cost
 returns-clause-cost g c = λ b fits.
@@ -34,14 +36,23 @@ returns-clause-cost g c = λ b fits.
     let begun : ℕ = length (filter (is_begun c.args.prefix.now) (joined c.args.self.now.runs)) in
     snapshot-more c.args.self.now c.requires.0 b (b + 1) begun _ _ c.requires.1 fits
     (subst (λ (rs : List (List Version)). c.scan_steps.new.steps ≤ c.args.steps.now + length rs * (b + 1) + length (filter (is_begun c.args.prefix.now) (joined rs))) runs
-    (c.in_ok-scan_steps.ensures.cost b
+    (c.in_ok-shown.ensures.cost b
     (subst (λ (rs : List (List Version)). All (λ run. HasDigits b (length run)) rs) (sym runs) (each-fits c.args.self.now.runs b fits))))
 
-pub returns-in_err-scan_steps-clause-cost : goal.returns-in_err-scan_steps-clause-cost
-returns-in_err-scan_steps-clause-cost g c = λ b fits.
+pub returns-in_err-shown-clause-cost : goal.returns-in_err-shown-clause-cost
+returns-in_err-shown-clause-cost g c = λ b fits.
     let runs : c.deref.result.now ≡ c.args.self.now.runs = c.deref.ensures.value ∙ ap (λ (k : Indexed). k.runs) c.self.view_is in
     let begun : ℕ = length (filter (is_begun c.args.prefix.now) (joined c.args.self.now.runs)) in
     snapshot-more c.args.self.now c.requires.0 b (b + 1) begun _ _ c.requires.1 fits
     (subst (λ (rs : List (List Version)). c.scan_steps.new.steps ≤ c.args.steps.now + length rs * (b + 1) + length (filter (is_begun c.args.prefix.now) (joined rs))) runs
-    (c.in_err-scan_steps.ensures.cost b
+    (c.in_err-shown.ensures.cost b
+    (subst (λ (rs : List (List Version)). All (λ run. HasDigits b (length run)) rs) (sym runs) (each-fits c.args.self.now.runs b fits))))
+
+pub returns-in_err-copies_of-clause-cost : goal.returns-in_err-copies_of-clause-cost
+returns-in_err-copies_of-clause-cost g c = λ b fits.
+    let runs : c.deref.result.now ≡ c.args.self.now.runs = c.deref.ensures.value ∙ ap (λ (k : Indexed). k.runs) c.self.view_is in
+    let begun : ℕ = length (filter (is_begun c.args.prefix.now) (joined c.args.self.now.runs)) in
+    snapshot-more c.args.self.now c.requires.0 b (b + 1) begun _ _ c.requires.1 fits
+    (subst (λ (rs : List (List Version)). c.scan_steps.new.steps ≤ c.args.steps.now + length rs * (b + 1) + length (filter (is_begun c.args.prefix.now) (joined rs))) runs
+    (c.in_ok-shown.ensures.cost b
     (subst (λ (rs : List (List Version)). All (λ run. HasDigits b (length run)) rs) (sym runs) (each-fits c.args.self.now.runs b fits))))

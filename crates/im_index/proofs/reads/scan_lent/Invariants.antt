@@ -1,4 +1,4 @@
-use Rattle.im_index.proofs.reads.scan.Given as goal
+use Rattle.im_index.proofs.reads.scan_lent.Given as goal
 
 abbrev pub ghosts-scan_counted : goal.ghosts-scan_counted
 ghosts-scan_counted a = record { name = a.blank.name; parts = a.blank.parts }
