@@ -15,8 +15,7 @@ use Rattle.im_script.specs.Script.{IsScript, Say, lines_of, with_name}
 use Rattle.im_script.specs.declared.commands.Line.{Line}
 use Rattle.im_report.specs.Report.{Answered, Report, reply_line, answer_line}
 use Rattle.im_accept.specs.Taken.{line_text, HaveSessions}
-use Rattle.im_accept.proofs.DigitLemmas.{decimal-lacks}
-use Rattle.im_accept.proofs.LfLemmas.{digits-lack}
+use Rattle.im_sqlreply.proofs.DigitLemmas.{decimal-lacks, digits-lack}
 use Rattle.im_accept.proofs.TakenLemmas.{sessions-are}
 use Rattle.im_octet.proofs.Common.{heads-are, tails-are}
 pub use Rattle.im_accept.proofs.ReplyLemmas.{answer-lacks}

@@ -4,7 +4,7 @@ use Rattle.std.specs.Fmt.{decimal}
 use Rattle.std.proofs.lemmas.Bool.{and_from, le-leb}
 use Rattle.std.proofs.lemmas.Fmt.{decimal_nonempty, length-decimal-le}
 use Rattle.im_text.specs.Words.{is_word, IsDigits}
-pub use Rattle.im_report.proofs.DigitLemmas.{decimal-digits, decimal-lacks}
+pub use Rattle.im_sqlreply.proofs.DigitLemmas.{decimal-digits, decimal-lacks}
 
 -- those of a transaction's number are few
 pub decimal-word : (n : ℕ) → n ≤ 1048576 → IsDigits (decimal n)

@@ -1,12 +1,10 @@
 -- No octet of an answered line is LF.
-use Rattle.std.proofs.Common.{◌≡◌, ◌≤◌, ℕ, ℤ, pos, negsuc, zero, suc, ◌/◌, ◌%◌, ◌==◌, not, List, [], ◌∷◌, ◌++◌, Bool, true, false, cond, refl, arith, get_or, nat_lt, codes}
-use Rattle.std.specs.Fmt.{decimal, signed_decimal}
+use Rattle.std.proofs.Common.{◌≡◌, ℕ, ◌/◌, ◌%◌, ◌==◌, not, List, [], ◌∷◌, ◌++◌, Bool, true, false, cond, refl, arith, nat_lt, codes}
 use Rattle.std.specs.Char.{digit_char}
-use Rattle.std.specs.List.{flat_map}
 use Rattle.std.proofs.lemmas.Bool.{and_parts, and_from, cond_both, ltb-false}
 use Rattle.std.proofs.lemmas.Bool.Decides.{nat_tests}
 use Rattle.std.proofs.lemmas.List.Folds.{list_all-append}
-use Rattle.hex.specs.Hex.{encode_lower, encode_with, lower_digits}
+use Rattle.hex.specs.Hex.{encode_lower}
 use Rattle.json.specs.Print.{escape, escape_byte, escape_letter, quoted}
 use Rattle.serde_json.specs.Data.{Data, Items, Members, no_items, item, no_members, member, null, boolean, number, string, array, object, unsigned, negative, float, Num}
 use Rattle.serde_json.specs.Written.{comma_if, compact_text, items_text, members_text, number_text}
@@ -17,17 +15,14 @@ use Rattle.im_text.specs.Fields.{is_bare, is_bare_octet}
 use Rattle.im_wire.specs.Headers.{header_text, header_front, header_middle, header_back}
 use Rattle.im_wire.specs.Texts.{text, message_data}
 use Rattle.im_wire.specs.declared.messages.Message.{Message}
+use Rattle.im_sqlreply.proofs.DigitLemmas.{above-lacks, digits-lack, hex-lacks, signed-lacks}
 use Rattle.im_report.specs.Reads.{bare_or_hex}
-use Rattle.im_accept.proofs.DigitLemmas.{decimal-lacks}
 
 letter-other : (x : ℕ) → not (escape_letter x == 10) ≡ true
 letter-other x = grind (arith, nat_tests)
 
 digit-other : (d : ℕ) → not (digit_char d == 10) ≡ true
 digit-other d = grind (arith, nat_tests)
-
-above-other : (x : ℕ) → 32 ≤ x → not (x == 10) ≡ true
-above-other x h = grind (arith, nat_tests)
 
 -- what stands in a string for an octet
 escaped-lacks : (x : ℕ) → Lacks 10 (escape_byte x)
@@ -38,7 +33,7 @@ escaped-lacks x =
     (λ e. and_from (not (escape_letter x == 10)) true (letter-other x) refl)
     (λ e. cond_both (nat_lt x 32) (92 ∷ 117 ∷ 48 ∷ 48 ∷ digit_char (x / 16) ∷ digit_char (x % 16) ∷ []) (x ∷ []) (λ t. Lacks 10 t)
     (λ f. and_from (not (digit_char (x / 16) == 10)) _ (digit-other (x / 16)) (and_from (not (digit_char (x % 16) == 10)) true (digit-other (x % 16)) refl))
-    (λ f. and_from (not (x == 10)) true (above-other x (ltb-false x 32 f)) refl))
+    (λ f. and_from (not (x == 10)) true (above-lacks x (ltb-false x 32 f)) refl))
 
 escape-lacks : (s : List ℕ) → Lacks 10 (escape s)
 escape-lacks [] = refl
@@ -47,12 +42,8 @@ escape-lacks (x ∷ s) = Lacks-append 10 (escape_byte x) (escape s) (escaped-lac
 quoted-lacks : (s : List ℕ) → Lacks 10 (quoted s)
 quoted-lacks s = Lacks-append 10 (escape s) (34 ∷ []) (escape-lacks s) refl
 
-signed-lacks : (z : ℤ) → Lacks 10 (signed_decimal z)
-signed-lacks (pos n) = decimal-lacks 10 n refl
-signed-lacks (negsuc n) = decimal-lacks 10 (suc n) refl
-
 number-lacks : (n : Num) → Lacks 10 (number_text n)
-number-lacks (unsigned n) = decimal-lacks 10 n refl
+number-lacks (unsigned n) = digits-lack n
 number-lacks (negative z) = signed-lacks z
 number-lacks (float x) = refl
 
@@ -89,22 +80,6 @@ pub text-lacks : (m : Message) → Lacks 10 (text m)
 unfolding text
 text-lacks m = data-lacks (message_data m)
 
--- hex digits
-place-other : (xs : List ℕ) (k : ℕ) → Lacks 10 xs → not (get_or xs k 0 == 10) ≡ true
-place-other [] k h = refl
-place-other (x ∷ xs) zero h = (and_parts _ _ h).0
-place-other (x ∷ xs) (suc k) h = place-other xs k (and_parts _ _ h).1
-
-pub hex-lacks : (octets : List ℕ) → Lacks 10 (encode_lower octets)
-unfolding encode_with
-hex-lacks [] = refl
-hex-lacks (o ∷ octets) =
-    and_from (not (get_or lower_digits (o / 16) 0 == 10)) _ (place-other lower_digits (o / 16) refl)
-    (and_from (not (get_or lower_digits (o % 16) 0 == 10)) _ (place-other lower_digits (o % 16) refl) (hex-lacks octets))
-
-pub digits-lack : (n : ℕ) → Lacks 10 (decimal n)
-digits-lack n = decimal-lacks 10 n refl
-
 -- a bare word has none
 bare-lacks : (octets : List ℕ) → is_bare octets ≡ true → Lacks 10 octets
 unfolding is_bare
@@ -115,11 +90,6 @@ pub octets-lack : (octets : List ℕ) → Lacks 10 (bare_or_hex octets)
 unfolding bare_or_hex
 octets-lack octets =
     cond_both (is_bare octets) octets (codes "0x" ++ encode_lower octets) (λ t. Lacks 10 t) (bare-lacks octets) (λ e. hex-lacks octets)
-
--- texts behind one another
-pub each-lacks : {A : Type 0} (f : A → List ℕ) (xs : List A) → ((x : A) → Lacks 10 (f x)) → Lacks 10 (flat_map f xs)
-each-lacks f [] h = refl
-each-lacks f (x ∷ xs) h = Lacks-append 10 (f x) (flat_map f xs) (h x) (each-lacks f xs h)
 
 -- the text of a header
 pub header-lacks : (header : TheHeader) → Lacks 10 (header_text header)

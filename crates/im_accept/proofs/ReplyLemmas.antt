@@ -26,6 +26,7 @@ use Rattle.im_wire.specs.Texts.{text}
 use Rattle.im_wire.specs.declared.messages.Message.TheVariants as says
 use Rattle.im_sqlparse.proofs.FormedStatements.{statement_formed}
 use Rattle.im_sqlreply.specs.Replies.{syntax_reply}
+use Rattle.im_sqlreply.proofs.DigitLemmas.{digits-lack, each-lacks, hex-lacks}
 use Rattle.im_sqlreply.proofs.TextLemmas.{syntax-lacks}
 use Rattle.im_sqlreply.proofs.ToldLemmas.{told-lacks}
 use Rattle.im_script.specs.declared.commands.Command.{Command}
@@ -35,7 +36,7 @@ use Rattle.im_proof.specs.Between.{anchor_between, dual_between}
 use Rattle.im_report.specs.Replies.{advance_reply, between_reply, beyond_reply, header_reply, item_reply, item_shown, no_entry_reply, order_reply, prove_reply, refused_reply, reserved_reply, shown_header, state_reply, tx_reply}
 use Rattle.im_report.specs.Report.{IsAnswer, IsSetAnswer}
 use Rattle.im_report.specs.Statements.{conflict_reply, full_read_reply, tx_read_reply, IsPlacedAs, IsRefusedAs, IsSqlAnswer, IsUnplacedReply, IsWriteTold}
-use Rattle.im_accept.proofs.LfLemmas.{digits-lack, each-lacks, header-lacks, hex-lacks, octets-lack, text-lacks}
+use Rattle.im_accept.proofs.LfLemmas.{header-lacks, octets-lack, text-lacks}
 
 -- an equation of a reply carries over what it lacks
 as-lacks : (a b : List ℕ) → a ≡ b → Lacks 10 b → Lacks 10 a

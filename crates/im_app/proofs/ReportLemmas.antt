@@ -29,7 +29,7 @@ use Rattle.im_accept.proofs.SessionLemmas.{phases-taken, phases-texts}
 use Rattle.im_seated_journal.specs.Calls.{MakesBatches, MakesPart, StandsPut, calls_of_batch, calls_of_batches}
 use Rattle.im_journal.specs.Made.{failed_call}
 use Rattle.im_seated_journal.specs.Seats.{RoseBy}
-use Rattle.im_session.specs.Served.{AskedFor, HasTime, Serves, WritesPhases}
+use Rattle.im_session.specs.Served.{AskedFor, FailsIn, HasTime, Serves, WritesPhases}
 use Rattle.im_session.specs.declared.errors.LineError.{LineError}
 use Rattle.im_session.specs.declared.errors.LineError.TheVariants as fails
 use Rattle.im_session.specs.declared.serve.Stopped.{Stopped}
@@ -227,4 +227,5 @@ module _ {D : Type 0} (told : D → Option Told) (faults : D → ℕ) (link : Li
     script_is = refl;
     report = report-of octets reads;
     wrote = subst (λ (e : Result Unit Stopped). WritesPhases s.phases written_before written_now sink_before sink_now e) is s.wrote;
+    failed = λ fault. subst (λ (k : ℕ). FailsIn s.history k s.phases) same-size (s.failed (is ∙ ap (λ (w : LineError). Err (stops.Line w)) fault));
   }

@@ -168,6 +168,7 @@ front-told hash constant logs link why left script before now times_before times
   script_is = same-script left script w.script is w.script_is;
   report = w.report;
   wrote = w.wrote;
+  failed = w.failed;
 }
 
 pub whole-told : (hash : Hash) (constant : Option ℤ) (logs : ℕ) (link : Link) (left : Option (List ℕ)) (script : List ℕ) (before now : Option Told) (times_before times_now : Option (List ℤ)) (sink_before sink_now : Option (List ℕ)) (faults_before faults_now : ℕ)

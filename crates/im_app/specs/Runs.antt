@@ -16,7 +16,7 @@ use Rattle.im_report.specs.Sessions.{SessionsReport, first_replies, lines_in, ph
 use Rattle.im_script.specs.Script.{IsScript, lines_of}
 use Rattle.im_script.specs.declared.commands.Line.{Line}
 use Rattle.im_seated_journal.specs.Calls.{MakesBatches, StandsPut}
-use Rattle.im_session.specs.Served.{AskedFor, HasTime, WritesPhases}
+use Rattle.im_session.specs.Served.{AskedFor, FailsIn, HasTime, WritesPhases}
 use Rattle.im_session.specs.declared.errors.LineError.{LineError}
 use Rattle.im_session.specs.declared.errors.LineError.TheVariants as line
 use Rattle.im_session.specs.declared.serve.Stopped.TheVariants as stops
@@ -105,12 +105,13 @@ pub record WritesPart (hash : Hash) (constant : Option ℤ) (logs : ℕ) (link :
   pub here : IfSome now (λ t. StandsPut hash logs (length report.found) report.history (seen t))
 
 -- A line got no reply: the replies of the phases before were written whole, those of its phase before the first such line, or a front part of them, not all,
--- where the sink failed, and nothing else; and no further phase was run.
+-- where the sink failed, and nothing else; and no further phase was run. Where the disk failed there, the line asks for something to be written, which was placed all the same, or refused.
 pub record WritesFront (hash : Hash) (constant : Option ℤ) (logs : ℕ) (link : Link) (why : LineError) (source : Option (List ℕ)) (before now : Option Told) (times_before times_now : Option (List ℤ)) (sink_before sink_now : Option (List ℕ)) (faults_before faults_now : ℕ) : Type 0 where
   pub script : List ℕ
   pub script_is : IfSome source (λ octets. octets ≡ script)
   pub report : IsReport hash constant logs link script before now times_before times_now
   pub wrote : WritesPhases report.phases sink_before sink_now faults_before faults_now (Err (stops.Line why))
+  pub failed : why ≡ line.DiskFault → FailsIn report.history (length report.found) report.phases
 
 -- the source gave a script of the grammar, within the limit, to its end, where it tells
 pub record GivesScript (before now : Option (List ℕ)) : Type 0 where

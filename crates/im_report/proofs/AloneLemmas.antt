@@ -292,6 +292,7 @@ alone_late hash h0 h phases answers line n others r o late just over =
         read = late.read;
         asked = late.asked;
         asks = may_ask_same h g late.read line.command late.asked (sym (front_take late.read (n - 1) h (omega (arith, late.behind)) (omega (arith, last)))) late.asks;
+        least = subst (λ (l : List Answered). highest start l ≤ late.read) (sym o.replies) late.least;
         within = omega (arith, late.behind, long);
         admitted = late.admitted;
         tx = transaction_of h n;

@@ -1,5 +1,4 @@
 pub mod PlacedLemmas
-pub mod DigitLemmas
 pub mod StatementLemmas
 pub mod RangeLemmas
 pub mod FrontLemmas

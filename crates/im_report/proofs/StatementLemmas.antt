@@ -5,6 +5,7 @@ use Rattle.im_text.proofs.CutLemmas.{heads-differ}
 use Rattle.im_sqlparse.specs.declared.errors.SqlSyntax.{SqlSyntax}
 use Rattle.im_sqlmodel.specs.declared.answers.SqlError.{SqlError}
 use Rattle.im_sqlmodel.specs.declared.answers.SqlOut.{SqlOut}
+use Rattle.im_sqlreply.proofs.DigitLemmas.{decimal-lacks, decimal-one, last-cut}
 use Rattle.im_sqlreply.proofs.TextLemmas.{Begins, syntax-begins}
 use Rattle.im_sqlreply.proofs.ToldLemmas.{told-begins}
 use Rattle.im_sqlreply.specs.Replies.{syntax_reply}
@@ -12,7 +13,6 @@ use Rattle.im_sqlreply.specs.Shown.{IsShown}
 use Rattle.im_versions.specs.declared.refusals.PlaceError.{PlaceError}
 use Rattle.im_versions.specs.declared.refusals.PlaceError.TheVariants.{Memory, Full, Missing, Exists, Modified}
 use Rattle.im_script.specs.declared.commands.Command.TheVariants.{Sql}
-use Rattle.im_report.proofs.DigitLemmas.{decimal-lacks, decimal-one, last-cut}
 use Rattle.im_report.proofs.PlacedLemmas.{other-letter}
 use Rattle.im_report.specs.Reads.{bare_or_hex}
 use Rattle.im_report.specs.Replies.{full_reply, tx_reply}

@@ -4,7 +4,7 @@ use Rattle.std.specs.List.{flat_map}
 use Rattle.im_digest.specs.Digests.{Hash}
 use Rattle.im_model.specs.declared.transactions.Transaction.{Transaction}
 use Rattle.im_report.specs.Asking.{MayAsk}
-use Rattle.im_report.specs.Outcomes.{Outcome}
+use Rattle.im_report.specs.Outcomes.{Outcome, highest}
 use Rattle.im_report.specs.Report.{Answered, Report, floor_after}
 use Rattle.im_report.specs.Sessions.{lines_in, phases_text, replies_in}
 use Rattle.im_script.specs.Script.{lines_of}
@@ -16,7 +16,8 @@ use Rattle.im_versions.specs.Admits.{place_refusal}
 abbrev pub all_replies : List (List Outcome) → List Answered
 all_replies phases = flat_map replies_in phases
 
--- one transaction was placed behind the history for the next line, which has no reply, over just the tree that the lines before it had linked
+-- One transaction was placed behind the history for the next line, which has no reply, over just the tree that the lines before it had linked. It has what the line asks
+-- for, where it is a statement by what it read, no fewer transactions than were found and told.
 pub record IsOneLate (h0 history : List Transaction) (answers : List Answered) (lines : List Line) (left : List Transaction) : Type 0 where
   pub line : Line
   pub others : List Line
@@ -24,6 +25,7 @@ pub record IsOneLate (h0 history : List Transaction) (answers : List Answered) (
   pub read : ℕ
   pub asked : Asked
   pub asks : MayAsk history read line.command asked
+  pub least : highest (length h0) answers ≤ read
   pub within : read ≤ length history
   pub admitted : place_refusal history asked.pres ≡ None
   pub tx : Transaction

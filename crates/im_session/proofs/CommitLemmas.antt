@@ -9,7 +9,7 @@ use Rattle.im_report.specs.Replies.{tx_reply}
 use Rattle.im_report.specs.Report.{tells_tx}
 use Rattle.im_script.specs.declared.commands.Command.{Command}
 use Rattle.im_script.specs.declared.commands.Command.TheVariants.{Set}
-use Rattle.im_session.proofs.StepLemmas.{Asks, counted_here, late_stuck, refused_step, tx_step, unplaced_stuck}
+use Rattle.im_session.proofs.StepLemmas.{Asks, counted_here, late_stuck, refused_late, refused_step, tx_step, unplaced_stuck}
 use Rattle.im_session.specs.Answered.{IsAnswered, IsRefusal, IsUnanswered, as_answered, fault_of}
 use Rattle.im_session.specs.declared.answers.Answer.{Answer}
 use Rattle.im_session.specs.declared.errors.LineError.TheVariants as line
@@ -35,23 +35,30 @@ placed_unanswered time asked first old new read n command a p l g session =
 pub commit_unanswered : (time : Option ℤ) (asked : Asked) (first old new : KnownPass) (read : ℕ) (command : Command) (error : CommitError) → Asks first old new read command asked
     → Explains time asked old new error → Later old new → Gains (number_told error) 0 (faults_of_error error) old new → IsUnanswered first new command (fault_of error)
 commit_unanswered time asked first old new read command (Missing key at) a e l g session =
-    unplaced_stuck first old new read session command line.Memory a.counted a.commits l g.own (omega (arith, g.leaves)) (omega (arith, g.faults, a.counted.gains.faults))
+    unplaced_stuck first old new read session command line.Memory a.counted l g.own (omega (arith, g.leaves)) (omega (arith, g.faults, a.counted.gains.faults))
+    (λ is. absurd (cc (is)))
 commit_unanswered time asked first old new read command (Exists key tx at) a e l g session =
-    unplaced_stuck first old new read session command line.Memory a.counted a.commits l g.own (omega (arith, g.leaves)) (omega (arith, g.faults, a.counted.gains.faults))
+    unplaced_stuck first old new read session command line.Memory a.counted l g.own (omega (arith, g.leaves)) (omega (arith, g.faults, a.counted.gains.faults))
+    (λ is. absurd (cc (is)))
 commit_unanswered time asked first old new read command (Modified key tx at) a e l g session =
-    unplaced_stuck first old new read session command line.Memory a.counted a.commits l g.own (omega (arith, g.leaves)) (omega (arith, g.faults, a.counted.gains.faults))
+    unplaced_stuck first old new read session command line.Memory a.counted l g.own (omega (arith, g.leaves)) (omega (arith, g.faults, a.counted.gains.faults))
+    (λ is. absurd (cc (is)))
 commit_unanswered time asked first old new read command (Full at) a e l g session =
-    unplaced_stuck first old new read session command line.Memory a.counted a.commits l g.own (omega (arith, g.leaves)) (omega (arith, g.faults, a.counted.gains.faults))
+    unplaced_stuck first old new read session command line.Memory a.counted l g.own (omega (arith, g.leaves)) (omega (arith, g.faults, a.counted.gains.faults))
+    (λ is. absurd (cc (is)))
 commit_unanswered time asked first old new read command (DiskFault None) a e l g session =
-    unplaced_stuck first old new read session command line.DiskFault a.counted a.commits l g.own (omega (arith, g.leaves)) e.1
+    unplaced_stuck first old new read session command line.DiskFault a.counted l g.own (omega (arith, g.leaves)) e.1
+    (λ is. refused_late asked first old new read e.0.at e.0.why command a e.0.judged)
 commit_unanswered time asked first old new read command (DiskFault (Some n)) a e l g session =
     late_stuck time asked first old new read n session command line.DiskFault a e.0 l g.own (omega (arith, g.leaves)) e.1
 commit_unanswered time asked first old new read command (Stopped faults None) a e l g session =
-    unplaced_stuck first old new read session command line.DiskFault a.counted a.commits l g.own (omega (arith, g.leaves)) (let some = e.1.some in let known = e.1.known in omega (arith, some, known))
+    unplaced_stuck first old new read session command line.DiskFault a.counted l g.own (omega (arith, g.leaves)) (let some = e.1.some in let known = e.1.known in omega (arith, some, known))
+    (λ is. refused_late asked first old new read e.0.at e.0.why command a e.0.judged)
 commit_unanswered time asked first old new read command (Stopped faults (Some n)) a e l g session =
     late_stuck time asked first old new read n session command line.DiskFault a e.0 l g.own (omega (arith, g.leaves)) (let some = e.1.some in let known = e.1.known in omega (arith, some, known))
 commit_unanswered time asked first old new read command (Memory None) a e l g session =
-    unplaced_stuck first old new read session command line.Memory a.counted a.commits l g.own (omega (arith, g.leaves)) (omega (arith, g.faults, a.counted.gains.faults))
+    unplaced_stuck first old new read session command line.Memory a.counted l g.own (omega (arith, g.leaves)) (omega (arith, g.faults, a.counted.gains.faults))
+    (λ is. absurd (cc (is)))
 commit_unanswered time asked first old new read command (Memory (Some n)) a e l g session =
     late_stuck time asked first old new read n session command line.Memory a e l g.own (omega (arith, g.leaves)) (omega (arith, g.faults, a.counted.gains.faults))
 
@@ -60,7 +67,7 @@ commit_unanswered time asked first old new read command (Memory (Some n)) a e l 
 -- it asks for its entries, behind all that its pass knew to be durable
 set_asks : (asked : Asked) (old new : KnownPass) (drafts : List Draft) → AreFree drafts → AreEntries drafts → asked.entries ≡ map entry_of drafts
     → Asks old old new old.view.least.durable (Set asked.pres drafts) asked
-set_asks asked old new drafts free are same = record { counted = counted_here old; commits = (free, are); asks = λ items m. (free, are, same, refl) }
+set_asks asked old new drafts free are same = record { counted = counted_here old; asks = λ items m. (free, are, same, refl) }
 
 -- a receipt: the reply is `tx` and its number; where its text can't be kept the transaction is one that isn't told
 pub receipt_answered : (hash : Hash) (time : Option ℤ) (asked : Asked) (old new : KnownPass) (answer : Answer) (drafts : List Draft) → AreFree drafts → AreEntries drafts → asked.entries ≡ map entry_of drafts
@@ -93,7 +100,7 @@ refusal_one hash asked old new why at answer drafts free are known r l g number 
     record {
       step = λ session. refused_step hash asked old old new read why (as_answered session command answer) (counted_here old) here l g other (λ n f. refl) tt
           (λ items m refused. inr (free, inr (are, inl (why, refused, says)))) (λ items m. tt);
-      else_stuck = λ session. unplaced_stuck old old new read session command line.Memory (counted_here old) (free, are) l g.own (omega (arith, g.leaves)) (omega (arith, g.faults));
+      else_stuck = λ session. unplaced_stuck old old new read session command line.Memory (counted_here old) l g.own (omega (arith, g.leaves)) (omega (arith, g.faults)) (λ is. absurd (cc (is)));
     }
 
 pub refusal_answered : (hash : Hash) (time : Option ℤ) (asked : Asked) (old new : KnownPass) (error : CommitError) (answer : Answer) (drafts : List Draft) → AreFree drafts → AreEntries drafts

@@ -11,7 +11,6 @@ use Rattle.im_script.specs.Script.{has_name}
 use Rattle.im_script.specs.declared.commands.Line.{Line}
 use Rattle.im_session.proofs.TogetherLemmas.{Each, Matches, first_line, first_of, matches_rest, own_first, rest_of, together, without}
 use Rattle.im_session.specs.Dealing.{AreNamed, AreNumbered, lines_with}
-use Rattle.im_session.specs.Lines.{IsWhy}
 use Rattle.im_session.specs.Written.{next_text, stop_in_order, stop_or, text_before, texts_in_order, without_first}
 use Rattle.im_session.specs.declared.errors.LineError.{LineError}
 
@@ -173,12 +172,12 @@ order_texts names (line ∷ lines) (number ∷ order) each apart numbered h =
         ∙ ap (λ (xs : List (List ℕ)). answer_line a ∷ xs) (ap (texts_in_order order) left ∙ rest)
         ∙ sym (ap (λ (r : Option Answered). map answer_line (before_others r (first_replies (together lines (without line.session each))))) e)
 
--- a line without a reply is one for which this is why; of one with a reply, what is said of those behind it
+-- there is a why for a line without a reply; of one with a reply, what is said of those behind it
 abbrev pub stop_fits_at : Option Answered → Option LineError → Outcome → Type 0 → Type 0
-stop_fits_at None why o later = (w : LineError) × (why ≡ Some w) × IsWhy w o.line.command
+stop_fits_at None why o later = (w : LineError) × (why ≡ Some w)
 stop_fits_at (Some a) why o later = later
 
--- the first line of a session without a reply, where there is one, is one for which this is why
+-- there is a why where a line of a session has no reply
 abbrev pub StopFits : Option LineError → List Outcome → Type 0
 StopFits why [] = Unit {0}
 StopFits why (o ∷ outcomes) = stop_fits_at o.reply why o (StopFits why outcomes)
@@ -188,7 +187,7 @@ abbrev pub EndsAt : List (List ℕ) → (List ℕ → Option LineError) → List
 EndsAt names whys outcomes None = All (λ o. IsSome o.reply) outcomes
 EndsAt names whys outcomes (Some number) =
     (name : List ℕ) × (slice_get names number ≡ Some name) × (w : LineError) × (whys name ≡ Some w)
-    × ((line : Line) × (rest : List Line) × (drop (length (first_replies outcomes)) (map line_in outcomes) ≡ line ∷ rest) × IsWhy w line.command)
+    × ((line : Line) × (rest : List Line) × (drop (length (first_replies outcomes)) (map line_in outcomes) ≡ line ∷ rest) × (line.session ≡ name))
 
 pub order_stop : (names : List (List ℕ)) (whys : List ℕ → Option LineError) (lines : List Line) (order : List ℕ) (each : Each) → AllPairs (λ a b. a ≢ b) names → AreNumbered names lines order → Matches lines each
     → ((name : List ℕ) → StopFits (whys name) (each name))
@@ -230,8 +229,8 @@ order_stop names whys (line ∷ lines) (number ∷ order) each apart numbered h 
 
     on : (a : Answered) → (first_of line (each line.session)).reply ≡ Some a → (s : Option ℕ) → EndsAt names whys (together lines (without line.session each)) s → EndsAt names whys (together (line ∷ lines) each) s
     on a e None all = answered_on a e all
-    on a e (Some k) (name, there, w, is, (l, rest, after, because)) =
-        (name, there, w, is, (l, rest, ap (λ (r : Option Answered). drop (length (before_others r (first_replies (together lines (without line.session each))))) ((first_of line (each line.session)).line ∷ map line_in (together lines (without line.session each)))) e ∙ after, because))
+    on a e (Some k) (name, there, w, is, (l, rest, after, mine)) =
+        (name, there, w, is, (l, rest, ap (λ (r : Option Answered). drop (length (before_others r (first_replies (together lines (without line.session each))))) ((first_of line (each line.session)).line ∷ map line_in (together lines (without line.session each)))) e ∙ after, mine))
 
     go : (r : Option Answered) → (first_of line (each line.session)).reply ≡ r
         → (((name : List ℕ) → StopFits (whys name) (without line.session each name)) → EndsAt names whys (together lines (without line.session each)) (stop_in_order order (map (λ n. texts_of (without line.session each n)) names)))
@@ -248,7 +247,7 @@ order_stop names whys (line ∷ lines) (number ∷ order) each apart numbered h 
             (first_of line (each line.session)).line,
             map line_in (together lines (without line.session each)),
             ap (λ (r : Option Answered). drop (length (before_others r (first_replies (together lines (without line.session each))))) ((first_of line (each line.session)).line ∷ map line_in (together lines (without line.session each)))) e,
-            f.2,
+            ap (λ (l : Line). l.session) parts.0,
           ),
         ) in
         subst (EndsAt names whys (together (line ∷ lines) each)) (sym (ap (λ (t : Option (List ℕ)). stop_or t number (stop_in_order order (without_first number (map (λ n. texts_of (each n)) names)))) none)) here

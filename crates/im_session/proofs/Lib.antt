@@ -6,6 +6,7 @@ pub mod HelperLemmas
 pub mod PhaseLemmas
 pub mod TogetherLemmas
 pub mod EndLemmas
+pub mod FailLemmas
 pub mod EachLemmas
 pub mod OutLemmas
 pub mod PlayLemmas

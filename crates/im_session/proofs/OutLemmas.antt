@@ -13,6 +13,7 @@ use Rattle.im_script.specs.declared.commands.Line.{Line}
 use Rattle.im_session.proofs.AloneLemmas.{ended_alone, ended_idle, not_answered}
 use Rattle.im_session.proofs.EachLemmas.{StopFits, texts_of}
 use Rattle.im_session.proofs.EndLemmas.{ended_known, ended_lines, ended_own, ended_reached, ended_session, outcomes_of, stop_in}
+use Rattle.im_session.proofs.FailLemmas.{StopsHere, stops_here}
 use Rattle.im_session.proofs.GrowLemmas.{may_before}
 use Rattle.im_session.specs.Gathered.{own_of}
 use Rattle.im_session.specs.Lines.{MayBecome}
@@ -66,7 +67,7 @@ pub each_of_outcomes : (P : Answered → Type 0) (answers : List Answered) (stop
 each_of_outcomes P answers None all = subst (All (λ o. All P (reply_in o))) (append-nil (map answered answers)) (each_behind P answers [] all (λ i d lt. absurd (omega arith)))
 each_of_outcomes P answers (Some s) all = each_behind P answers (halted s.0 s.1.0 ∷ map not_run s.1.1) all (halted_none P s.0 s.1.0 s.1.1)
 
--- its first line without a reply is that for which this is why
+-- there is a why where a line of it has no reply
 fits_answered : (why : Option LineError) (answers : List Answered) (rest : List Outcome) → StopFits why rest → StopFits why (map answered answers ++ rest)
 fits_answered why [] rest f = f
 fits_answered why (a ∷ answers) rest f = fits_answered why answers rest f
@@ -75,7 +76,7 @@ pub fits_outcomes : (hash : Hash) (start : Start) (p : KnownPass) (lines : List 
     → StopFits why (outcomes_of answers (stop_in hash start p lines answers why ran))
 fits_outcomes hash start p lines answers None ran = subst (StopFits None) (append-nil (map answered answers)) (fits_answered None answers [] tt)
 fits_outcomes hash start p lines answers (Some why) (line, others, e, cut) =
-    fits_answered (Some why) answers (halted line cut.stuck.late ∷ map not_run others) (why, refl, cut.stuck.because)
+    fits_answered (Some why) answers (halted line cut.stuck.late ∷ map not_run others) (why, refl)
 
 -- What a session's pass told of faults, by why its next line got no reply: nothing, or it knows of one; and then some line has no reply.
 abbrev pub ToldBy : Option LineError → KnownPass → List Outcome → Type 0
@@ -99,6 +100,7 @@ pub record IsOut (hash : Hash) (table : TableId) (low floor : ℕ) (s : Session)
   pub texts : s.texts.items ≡ texts_of out
   pub fits : StopFits s.why out
   pub told : ToldBy s.why s.pass out
+  pub failed : s.why ≡ Some DiskFault → (items : List LogItem) → MayBecome s.pass items → StopsHere (history_of items) low out
   pub known : All (λ o. All (λ a. a.number ≤ s.pass.view.least.durable) (reply_in o)) out
   pub reached : floor_after floor (replies_in out) ≤ s.pass.view.least.linked
   pub alone : RunsAlone low floor s.pass.view.leaves s.pass out
@@ -128,6 +130,10 @@ out_is hash table low floor before after done e =
       texts = done.texts ∙ ap (map answer_line) (sym (first_of_outcomes done.answers stop));
       fits = fits_outcomes hash st after.pass before.lines.items done.answers after.why done.ran;
       told = ended_told hash st after.pass before.lines.items done.answers after.why done.ran;
+      failed = λ is items m.
+          let stopped : StopsHere (history_of items) st.low (outcomes_of done.answers stop) =
+          stops_here hash st after.pass before.lines.items done.answers after.why done.ran (first_of_outcomes done.answers stop) (replies_of_outcomes done.answers stop) is items m in
+          subst (λ (t : Start). StopsHere (history_of items) t.low (outcomes_of done.answers stop)) e stopped;
       known = each_of_outcomes (λ a. a.number ≤ after.pass.view.least.durable) done.answers stop (ended_known hash st after.pass before.lines.items done.answers after.why done.ran);
       reached =
           let r : floor_after st.floor done.answers ≤ after.pass.view.least.linked = ended_reached hash st after.pass before.lines.items done.answers after.why done.ran in

@@ -133,7 +133,7 @@ pub record WasPlayed (hash : Hash) (table : TableId) (names : List (List ℕ)) (
 
 module _ (hash : Hash) (table : TableId) (links : Bool) (names : List (List ℕ)) (lines : List Line) (order : List ℕ) (before after : List Session) (ended : List Ended) (old mid new : KnownPass) where
   -- of each session's lists those that the one list may become
-  own_may : WasPlayed hash table names lines order before after ended old mid new → (items : List LogItem) → MayBecome new items → All (λ (s : Session). MayBecome s.pass items) after
+  pub own_may : WasPlayed hash table names lines order before after ended old mid new → (items : List LogItem) → MayBecome new items → All (λ (s : Session). MayBecome s.pass items) after
   own_may p items m = λ i d lt. record {
     begins = prefix_trans _ new.view.seen items (p.gathered.seen i d lt) m.begins;
     enough = omega (arith, p.gathered.all_durable i d lt, m.enough);

@@ -29,13 +29,14 @@ use Rattle.im_script.proofs.NameLemmas.{names-all}
 use Rattle.im_seated_journal.specs.Seats.{RoseBy}
 use Rattle.im_session.proofs.AloneLemmas.{floors_unrun}
 use Rattle.im_session.proofs.EndLemmas.{lines_unrun, times_unrun}
+use Rattle.im_session.proofs.FailLemmas.{fails_less, fails_push}
 use Rattle.im_session.proofs.ReportLemmas.{report_of}
 use Rattle.im_session.proofs.WriteLemmas.{order_none, order_some}
 use Rattle.im_session.proofs.SoFarLemmas.{grown_none, numbers_known, played_none, so_far_none, so_far_push}
 use Rattle.im_session.specs.Dealing.{AreNamed}
 use Rattle.im_session.specs.Lines.{MayBecome}
-use Rattle.im_session.specs.Phases.{AreSoFar, EndsPhase, IsPlayed, KnowsFaults, RunsAlone, StopsAt, count_in}
-use Rattle.im_session.specs.Served.{AddsLess, EndsBy, HasTime, RunsPhase, RunsPhases, Serves, TellsFaults, WritesPhase, WritesPhases}
+use Rattle.im_session.specs.Phases.{AreSoFar, EndsPhase, FailsAt, IsPlayed, KnowsFaults, RunsAlone, StopsAt, count_in, low_after}
+use Rattle.im_session.specs.Served.{AddsLess, EndsBy, FailsIn, HasTime, RunsPhase, RunsPhases, Serves, TellsFaults, WritesPhase, WritesPhases}
 use Rattle.im_session.specs.Written.{first_texts, next_text, texts_in_order, texts_left, without_first}
 use Rattle.im_session.specs.declared.errors.LineError.{LineError}
 use Rattle.im_session.specs.declared.errors.LineError.TheVariants.{DiskFault, Memory}
@@ -59,11 +60,13 @@ tells_by : (old new : KnownPass) (outcomes : List Outcome) (why : Option LineErr
     → TellsFaults old new (outcomes ∷ []) end
 tells_by old new outcomes None end k ends by = record {
   knows = λ is. absurd (by DiskFault is);
+  failed = λ is. absurd (by DiskFault is);
   calm = λ all. k.calm ends;
   alone = λ one fine. k.calm ends;
 }
 tells_by old new outcomes (Some why) end k ends by = record {
   knows = λ is. k.knows (same is);
+  failed = λ is. k.failed (same is);
   calm = λ all. k.calm (all 0 outcomes (omega arith));
   alone = λ one fine. k.alone one (λ is. fine (by ∙ named is));
 }
@@ -85,7 +88,7 @@ pub ran_none : (hash : Hash) (links : Bool) (p : KnownPass) (written : Option (L
 ran_none hash links p written faults = record {
   outcomes = [];
   played = played_none hash links p;
-  faults = record { knows = λ is. absurd (cc (is)); calm = λ all. refl; alone = λ one fine. refl };
+  faults = record { knows = λ is. absurd (cc (is)); failed = λ is. absurd (cc (is)); calm = λ all. refl; alone = λ one fine. refl };
   wrote = (λ i d lt. absurd (omega arith), Appends-nil written, refl);
 }
 
@@ -155,14 +158,14 @@ ran_refused hash links p [] written faults some = absurd (some refl)
 ran_refused hash links p (line ∷ others) written faults some = record {
   outcomes = map not_run (line ∷ others);
   played = played_unrun hash links p (line ∷ others);
-  faults = record { knows = λ is. absurd (cc (is)); calm = λ all. refl; alone = λ one fine. refl };
-  wrote = (record { line = line; next = (map line_in (map not_run others), refl); because = tt }, inl (Appends-nil written, refl));
+  faults = record { knows = λ is. absurd (cc (is)); failed = λ is. absurd (cc (is)); calm = λ all. refl; alone = λ one fine. refl };
+  wrote = (record { line = line; next = (map line_in (map not_run others), refl) }, inl (Appends-nil written, refl));
 }
 
 -- ---- what is written of a phase
 
 -- the replies before a line without one
-pub told_stop : {E : Type 0} (outcomes : List Outcome) (why : LineError) (before now : Option (List ℕ)) (faults_before faults_now : ℕ) (wrote : Result Unit E) (text : List ℕ) → text ≡ phase_text outcomes → StopsAt outcomes why
+pub told_stop : {E : Type 0} (outcomes : List Outcome) (why : LineError) (before now : Option (List ℕ)) (faults_before faults_now : ℕ) (wrote : Result Unit E) (text : List ℕ) → text ≡ phase_text outcomes → StopsAt outcomes
     → OnOk wrote (Appends before now text) → OnErr wrote ((n : ℕ) × (n < length text) × Appends before now (take n text)) → OnErr wrote (Rose faults_before faults_now) → faults_now ≤ faults_before + 1
     → OnOk wrote (faults_now ≡ faults_before) → WritesPhase outcomes before now faults_before faults_now (Err (stops.Line why))
 told_stop outcomes why before now faults_before faults_now (Ok x) text is halted whole less rose once same =
@@ -212,10 +215,13 @@ phase_named script before after phase is =
 
 -- ---- phase behind phase
 
-tells_push : (first mid new : KnownPass) (phases : List (List Outcome)) (outcomes : List Outcome) (end : Result Unit Stopped) → mid.view.faults ≡ first.view.faults → TellsFaults mid new (outcomes ∷ []) end
-    → TellsFaults first new (phases ++ outcomes ∷ []) end
-tells_push first mid new phases outcomes end calm t = record {
+tells_push : (first mid new : KnownPass) (phases : List (List Outcome)) (outcomes : List Outcome) (end : Result Unit Stopped) → mid.view.faults ≡ first.view.faults
+    → low_after first.view.least.durable phases ≤ mid.view.least.durable → TellsFaults mid new (outcomes ∷ []) end → TellsFaults first new (phases ++ outcomes ∷ []) end
+tells_push first mid new phases outcomes end calm low t = record {
   knows = t.knows;
+  failed = λ is items m.
+      let now : FailsAt (history_of items) mid.view.least.durable outcomes = t.failed is items m in
+      fails_push (history_of items) first.view.least.durable phases outcomes (fails_less (history_of items) (low_after first.view.least.durable phases) mid.view.least.durable outcomes low now);
   calm = λ all. t.calm (all-right AreAnswered phases (outcomes ∷ []) all) ∙ calm;
   alone = λ one fine. t.alone (one.0, all-right (All (λ (o : Outcome). o.line.session ≡ one.0)) phases (outcomes ∷ []) one.1) fine ∙ calm;
 }
@@ -267,7 +273,7 @@ module _ {hash : Hash} {links : Bool} {first mid new : KnownPass} {ran : List (L
     all = λ ok. absurd (cc (ok));
     phases = g.phases ++ r.outcomes ∷ [];
     so_far = so_far_push hash links first mid new ran g.phases lines r.outcomes g.so_far r.played g.wrote.0;
-    faults = tells_push first mid new g.phases r.outcomes (Err end) g.calm r.faults;
+    faults = tells_push first mid new g.phases r.outcomes (Err end) g.calm g.so_far.low r.faults;
     wrote = (
       g.phases,
       r.outcomes,
@@ -294,7 +300,7 @@ well_done {hash} {links} {first} {now} {ran} {before} {written} {faults_before} 
   all = λ ok. refl;
   phases = g.phases;
   so_far = g.so_far;
-  faults = record { knows = λ bad. absurd (cc (bad)); calm = λ all. g.calm; alone = λ one fine. g.calm };
+  faults = record { knows = λ bad. absurd (cc (bad)); failed = λ bad. absurd (cc (bad)); calm = λ all. g.calm; alone = λ one fine. g.calm };
   wrote = g.wrote;
 }
 
@@ -438,6 +444,7 @@ module _ {D : Type 0} (tells : D → Option Told) (counts : D → ℕ) (links : 
     here = λ other. c.here (c.sound all_weight (one_quiet (quiet other))) (settled other);
     calls = c.calls;
     fault = λ is. (let one : 1 ≤ c.failures = omega (arith, r.faults.knows is, faults_known) in rose_less n.faults (counts disk) c.failures 1 one c.rose);
+    failed = λ is. subst (λ (k : ℕ). FailsIn (history_of c.items) k r.phases) durable (r.faults.failed is c.items may);
     unharmed = λ other. c.calm all_weight (one_quiet (quiet other));
     unharmed_alone = λ one fine. c.calm all_weight (one_quiet (r.faults.alone one fine ∙ untold));
   }

@@ -1,5 +1,5 @@
 -- What a statement is answered, by what it read and by what became of its commit.
-use Rattle.std.proofs.Common.{◌≡◌, ◌⊎◌, ◌≤◌, ◌<◌, ◌^◌, ◌++◌, ℕ, ℤ, List, [], ◌∷◌, length, map, take, nat_le, Bool, true, false, if◌then◌else◌, Option, Some, None, MatchOption, Result, Ok, Err, refl, ap, sym, ◌∙◌, subst, true≢false, arith, inl, inr}
+use Rattle.std.proofs.Common.{◌≡◌, ◌⊎◌, ◌≤◌, ◌<◌, ◌^◌, ◌++◌, ℕ, ℤ, List, [], ◌∷◌, length, map, take, nat_le, Bool, true, false, if◌then◌else◌, Option, Some, Result, Ok, Err, refl, ap, sym, ◌∙◌, subst, true≢false, arith, inl, inr}
 use Rattle.std.proofs.lemmas.List.{take_all, take-take}
 use Rattle.im_digest.specs.Digests.{Hash}
 use Rattle.im_draft.specs.declared.preconditions.Pre.{Pre}
@@ -20,27 +20,22 @@ use Rattle.im_session.proofs.GrowLemmas.{front_length, history_taken, may_before
 use Rattle.im_session.proofs.ReadLemmas.{keys_length}
 use Rattle.im_session.proofs.StepLemmas.{Asks, refused_step, slack_kept, stuck_none, tx_step, unplaced_stuck}
 use Rattle.im_session.specs.Answered.{IsAnswered, IsOfStatement, IsStatementRefusal, IsUnanswered, as_answered}
-use Rattle.im_session.specs.Lines.{MayBecome, MayWrite}
+use Rattle.im_session.specs.Lines.{MayBecome}
 use Rattle.im_session.specs.Shown.{ShowsKeys}
 use Rattle.im_session.specs.Statements.{AsksBehind, HasCounted}
 use Rattle.im_session.specs.declared.answers.Answer.{Answer}
 use Rattle.im_session.specs.declared.errors.LineError.TheVariants as line
 use Rattle.im_sqlmodel.proofs.KeptLemmas.{kept-up}
 use Rattle.im_sqlmodel.specs.Answers.{AnswerIs}
-use Rattle.im_sqlmodel.specs.Conditions.{scope_of}
 use Rattle.im_sqlmodel.specs.Kept.{IsSqlKept}
-use Rattle.im_sqlmodel.specs.Selects.{SelectAt, SelectOf, number_read, select_fault}
 use Rattle.im_sqlmodel.specs.declared.answers.SqlError.{SqlError}
 use Rattle.im_sqlmodel.specs.declared.answers.SqlError.TheVariants as error
 use Rattle.im_sqlmodel.specs.declared.answers.SqlOut.{SqlOut}
 use Rattle.im_sqlmodel.specs.declared.answers.SqlOut.TheVariants as out
-use Rattle.im_sqlmodel.specs.declared.tables.Table.{Table}
 use Rattle.im_sqlparse.specs.Formed.{IsStatement}
 use Rattle.im_sqlparse.specs.Statements.{statement_of}
 use Rattle.im_sqlparse.specs.declared.errors.SqlSyntax.{SqlSyntax}
 use Rattle.im_sqlparse.specs.declared.statements.Form.{Form}
-use Rattle.im_sqlparse.specs.declared.statements.Form.TheVariants as form
-use Rattle.im_sqlparse.specs.declared.statements.Select.{Select}
 use Rattle.im_sqlreply.specs.Replies.{syntax_reply}
 use Rattle.im_sqlreply.specs.Shown.{IsShown}
 use Rattle.im_store.proofs.GainLemmas.{gains_before}
@@ -148,29 +143,6 @@ asks_of old new text said read asked l is a items m =
       asks = subst (λ (h : List Transaction). AnswerIs h said (Ok (out.Write asked))) (sym front) a.asks;
     }
 
--- no SELECT asks for anything
-select-at : (history : List Transaction) (s : Select) (t : Table) (n : ℕ) (asked : Asked) → SelectAt history s t n (Ok (out.Write asked)) → ⊥
-select-at history s t n asked (inl (beyond, e)) = cc
-select-at history s t n asked (inr (within, (rows, of, e))) = cc
-
-select-of : (history : List Transaction) (s : Select) (t : Table) (asked : Asked) (fault : Option SqlError)
-    → MatchOption fault (SelectAt history s t (number_read (length history) s.period) (Ok (out.Write asked))) (λ f. Ok (out.Write asked) ≡ Err f) → ⊥
-select-of history s t asked None a = select-at history s t (number_read (length history) s.period) asked a
-select-of history s t asked (Some f) e = cc
-
-select-found : (history : List Transaction) (s : Select) (asked : Asked) (found : Option Table)
-    → MatchOption found (Ok (out.Write asked) ≡ Err (error.NoTable s.table)) (λ t. SelectOf history s t (Ok (out.Write asked))) → ⊥
-select-found history s asked None e = cc
-select-found history s asked (Some t) a = select-of history s t asked (select_fault (scope_of t s.history) s) a
-
-may_write : (history : List Transaction) (said : Form) (asked : Asked) → AnswerIs history said (Ok (out.Write asked)) → MayWrite said
-may_write history (form.CreateTable c) asked a = tt
-may_write history (form.CreateIndex c) asked a = tt
-may_write history (form.Upsert s) asked a = tt
-may_write history (form.Insert s) asked a = tt
-may_write history (form.Delete s) asked a = tt
-may_write history (form.Select s) asked a = absurd (select-found history s asked a.0 a.2)
-
 -- ---- why it wasn't placed
 
 -- there is no room, or a key was written since
@@ -219,7 +191,6 @@ pub asks_placed : (first old new : KnownPass) (text : List ℕ) (said : Form) (r
     → Asks first old new read (Sql text) asked
 asks_placed first old new text said read asked c l is a = record {
   counted = c;
-  commits = (said, is, may_write (take read (history_of old.view.seen)) said asked a.asks);
   asks = asks_of old new text said read asked l is a;
 }
 
@@ -273,7 +244,7 @@ refusal_one hash asked first old new why at read text said answer c small is a r
             told = inr (record { within = within; why = why; refused = refused; told = says });
           })))
           (λ items m. tt);
-      else_stuck = λ session. unplaced_stuck first old new read session (Sql text) line.Memory c asks.commits l g.own (omega (arith, g.leaves)) (omega (arith, g.faults, c.gains.faults));
+      else_stuck = λ session. unplaced_stuck first old new read session (Sql text) line.Memory c l g.own (omega (arith, g.leaves)) (omega (arith, g.faults, c.gains.faults)) (λ is. absurd (cc (is)));
     }
 
 pub unplaced_answered : (hash : Hash) (time : Option ℤ) (asked : Asked) (first old new : KnownPass) (read : ℕ) (text : List ℕ) (said : Form) (error : CommitError) (answer : Answer)

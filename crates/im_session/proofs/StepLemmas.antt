@@ -11,14 +11,14 @@ use Rattle.im_script.specs.declared.commands.Command.{Command}
 use Rattle.im_script.specs.declared.commands.Command.TheVariants.{Link}
 use Rattle.im_script.specs.declared.commands.Line.{Line}
 use Rattle.im_session.proofs.GrowLemmas.{front_length, history_taken, transaction_at}
-use Rattle.im_session.specs.Lines.{IsCommit, IsStep, IsStuck, IsWhy, KnowsFault, MayBecome}
+use Rattle.im_session.specs.Lines.{IsStep, IsStuck, KnowsFault, MayBecome, WasRefused}
 use Rattle.im_session.specs.Statements.{HasCounted}
 use Rattle.im_session.specs.declared.errors.LineError.{LineError}
 use Rattle.im_session.specs.declared.errors.LineError.TheVariants.{DiskFault, Memory}
 use Rattle.std.proofs.lemmas.List.{take-map}
 use Rattle.im_store.proofs.GainLemmas.{gains_same, later_self}
 use Rattle.im_store.proofs.ProveLemmas.{transaction_front}
-use Rattle.im_store.specs.Commits.{HasPlaced, IsRefusedDurably}
+use Rattle.im_store.specs.Commits.{HasPlaced, IsRefusedAt, IsRefusedDurably}
 use Rattle.im_tx.specs.Asked.{Asked}
 use Rattle.im_versions.specs.Admits.{place_refusal}
 use Rattle.im_versions.specs.declared.refusals.PlaceError.{PlaceError}
@@ -35,13 +35,13 @@ use Rattle.im_table.specs.declared.items.LogItem.{LogItem}
 pub stuck_none : (old new : KnownPass) (line : Line) (leaves : ℕ) → Later old new → Gains [] leaves 0 old new
     → old.view.least.linked + new.view.leaves ≤ new.view.least.linked + old.view.leaves → IsStuck old new line Memory
 stuck_none old new line leaves l g slack = record {
-  because = tt;
   fault = omega (arith, g.faults);
   late = None;
   own = g.own;
   tx = tt;
   under = tt;
   still = tt;
+  refused = λ is. absurd (cc (is));
   slack = slack;
 }
 
@@ -133,7 +133,6 @@ counted_here p = record { later = later_self p; gains = gains_same p; least = om
 -- a line whose command asks for this, judged behind so many transactions: they were counted at an earlier moment of its pass
 pub record Asks (first old new : KnownPass) (read : ℕ) (command : Command) (asked : Asked) : Type 0 where
   pub counted : HasCounted first old read
-  pub commits : IsCommit command
   pub asks : (items : List LogItem) → MayBecome new items → MayAsk (history_of items) read command asked
 
 -- a commit that was placed, and has no reply
@@ -207,11 +206,6 @@ refused_step hash asked first old new read why a c r l g other floor reads answe
       just = λ same still. omega (arith, same, floor a.number first.view.least.linked, c.gains.leaves, g.leaves);
     }
 
--- a command that asks for something reaches the disk
-reaches : (command : Command) (why : LineError) → IsCommit command → IsWhy why command
-reaches command DiskFault commits = commits
-reaches command Memory commits = tt
-
 -- a placed commit without a reply
 pub late_stuck : (time : Option ℤ) (asked : Asked) (first old new : KnownPass) (read n : ℕ) (session : List ℕ) (command : Command) (why : LineError) → Asks first old new read command asked
     → HasPlaced time asked old new n → Later old new → new.view.own ≡ old.view.own ++ n ∷ [] → new.view.leaves ≡ old.view.leaves → KnowsFault why first new
@@ -220,30 +214,48 @@ late_stuck time asked first old new read n session command why a p l own leaves 
     let before = a.counted.later in
     let gains = a.counted.gains in
     record {
-      because = reaches command why a.commits;
       fault = fault;
       late = Some n;
       own = own ∙ ap (λ (xs : List ℕ). xs ++ n ∷ []) (gains.own ∙ append-nil first.view.own);
       tx = λ items m. late_of time asked first old new read n command a p items m;
       under = λ items m. (placed_stands time asked old new n p items m).under;
       still = omega (arith, leaves, gains.leaves);
+      refused = λ is. tt;
       slack = omega (arith, before.linked, l.linked, leaves, gains.leaves);
     }
 
+-- a commit that was refused behind transactions, is so in each list that the one list may become
+pub refused_late : (asked : Asked) (first old new : KnownPass) (read at : ℕ) (why : PlaceError) (command : Command) → Asks first old new read command asked → IsRefusedAt asked old new why at
+    → (items : List LogItem) → MayBecome new items → WasRefused (history_of items) first.view.least.durable command
+refused_late asked first old new read at why command a j items m =
+    let front : take at (history_of items) ≡ history_of (take at new.view.seen) = history_taken new items at m j.within ∙ take-map (λ (x : LogItem). x.tx) at new.view.seen in
+    record {
+      read = read;
+      asked = asked;
+      asks = a.asks items m;
+      least = a.counted.least;
+      at = at;
+      behind = omega (arith, a.counted.known, j.later);
+      within = omega (arith, j.within, front_length new.view.seen items m.begins, history_length items);
+      why = why;
+      refused = ap (λ (h : List Transaction). place_refusal h asked.pres) front ∙ j.refused;
+    }
+
 -- a commit that wasn't placed, and has no reply
-pub unplaced_stuck : (first old new : KnownPass) (read : ℕ) (session : List ℕ) (command : Command) (why : LineError) → HasCounted first old read → IsCommit command
+pub unplaced_stuck : (first old new : KnownPass) (read : ℕ) (session : List ℕ) (command : Command) (why : LineError) → HasCounted first old read
     → Later old new → new.view.own ≡ old.view.own ++ [] → new.view.leaves ≡ old.view.leaves → KnowsFault why first new
+    → (why ≡ DiskFault → (items : List LogItem) → MayBecome new items → WasRefused (history_of items) first.view.least.durable command)
     → IsStuck first new (record { session = session; command = command }) why
-unplaced_stuck first old new read session command why c commits l own leaves fault =
+unplaced_stuck first old new read session command why c l own leaves fault refused =
     let before = c.later in
     let gains = c.gains in
     record {
-      because = reaches command why commits;
       fault = fault;
       late = None;
       own = own ∙ (append-nil old.view.own ∙ gains.own);
       tx = tt;
       under = tt;
       still = tt;
+      refused = refused;
       slack = omega (arith, before.linked, l.linked, leaves, gains.leaves);
     }

@@ -12,18 +12,22 @@ use Rattle.im_report.specs.Report.{Answered, answer_line}
 use Rattle.im_report.specs.Sessions.{AreAnswered, first_replies, phase_text}
 use Rattle.im_script.specs.declared.commands.Line.{Line}
 use Rattle.im_session.proofs.EachLemmas.{EndsAt, StopFits, each_none, each_of, order_stop, order_texts, texts_of}
+use Rattle.im_session.proofs.FailLemmas.{StopsHere, phase_fails}
 use Rattle.im_session.proofs.OutLemmas.{AreOuts, ToldBy}
-use Rattle.im_session.proofs.PlayLemmas.{WasPlayed, by_name, length_same, matches_of, outcomes_in, same_lines, sum_outs}
+use Rattle.im_session.proofs.PlayLemmas.{WasPlayed, by_name, length_same, matches_of, outcomes_in, own_may, same_lines, sum_outs}
 use Rattle.im_session.proofs.TogetherLemmas.{Each, together_own, together_sum}
 use Rattle.im_session.specs.Dealing.{lines_with}
 use Rattle.im_session.specs.Gathered.{faults_of}
-use Rattle.im_session.specs.Phases.{EndsPhase, KnowsFaults}
+use Rattle.im_session.specs.Lines.{MayBecome}
+use Rattle.im_session.specs.Phases.{EndsPhase, FailsAt, KnowsFaults}
 use Rattle.im_session.specs.Written.{first_texts, stop_in_order, stop_of, texts_in_order, texts_left, why_at, why_of}
 use Rattle.im_session.specs.declared.errors.LineError.{LineError}
 use Rattle.im_session.specs.declared.errors.LineError.TheVariants.{DiskFault, Memory}
 use Rattle.im_session.specs.declared.sessions.Ended.{Ended}
 use Rattle.im_session.specs.declared.sessions.Session.{Session}
+use Rattle.im_table.specs.Histories.{history_of}
 use Rattle.im_table.specs.Known.{KnownPass, TableId}
+use Rattle.im_table.specs.declared.items.LogItem.{LogItem}
 
 -- ---- lines without a reply, counted
 
@@ -63,7 +67,7 @@ why_each [] sessions name = None
 why_each (first ∷ names) [] name = None
 why_each (first ∷ names) (s ∷ sessions) name = if bytes_eq first name then s.why else why_each names sessions name
 
--- the first line of a session without a reply is one for which this is why
+-- there is a why where a line of a session has no reply
 fits_each : (hash : Hash) (table : TableId) (low floor : ℕ) (names : List (List ℕ)) (sessions : List Session) (outs : List (List Outcome)) → AreOuts hash table low floor sessions outs → (name : List ℕ)
     → StopFits (why_each names sessions name) (each_of names outs name)
 fits_each hash table low floor [] sessions outs are name = tt
@@ -105,6 +109,21 @@ known_each hash table low floor n (first ∷ names) (s ∷ sessions) (out ∷ ou
     go true q rest =
         let told : ToldBy (Some DiskFault) s.pass out = subst (λ (w : Option LineError). ToldBy w s.pass out) q are.0.told in
         omega (arith, told.0, most 0 s (omega arith))
+    go false q rest = rest q
+
+-- and its line had to reach the disk
+failed_each : (hash : Hash) (table : TableId) (low floor : ℕ) (items : List LogItem) (names : List (List ℕ)) (sessions : List Session) (outs : List (List Outcome)) → AreOuts hash table low floor sessions outs
+    → All (λ s. MayBecome s.pass items) sessions → (name : List ℕ) → why_each names sessions name ≡ Some DiskFault → StopsHere (history_of items) low (each_of names outs name)
+failed_each hash table low floor items [] sessions outs are may name e = absurd (cc (e))
+failed_each hash table low floor items (first ∷ names) [] outs are may name e = absurd (cc (e))
+failed_each hash table low floor items (first ∷ names) (s ∷ sessions) [] are may name e = absurd are
+failed_each hash table low floor items (first ∷ names) (s ∷ sessions) (out ∷ outs) are may name e =
+    go (bytes_eq first name) e (failed_each hash table low floor items names sessions outs are.1 (λ i d lt. may (suc i) d (omega (arith, lt))) name)
+  where
+    go : (b : Bool) → (if b then s.why else why_each names sessions name) ≡ Some DiskFault
+        → (why_each names sessions name ≡ Some DiskFault → StopsHere (history_of items) low (each_of names outs name))
+        → StopsHere (history_of items) low (if b then out else each_of names outs name)
+    go true q rest = are.0.failed q items (may 0 s (omega arith))
     go false q rest = rest q
 
 -- a name that none of the sessions has
@@ -296,7 +315,7 @@ module _ (hash : Hash) (table : TableId) (links : Bool) (names : List (List ℕ)
       go : (stop : Option ℕ) → EndsAt names whys outcomes stop → EndsPhase outcomes (why_of ended stop)
       go None all = all
       go (Some number) e =
-          subst (EndsPhase outcomes) (sym (by_number number e.0 e.1 ∙ e.3)) (record { line = e.4.0; next = (e.4.1, e.4.2); because = e.4.3 })
+          subst (EndsPhase outcomes) (sym (by_number number e.0 e.1 ∙ e.3)) (record { line = e.4.0; next = (e.4.1, e.4.2) })
 
   -- a session of another name than the one that all lines have left nothing
   none_left : (name other : List ℕ) → All (λ o. o.line.session ≡ name) outcomes → other ≢ name → each other ≡ []
@@ -329,6 +348,7 @@ module _ (hash : Hash) (table : TableId) (links : Bool) (names : List (List ℕ)
   pub phase_knows : KnowsFaults old new outcomes (stop_of order ended)
   phase_knows = record {
     knows = λ is. known (stop_in_order order (texts_left ended)) stops is;
+    failed = λ is items m. let_down (stop_in_order order (texts_left ended)) stops is items m;
     calm = λ some. omega (arith, p.gathered.faults, p.calm, calm_all hash table low floor after p.outs.outs p.outs.are (counted some));
     alone = λ one fine. omega (
       arith,
@@ -342,6 +362,15 @@ module _ (hash : Hash) (table : TableId) (links : Bool) (names : List (List ℕ)
       known None all is = absurd (cc (is))
       known (Some number) e is =
           known_each hash table low floor new.view.least.failed names after p.outs.outs p.outs.are p.gathered.all_failed e.0 (sym (by_number number e.0 e.1) ∙ is)
+
+      let_down : (stop : Option ℕ) → EndsAt names whys outcomes stop → why_of ended stop ≡ Some DiskFault → (items : List LogItem) → MayBecome new items → FailsAt (history_of items) low outcomes
+      let_down None all is items m = absurd (cc (is))
+      let_down (Some number) e is items m =
+          let may = own_may hash table links names lines order before after ended old mid new p items m in
+          let here : StopsHere (history_of items) low (each e.0) =
+          failed_each hash table low floor items names after p.outs.outs p.outs.are may e.0 (sym (by_number number e.0 e.1) ∙ is) in
+          let own : of_session e.0 outcomes ≡ each e.0 = together_own lines each (matches_of hash table links names lines order before after ended old mid new p) e.0 in
+          phase_fails (history_of items) low outcomes e.0 e.4.0 e.4.1 e.4.2 e.4.3 (subst (StopsHere (history_of items) low) (sym own) here)
 
       counted : AreAnswered outcomes → sum_by (sum_by unanswered) p.outs.outs ≡ 0
       counted some =

@@ -1,10 +1,11 @@
 -- What one line does to the pass of its session.
-use Rattle.std.specs.Prelude.{◌≡◌, ◌≤◌, ◌+◌, ◌++◌, ℕ, List, length, take, IsTrue, IfSome, Option, Some, Ok}
+use Rattle.std.specs.Prelude.{◌≡◌, ◌≤◌, ◌+◌, ◌++◌, ℕ, List, length, take, IsTrue, IfNone, IfSome, Option, Some}
 use mathlib.Core.List.{IsPrefix}
 use Rattle.im_digest.specs.Digests.{Hash}
 use Rattle.im_accept.specs.Messages.{IsReadBack}
-use Rattle.im_draft.specs.Drafts.{AreEntries, AreFree}
 use Rattle.im_model.specs.History.{transaction_of, IsHistory}
+use Rattle.im_model.specs.declared.transactions.Transaction.{Transaction}
+use Rattle.im_report.specs.Asking.{MayAsk}
 use Rattle.im_report.specs.Outcomes.{IsLate, IsOver, Rises, number_or_none, number_told}
 use Rattle.im_report.specs.Report.{Answered, IsAnswer, ReadsFrom, floor_by, is_placed}
 use Rattle.im_script.specs.declared.commands.Command.{Command}
@@ -12,12 +13,12 @@ use Rattle.im_script.specs.declared.commands.Command.TheVariants.{Set, Get, Scan
 use Rattle.im_script.specs.declared.commands.Line.{Line}
 use Rattle.im_session.specs.declared.errors.LineError.{LineError}
 use Rattle.im_session.specs.declared.errors.LineError.TheVariants.{DiskFault, Memory}
-use Rattle.im_sqlparse.specs.Statements.{statement_of}
-use Rattle.im_sqlparse.specs.declared.statements.Form.{Form}
-use Rattle.im_sqlparse.specs.declared.statements.Form.TheVariants as form
 use Rattle.im_table.specs.Histories.{history_of}
 use Rattle.im_table.specs.Known.{KnownPass}
 use Rattle.im_table.specs.declared.items.LogItem.{LogItem}
+use Rattle.im_tx.specs.Asked.{Asked}
+use Rattle.im_versions.specs.Admits.{place_refusal}
+use Rattle.im_versions.specs.declared.refusals.PlaceError.{PlaceError}
 
 -- a list that the one list may have grown to, as far as the pass knows
 pub record MayBecome (p : KnownPass) (items : List LogItem) : Type 0 where
@@ -44,49 +45,33 @@ pub record IsStep (hash : Hash) (old new : KnownPass) (a : Answered) : Type 0 wh
       → new.view.least.durable ≡ old.view.least.durable + length (number_told (Some a))
       → floor_by a.line.command a.number old.view.least.linked ≡ new.view.least.linked
 
--- a statement that may ask for something to be written: any but a SELECT
-abbrev pub MayWrite : Form → Type 0
-MayWrite (form.CreateTable c) = Unit {0}
-MayWrite (form.CreateIndex c) = Unit {0}
-MayWrite (form.Upsert s) = Unit {0}
-MayWrite (form.Insert s) = Unit {0}
-MayWrite (form.Delete s) = Unit {0}
-MayWrite (form.Select s) = ⊥
-
--- a `set` or `del` whose drafts are entries of a transaction, none with a key that begins with the octet 00, or the text of a statement that may write: no
--- other line reaches the disk
-abbrev pub IsCommit : Command → Type 0
-IsCommit (Set pres drafts) = AreFree drafts × AreEntries drafts
-IsCommit (Get key at) = ⊥
-IsCommit (Scan prefix at) = ⊥
-IsCommit (History key) = ⊥
-IsCommit (Header k) = ⊥
-IsCommit State = ⊥
-IsCommit (Prove s t) = ⊥
-IsCommit (Advance s t) = ⊥
-IsCommit (Item t i under) = ⊥
-IsCommit (Link count) = ⊥
-IsCommit (Sql text) = (said : Form) × (statement_of text ≡ Ok said) × MayWrite said
-
--- why a line has no reply: the disk fails, or had failed, only at one that reaches it, and memory may run out at any
-abbrev pub IsWhy : LineError → Command → Type 0
-IsWhy DiskFault command = IsCommit command
-IsWhy Memory command = Unit {0}
-
 -- where the disk failed the pass knows of a failure since the store was opened; where memory ran out it told none
 abbrev pub KnowsFault : LineError → KnownPass → KnownPass → Type 0
 KnowsFault DiskFault old new = 1 ≤ new.view.least.failed
 KnowsFault Memory old new = new.view.faults ≡ old.view.faults
 
--- A line has no reply. At most one transaction was placed for it all the same, and then it linked nothing.
+-- A line asks for something to be written, a statement by what it read, no fewer transactions than these; and that was refused behind so many, no fewer than it read.
+pub record WasRefused (history : List Transaction) (low : ℕ) (command : Command) : Type 0 where
+  pub read : ℕ
+  pub asked : Asked
+  pub asks : MayAsk history read command asked
+  pub least : low ≤ read
+  pub at : ℕ
+  pub behind : read ≤ at
+  pub within : at ≤ length history
+  pub why : PlaceError
+  pub refused : place_refusal (take at history) asked.pres ≡ Some why
+
+-- A line has no reply. At most one transaction was placed for it all the same, and then it linked nothing. Where the disk failed and none was placed, what the line
+-- asks for was refused, behind transactions that weren't known to be durable.
 pub record IsStuck (old new : KnownPass) (line : Line) (why : LineError) : Type 0 where
-  pub because : IsWhy why line.command
   pub fault : KnowsFault why old new
   pub late : Option ℕ
   pub own : new.view.own ≡ old.view.own ++ number_or_none late
   pub tx : IfSome late (λ n. (items : List LogItem) → MayBecome new items → IsLate (history_of items) old.view.least.durable old.view.least.linked line.command n)
   pub under : IfSome late (λ n. (items : List LogItem) → MayBecome new items → (transaction_of (history_of items) n).bl ≤ new.view.least.linked)
   pub still : IfSome late (λ n. new.view.leaves ≡ old.view.leaves)
+  pub refused : why ≡ DiskFault → IfNone late ((items : List LogItem) → MayBecome new items → WasRefused (history_of items) old.view.least.durable line.command)
   pub slack : old.view.least.linked + new.view.leaves ≤ new.view.least.linked + old.view.leaves
 
 -- a command that places and links nothing

@@ -1,14 +1,15 @@
 -- What a phase comes to, between two moments of the pass that takes all others in; and what phases come to, one after the other.
-use Rattle.std.specs.Prelude.{◌≡◌, ◌<◌, ◌≤◌, ◌+◌, ℕ, List, [], ◌∷◌, length, drop, map, false, Bool, All, Option, Some, None, slice_index_or}
+use Rattle.std.specs.Prelude.{◌≡◌, ◌<◌, ◌≤◌, ◌+◌, ℕ, List, [], ◌∷◌, length, drop, map, false, Bool, All, Option, Some, None, IfNone, slice_get, slice_index_or}
 use Rattle.std.specs.List.{flat_map, sum_by}
 use mathlib.Core.List.{IsPrefix}
 use Rattle.im_digest.specs.Digests.{Hash}
 use Rattle.im_accept.specs.Taken.{AreReadBack}
-use Rattle.im_report.specs.Outcomes.{Outcome, line_in, numbers_in}
+use Rattle.im_model.specs.declared.transactions.Transaction.{Transaction}
+use Rattle.im_report.specs.Outcomes.{Outcome, highest, line_in, numbers_in, of_session}
 use Rattle.im_report.specs.Report.{floor_after}
 use Rattle.im_report.specs.Sessions.{AreAllButLast, AreAnswered, AreOfOne, ArePhases, IsJustOver, IsPhase, first_replies, floor_reached, floors_of, lines_in, next_floor, next_low, replies_in}
 use Rattle.im_script.specs.declared.commands.Line.{Line}
-use Rattle.im_session.specs.Lines.{IsWhy, MayBecome}
+use Rattle.im_session.specs.Lines.{MayBecome, WasRefused}
 use Rattle.im_session.specs.Runs.{IsDone}
 use Rattle.im_session.specs.declared.errors.LineError.{LineError}
 use Rattle.im_session.specs.declared.errors.LineError.TheVariants.{DiskFault}
@@ -30,20 +31,28 @@ pub record HasGrown (old new : KnownPass) : Type 0 where
   pub linked : old.view.least.linked ≤ new.view.least.linked
   pub failed : old.view.least.failed ≤ new.view.least.failed
 
--- the first line without a reply, in the script's order, and why it has none; each has one where there is no why
-pub record StopsAt (outcomes : List Outcome) (why : LineError) : Type 0 where
+-- there is a first line without a reply, in the script's order
+pub record StopsAt (outcomes : List Outcome) : Type 0 where
   pub line : Line
   pub next : (rest : List Line) × (drop (length (first_replies outcomes)) (map line_in outcomes) ≡ line ∷ rest)
-  pub because : IsWhy why line.command
 
+-- each line has a reply where there is no why
 abbrev pub EndsPhase : List Outcome → Option LineError → Type 0
 EndsPhase outcomes None = AreAnswered outcomes
-EndsPhase outcomes (Some why) = StopsAt outcomes why
+EndsPhase outcomes (Some why) = StopsAt outcomes
 
--- What a pass knows of faults behind a phase, and by why the phase stopped, if it did: of one where the disk failed at the first line without a reply. It told none where
--- all lines were answered; nor where all are of one session, and it wasn't the disk that failed there.
+-- The disk failed at the first line without a reply, in the script's order, of a phase that began behind so many transactions. Where none was placed for the line, what it
+-- asks for was refused: a statement's by what it read, no fewer transactions than its session had been told.
+pub record FailsAt (history : List Transaction) (low : ℕ) (outcomes : List Outcome) : Type 0 where
+  pub first : Outcome
+  pub there : slice_get outcomes (length (first_replies outcomes)) ≡ Some first
+  pub refused : IfNone first.late (WasRefused history (highest low (replies_in (of_session first.line.session outcomes))) first.line.command)
+
+-- What a pass knows of faults behind a phase, and by why the phase stopped, if it did: of one where the disk failed at the first line without a reply, and that line had to
+-- reach the disk. It told none where all lines were answered; nor where all are of one session, and it wasn't the disk that failed there.
 pub record KnowsFaults (old new : KnownPass) (outcomes : List Outcome) (why : Option LineError) : Type 0 where
   pub knows : why ≡ Some DiskFault → 1 ≤ new.view.least.failed
+  pub failed : why ≡ Some DiskFault → (items : List LogItem) → MayBecome new items → FailsAt (history_of items) old.view.least.durable outcomes
   pub calm : AreAnswered outcomes → new.view.faults ≡ old.view.faults
   pub alone : AreOfOne (outcomes ∷ []) → (why ≡ Some DiskFault → ⊥) → new.view.faults ≡ old.view.faults
 

@@ -10,11 +10,12 @@ use Rattle.im_edge.specs.Counts.{Rose}
 use Rattle.im_format.specs.Standing.{Stands, StandsFrom}
 use Rattle.im_model.specs.declared.transactions.Transaction.{Transaction}
 use Rattle.im_report.specs.Outcomes.{Outcome}
-use Rattle.im_report.specs.Sessions.{AreAnswered, AreOfOne, SessionsReport, lines_in, phase_text, phases_text, replies_in}
+use Rattle.im_report.specs.Sessions.{AreAnswered, AreOfOne, SessionsReport, lines_in, next_low, phase_text, phases_text, replies_in}
 use Rattle.im_script.specs.declared.commands.Line.{Line}
 use Rattle.im_seated_journal.specs.Calls.{MakesBatches, StandsPut}
 use Rattle.im_seated_journal.specs.Seats.{RoseBy}
-use Rattle.im_session.specs.Phases.{AreSoFar, IsPlayed, StopsAt}
+use Rattle.im_session.specs.Lines.{MayBecome}
+use Rattle.im_session.specs.Phases.{AreSoFar, FailsAt, IsPlayed, StopsAt}
 use Rattle.im_session.specs.declared.errors.LineError.{LineError}
 use Rattle.im_session.specs.declared.errors.LineError.TheVariants as line
 use Rattle.im_session.specs.declared.serve.Stopped.{Stopped}
@@ -23,6 +24,7 @@ use Rattle.im_sqlmodel.specs.Kept.{IsSqlKept}
 use Rattle.im_store.specs.Names.{Naming}
 use Rattle.im_table.specs.Histories.{history_of}
 use Rattle.im_table.specs.Known.{KnownPass}
+use Rattle.im_table.specs.declared.items.LogItem.{LogItem}
 
 -- a transaction has the clock's time, where the clock tells it
 abbrev pub HasTime : Option ℤ → Transaction → Type 0
@@ -51,7 +53,7 @@ abbrev pub WritesPhase : List Outcome → Option (List ℕ) → Option (List ℕ
 WritesPhase outcomes before now faults_before faults_now (Ok done) =
     AreAnswered outcomes × Appends before now (phase_text outcomes) × (faults_now ≡ faults_before)
 WritesPhase outcomes before now faults_before faults_now (Err (stops.Line why)) =
-    StopsAt outcomes why × Writes (phase_text outcomes) before now faults_before faults_now
+    StopsAt outcomes × Writes (phase_text outcomes) before now faults_before faults_now
 WritesPhase outcomes before now faults_before faults_now (Err stops.Write) =
     AreAnswered outcomes × AddsLess (phase_text outcomes) before now × FailedOnce faults_before faults_now
 
@@ -60,10 +62,17 @@ abbrev pub EndsBy : Option LineError → Result Unit Stopped → Type 0
 EndsBy None end = (why : LineError) → end ≡ Err (stops.Line why) → ⊥
 EndsBy (Some why) end = end ≡ Err (stops.Line why)
 
--- What a pass knows of faults behind phases, by how the script ended there: of one where the disk failed at the line that stopped it. It told none where all lines were
+-- the disk failed in the last of these phases, the first of which began behind so many transactions
+abbrev pub FailsIn : List Transaction → ℕ → List (List Outcome) → Type 0
+FailsIn history low [] = ⊥
+FailsIn history low (outcomes ∷ []) = FailsAt history low outcomes
+FailsIn history low (outcomes ∷ next ∷ phases) = FailsIn history (next_low low outcomes) (next ∷ phases)
+
+-- What a pass knows of faults behind phases, by how the script ended there: of one where the disk failed at the line that stopped it, and that line had to reach the disk. It told none where all lines were
 -- answered; nor where all are of one session, and it wasn't the disk that stopped it.
 pub record TellsFaults (old new : KnownPass) (phases : List (List Outcome)) (end : Result Unit Stopped) : Type 0 where
   pub knows : end ≡ Err (stops.Line line.DiskFault) → 1 ≤ new.view.least.failed
+  pub failed : end ≡ Err (stops.Line line.DiskFault) → (items : List LogItem) → MayBecome new items → FailsIn (history_of items) old.view.least.durable phases
   pub calm : All AreAnswered phases → new.view.faults ≡ old.view.faults
   pub alone : AreOfOne phases → (end ≡ Err (stops.Line line.DiskFault) → ⊥) → new.view.faults ≡ old.view.faults
 
@@ -98,7 +107,8 @@ pub record RunsPhases (hash : Hash) (links : Bool) (old new : KnownPass) (script
 -- the number of each reply; and since the opening's first sync each image of each moment stood for one that holds what was found. Where each line that was run
 -- was answered, each image now stands for the whole history, and so does what reads give, the values put by the rule. The clock was asked
 -- once for each transaction that was placed, in order, and for nothing else. The disk got the calls of batches of these transactions, in order, and no other
--- call that changes it, and has failed at least once where a line tells a fault of it.
+-- call that changes it, and has failed at least once where a line tells a fault of it; and that line asked for something, which was placed, or refused behind what wasn't
+-- durable yet.
 pub record Serves {D : Type 0} (told : D → Option Told) (faults : D → ℕ) (links : Bool) (n : Naming) (script : List (List Line)) (written_before written_now : Option (List ℕ)) (sink_before sink_now : ℕ)
     (disk : D) (constant : Option ℤ) (given : Option (List ℤ)) (end : Result Unit Stopped) : Type 0 where
   pub phases : List (List Outcome)
@@ -122,5 +132,6 @@ pub record Serves {D : Type 0} (told : D → Option Told) (faults : D → ℕ) (
   pub here : ((why : LineError) → end ≡ Err (stops.Line why) → ⊥) → IfSome (told disk) (λ t. StandsPut n.digest n.logs (length n.found) history (seen t))
   pub calls : MakesBatches n.digest n.logs (length n.found) durable history n.synced (told disk)
   pub fault : end ≡ Err (stops.Line line.DiskFault) → RoseBy n.faults (faults disk) 1
+  pub failed : end ≡ Err (stops.Line line.DiskFault) → FailsIn history (length n.found) phases
   pub unharmed : ((why : LineError) → end ≡ Err (stops.Line why) → ⊥) → faults disk ≡ n.faults
   pub unharmed_alone : AreOfOne phases → (end ≡ Err (stops.Line line.DiskFault) → ⊥) → faults disk ≡ n.faults

@@ -1,11 +1,10 @@
 -- No octet that is printed is LF, and the first letters of replies.
-use Rattle.std.proofs.Common.{◌≡◌, ◌≢◌, ◌⊎◌, ◌<◌, ◌≤◌, ℕ, ℤ, pos, negsuc, zero, suc, ◌/◌, ◌%◌, ◌==◌, ◌||◌, not, if◌then◌else◌, nat_lt, List, [], ◌∷◌, ◌++◌, drop, length, get_or, codes, true, false, inl, inr, refl, arith}
-use Rattle.std.proofs.lemmas.Bool.{and_from, and_parts, cond_both, ltb-false, or_parts}
-use Rattle.std.proofs.lemmas.Bool.Decides.{nat_tests}
-use Rattle.std.specs.Fmt.{decimal, digit_glyph, digits, digits_onto, signed_decimal}
+use Rattle.std.proofs.Common.{◌≡◌, ◌≢◌, ◌⊎◌, ℕ, ◌==◌, ◌||◌, not, if◌then◌else◌, nat_lt, List, [], ◌∷◌, ◌++◌, drop, length, codes, true, false, inl, inr, refl}
+use Rattle.std.proofs.lemmas.Bool.{and_from, cond_both, ltb-false, or_parts}
+use Rattle.std.specs.Fmt.{decimal}
 use Rattle.std.specs.List.{flat_map}
 use Rattle.std.specs.Prelude.{⊤}
-use Rattle.hex.specs.Hex.{encode_lower, encode_with, lower_digits}
+use Rattle.hex.specs.Hex.{encode_lower}
 use Rattle.im_text.specs.Cuts.{Lacks}
 use Rattle.im_text.proofs.CutLemmas.{Lacks-append}
 use Rattle.im_sqltype.specs.declared.values.Value.{Value}
@@ -15,47 +14,10 @@ use Rattle.im_sqlparse.specs.declared.errors.SyntaxKind.{SyntaxKind}
 use Rattle.im_sqlparse.specs.declared.errors.SyntaxKind.TheVariants as syntax
 use Rattle.im_sqlmodel.specs.declared.answers.SqlError.{SqlError}
 use Rattle.im_sqlmodel.specs.declared.answers.SqlError.TheVariants as error
+use Rattle.im_sqlreply.proofs.DigitLemmas.{above-lacks, digits-lack, each-lacks, hex-lacks, signed-lacks}
 use Rattle.im_sqlreply.specs.Replies.{error_reply, quoted_octet, rows_reply, shown_behind, shown_row, shown_value, shown_values, syntax_reply, syntax_word}
 
--- ---- numbers
-
-glyph-lacks : (d : ℕ) → d < 10 → not (digit_glyph false d == 10) ≡ true
-glyph-lacks d h = grind (arith, nat_tests)
-
-last-digit : (n : ℕ) → n % 10 < 10
-last-digit n = omega arith
-
-onto-lack : (k n : ℕ) (acc : List ℕ) → Lacks 10 acc → Lacks 10 (digits_onto k 10 false n acc)
-onto-lack zero n acc lack = lack
-onto-lack (suc k) n acc lack =
-    let more : Lacks 10 (digit_glyph false (n % 10) ∷ acc) = and_from _ _ (glyph-lacks (n % 10) (last-digit n)) lack in
-    cond_both (n / 10 == 0) (digit_glyph false (n % 10) ∷ acc) (digits_onto k 10 false (n / 10) (digit_glyph false (n % 10) ∷ acc)) (Lacks 10)
-    (λ e. more) (λ e. onto-lack k (n / 10) (digit_glyph false (n % 10) ∷ acc) more)
-
-pub decimal-lacks : (n : ℕ) → Lacks 10 (decimal n)
-unfolding digits
-decimal-lacks n = onto-lack 64 n [] refl
-
-signed-lacks : (z : ℤ) → Lacks 10 (signed_decimal z)
-signed-lacks (pos n) = decimal-lacks n
-signed-lacks (negsuc n) = decimal-lacks (suc n)
-
-place-lacks : (xs : List ℕ) (k : ℕ) → Lacks 10 xs → not (get_or xs k 0 == 10) ≡ true
-place-lacks [] k lack = refl
-place-lacks (x ∷ xs) zero lack = (and_parts _ _ lack).0
-place-lacks (x ∷ xs) (suc k) lack = place-lacks xs k (and_parts _ _ lack).1
-
-hex-lacks : (octets : List ℕ) → Lacks 10 (encode_lower octets)
-unfolding encode_with
-hex-lacks [] = refl
-hex-lacks (o ∷ octets) =
-    and_from (not (get_or lower_digits (o / 16) 0 == 10)) _ (place-lacks lower_digits (o / 16) refl)
-    (and_from (not (get_or lower_digits (o % 16) 0 == 10)) _ (place-lacks lower_digits (o % 16) refl) (hex-lacks octets))
-
 -- ---- rows
-
-above-lacks : (x : ℕ) → 32 ≤ x → not (x == 10) ≡ true
-above-lacks x h = grind (arith, nat_tests)
 
 octet-lacks : (o : ℕ) → Lacks 10 (quoted_octet o)
 octet-lacks o =
@@ -65,11 +27,6 @@ octet-lacks o =
     (λ e. cond_both (o == 92) (92 ∷ 92 ∷ []) last (Lacks 10) (λ f. refl)
     (λ f. cond_both (nat_lt o 32 || o == 127) hex (o ∷ []) (Lacks 10) (λ g. hex-lacks (o ∷ []))
     (λ g. and_from (not (o == 10)) true (above-lacks o (ltb-false o 32 (or_parts (nat_lt o 32) (o == 127) g).0)) refl)))
-
--- texts behind one another
-each-lacks : {A : Type 0} (f : A → List ℕ) (xs : List A) → ((x : A) → Lacks 10 (f x)) → Lacks 10 (flat_map f xs)
-each-lacks f [] h = refl
-each-lacks f (x ∷ xs) h = Lacks-append 10 (f x) (flat_map f xs) (h x) (each-lacks f xs h)
 
 value-lacks : (v : Value) → Lacks 10 (shown_value v)
 unfolding shown_value
@@ -90,7 +47,7 @@ row-lacks row = Lacks-append 10 (shown_values row) (41 ∷ []) (values-lack row)
 
 pub rows-lack : (rows : List (List Value)) → Lacks 10 (rows_reply rows)
 unfolding rows_reply
-rows-lack rows = Lacks-append 10 (decimal (length rows)) (flat_map shown_row rows) (decimal-lacks (length rows)) (each-lacks shown_row rows row-lacks)
+rows-lack rows = Lacks-append 10 (decimal (length rows)) (flat_map shown_row rows) (digits-lack (length rows)) (each-lacks shown_row rows row-lacks)
 
 -- ---- errors
 
@@ -104,7 +61,7 @@ word-lacks syntax.Deep = refl
 
 -- a number, and a text behind it
 behind-lacks : (n : ℕ) (text : List ℕ) → Lacks 10 text → Lacks 10 (decimal n ++ text)
-behind-lacks n text lack = Lacks-append 10 (decimal n) text (decimal-lacks n) lack
+behind-lacks n text lack = Lacks-append 10 (decimal n) text (digits-lack n) lack
 
 pub syntax-lacks : (fault : SqlSyntax) → Lacks 10 (syntax_reply fault)
 unfolding syntax_reply
@@ -124,7 +81,7 @@ NameLacks other = ⊤
 
 -- two numbers, with a text behind each
 two-lack : (m : ℕ) (text : List ℕ) (n : ℕ) → Lacks 10 text → Lacks 10 (decimal m ++ text ++ decimal n)
-two-lack m text n lack = Lacks-append 10 (decimal m ++ text) (decimal n) (behind-lacks m text lack) (decimal-lacks n)
+two-lack m text n lack = Lacks-append 10 (decimal m ++ text) (decimal n) (behind-lacks m text lack) (digits-lack n)
 
 column-lacks : (row : ℕ) (name : List ℕ) → Lacks 10 name → Lacks 10 (decimal row ++ codes " " ++ name)
 column-lacks row name lack = Lacks-append 10 (decimal row ++ codes " ") name (behind-lacks row (codes " ") refl) lack
@@ -132,7 +89,7 @@ column-lacks row name lack = Lacks-append 10 (decimal row ++ codes " ") name (be
 three-lack : (k m : ℕ) (text : List ℕ) (n : ℕ) → Lacks 10 text → Lacks 10 (decimal k ++ codes " " ++ decimal m ++ text ++ decimal n)
 three-lack k m text n lack =
     Lacks-append 10 (decimal k ++ codes " " ++ decimal m ++ text) (decimal n)
-    (Lacks-append 10 (decimal k ++ codes " " ++ decimal m) text (two-lack k (codes " ") m refl) lack) (decimal-lacks n)
+    (Lacks-append 10 (decimal k ++ codes " " ++ decimal m) text (two-lack k (codes " ") m refl) lack) (digits-lack n)
 
 pub error-lacks : (fault : SqlError) → NameLacks fault → Lacks 10 (error_reply fault)
 unfolding error_reply
@@ -146,13 +103,13 @@ error-lacks (error.Count row want got) name = three-lack row want (codes " ") go
 error-lacks (error.WrongType row column) name = column-lacks row column name
 error-lacks (error.TooLong row column) name = column-lacks row column name
 error-lacks (error.NullGiven row column) name = column-lacks row column name
-error-lacks (error.KeyLong row) name = decimal-lacks row
-error-lacks (error.RowLong row) name = decimal-lacks row
+error-lacks (error.KeyLong row) name = digits-lack row
+error-lacks (error.RowLong row) name = digits-lack row
 error-lacks (error.Duplicate row tx) name = two-lack row (codes " tx ") tx refl
 error-lacks (error.Unique row index tx) name = three-lack row index (codes " tx ") tx refl
-error-lacks (error.TooMany entries) name = decimal-lacks entries
-error-lacks (error.Compare at) name = decimal-lacks at
-error-lacks (error.Beyond n) name = decimal-lacks n
+error-lacks (error.TooMany entries) name = digits-lack entries
+error-lacks (error.Compare at) name = digits-lack at
+error-lacks (error.Beyond n) name = digits-lack n
 
 -- ---- first letters
 

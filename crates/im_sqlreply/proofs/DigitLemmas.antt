@@ -1,14 +1,17 @@
--- The digits of a number.
-use Rattle.std.proofs.Common.{◌≡◌, ◌⊎◌, inl, inr, ◌<◌, ◌≤◌, refl, ℕ, zero, suc, ◌+◌, ◌/◌, ◌%◌, ◌^◌, ◌==◌, Bool, List, [], ◌∷◌, ◌++◌, length, true, false, arith, if◌then◌else◌, sym, ap, subst, ◌∙◌, pow-suc}
-use Rattle.std.specs.Fmt.{decimal, digits, digits_onto, digit_glyph}
-use Rattle.std.specs.List.{list_all}
+-- What stands in printed numbers and hex, and which octets don't.
+use Rattle.std.proofs.Common.{◌≡◌, ◌⊎◌, inl, inr, ◌<◌, ◌≤◌, refl, ℕ, ℤ, pos, negsuc, zero, suc, ◌+◌, ◌/◌, ◌%◌, ◌^◌, ◌==◌, not, Bool, List, [], ◌∷◌, ◌++◌, length, true, false, arith, if◌then◌else◌, sym, ap, subst, ◌∙◌, pow-suc, get_or}
+use Rattle.std.specs.Fmt.{decimal, digits, digits_onto, digit_glyph, signed_decimal}
+use Rattle.std.specs.List.{flat_map, list_all}
 use Rattle.std.specs.Char.{is_ascii_digit}
 use Rattle.std.specs.Str.Parse.{digits_value}
-use Rattle.std.proofs.lemmas.Bool.{and_from, cases_lt, eqb-true}
+use Rattle.std.proofs.lemmas.Bool.{and_from, and_parts, cases_lt, eqb-true}
 use Rattle.std.proofs.lemmas.Bool.Decides.{nat_tests}
 use Rattle.std.proofs.lemmas.Fmt.{decimal_is_IsNumeral_wide, length-decimal-le}
+use Rattle.hex.specs.Hex.{encode_lower, encode_with, lower_digits}
 use Rattle.im_text.specs.Cuts.{Lacks}
-use Rattle.im_text.proofs.CutLemmas.{head-is, Lacks-mark, Lacks-of}
+use Rattle.im_text.proofs.CutLemmas.{head-is, Lacks-append, Lacks-mark, Lacks-of}
+
+-- ---- numbers
 
 glyph-digit : (d : ℕ) → d < 10 → is_ascii_digit (digit_glyph false d) ≡ true
 glyph-digit d h = grind (arith, nat_tests)
@@ -25,7 +28,7 @@ onto-digits (suc k) n acc each =
       | false ↦ onto-digits k (n / 10) (digit_glyph false (n % 10) ∷ acc) more
     ]
 
--- they are decimal digits
+-- a number's are decimal digits
 pub decimal-digits : (n : ℕ) → list_all is_ascii_digit (decimal n) ≡ true
 unfolding digits
 decimal-digits n = onto-digits 64 n [] refl
@@ -67,9 +70,42 @@ decimal-one a b few e = go (cases_lt b (10 ^ 64))
         let same : length (decimal a) ≡ length (decimal b) = ap length e in
         absurd (omega (arith, short, same, decimal-long b long))
 
+-- ---- marks
+
 -- what is behind the last mark
 pub last-cut : (mark : ℕ) (xs ys a b : List ℕ) → Lacks mark a → Lacks mark b → xs ++ mark ∷ a ≡ ys ++ mark ∷ b → a ≡ b
 last-cut mark [] [] a b la lb e = (head-is mark mark a b e).1
 last-cut mark [] (y ∷ ys) a b la lb e = absurd (Lacks-mark mark ys b (subst (Lacks mark) (head-is mark y a (ys ++ mark ∷ b) e).1 la))
 last-cut mark (x ∷ xs) [] a b la lb e = absurd (Lacks-mark mark xs a (subst (Lacks mark) (sym (head-is x mark (xs ++ mark ∷ a) b e).1) lb))
 last-cut mark (x ∷ xs) (y ∷ ys) a b la lb e = last-cut mark xs ys a b la lb (head-is x y (xs ++ mark ∷ a) (ys ++ mark ∷ b) e).1
+
+-- ---- LF stands in none
+
+pub digits-lack : (n : ℕ) → Lacks 10 (decimal n)
+digits-lack n = decimal-lacks 10 n refl
+
+pub signed-lacks : (z : ℤ) → Lacks 10 (signed_decimal z)
+signed-lacks (pos n) = digits-lack n
+signed-lacks (negsuc n) = digits-lack (suc n)
+
+place-lacks : (xs : List ℕ) (k : ℕ) → Lacks 10 xs → not (get_or xs k 0 == 10) ≡ true
+place-lacks [] k lack = refl
+place-lacks (x ∷ xs) zero lack = (and_parts _ _ lack).0
+place-lacks (x ∷ xs) (suc k) lack = place-lacks xs k (and_parts _ _ lack).1
+
+-- hex digits
+pub hex-lacks : (octets : List ℕ) → Lacks 10 (encode_lower octets)
+unfolding encode_with
+hex-lacks [] = refl
+hex-lacks (o ∷ octets) =
+    and_from (not (get_or lower_digits (o / 16) 0 == 10)) _ (place-lacks lower_digits (o / 16) refl)
+    (and_from (not (get_or lower_digits (o % 16) 0 == 10)) _ (place-lacks lower_digits (o % 16) refl) (hex-lacks octets))
+
+-- an octet that isn't a control
+pub above-lacks : (x : ℕ) → 32 ≤ x → not (x == 10) ≡ true
+above-lacks x h = grind (arith, nat_tests)
+
+-- texts behind one another
+pub each-lacks : {A : Type 0} (f : A → List ℕ) (xs : List A) → ((x : A) → Lacks 10 (f x)) → Lacks 10 (flat_map f xs)
+each-lacks f [] h = refl
+each-lacks f (x ∷ xs) h = Lacks-append 10 (f x) (flat_map f xs) (h x) (each-lacks f xs h)
