@@ -9,6 +9,8 @@ use Rattle.im_sqlmodel.specs.declared.answers.KeptError.TheVariants as judged
 use Rattle.im_session.specs.declared.errors.LineError.TheVariants as line
 use Rattle.im_session.specs.declared.serve.Stopped.{Stopped}
 use Rattle.im_session.specs.declared.serve.Stopped.TheVariants as stops
+use Rattle.im_verify.specs.declared.ended.Ended.{Ended}
+use Rattle.im_verify.specs.declared.ended.Ended.TheVariants as ended
 use Rattle.im_app.specs.Damages.{damage_words}
 use Rattle.im_app.specs.declared.status.Status.{Status}
 use Rattle.im_app.specs.declared.status.Status.TheVariants.{Ok, Usage, Script, ReadFault, WriteFault, DiskFault, Damaged, KeeperFault, Refused, Forked, Memory, Long, Kept, SqlKept}
@@ -200,3 +202,15 @@ EndsGiven Memory = ⊥
 EndsGiven Long = ⊥
 EndsGiven (Kept line) = ⊥
 EndsGiven (SqlKept tx) = Unit {0}
+
+-- the status of an end of `verify`
+abbrev pub status_ended : Ended → Status
+status_ended ended.Ok = Ok
+status_ended ended.Refused = Refused
+status_ended ended.Forked = Forked
+status_ended ended.ReadFault = ReadFault
+status_ended ended.WriteFault = WriteFault
+status_ended ended.KeeperFault = KeeperFault
+status_ended ended.Memory = Memory
+status_ended ended.Long = Long
+status_ended (ended.Kept line) = Kept line

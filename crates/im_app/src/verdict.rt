@@ -5,7 +5,7 @@ ghost use Rattle.im_verify.specs.Judged.{StopsHeld};
 ghost use Rattle.im_verify.specs.Runs.{BreaksAt, BreaksInto, BreaksOff, Verifies};
 ghost use Rattle.im_verify.specs.declared.ended.Ended.TheVariants as ended;
 ghost use Rattle.im_app.specs.Fates.{HasVerdict};
-ghost use Rattle.im_app.specs.Statuses.{EndsVerify};
+ghost use Rattle.im_app.specs.Statuses.{EndsVerify, status_ended};
 
 use crate::status::Status;
 use im_digest::Hash32;
@@ -63,7 +63,15 @@ pub(crate) fn verdict<H: Hash32, S: Source, K: Sink, P: Keeper>(
         → (Rose (P.faults keeper.old) (P.faults keeper.new) → ⊥)
         → IfSome (S.left source.old) (λ stream. IfSome (P.kept keeper.old) (HasVerdict (H.digest hash.now) result stream)) }
 {
-    match verify(alloc, hash, source, sink, keeper) {
+    let ended = verify(alloc, hash, source, sink, keeper);
+    status_of(ended)
+}
+
+// The status of an end.
+fn status_of(ended: Ended) -> Status
+    ensures { result ≡ status_ended ended }
+{
+    match ended {
         Ended::Ok => Status::Ok,
         Ended::Refused => Status::Refused,
         Ended::Forked => Status::Forked,

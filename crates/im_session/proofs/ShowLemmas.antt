@@ -41,6 +41,11 @@ pub short_unanswered : (old new : KnownPass) (command : Command) (given : Result
     → IfErr given (λ why. IsUnanswered old new command why)
 short_unanswered old new command given short l g = if-err (λ why. IsUnanswered old new command why) given Memory short (shown_unanswered old new command l g)
 
+-- the same behind two calls
+pub short_behind : (old mid new : KnownPass) (command : Command) (given : Result Answer LineError) → IsErrAnd given (λ why. why ≡ Memory)
+    → Later old mid → Later mid new → Gains [] 0 0 old mid → Gains [] 0 0 mid new → IfErr given (λ why. IsUnanswered old new command why)
+short_behind old mid new command given short l m g k = short_unanswered old new command given short (later_both old mid new l m) (gains_before 0 0 old mid new g k)
+
 -- what is shown at a number that was durable as the line loaded it first
 pub shown_answered : (hash : Hash) (old mid new : KnownPass) (command : Command) (answer : Answer) → Later old mid → Later mid new → Gains [] 0 0 old mid → Gains [] 0 0 mid new
     → mid.view.least.durable ≡ answer.number → old.view.least.durable ≤ answer.number → ((n f : ℕ) → floor_by command n f ≡ f) → tells_tx answer.reply.items answer.number ≡ false

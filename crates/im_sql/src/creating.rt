@@ -1,17 +1,19 @@
 //! CREATE TABLE and CREATE INDEX.
 
-ghost use Rattle.std.specs.Prelude.{◌≡◌, ◌≤◌, ◌<◌, ◌-◌, ◌^◌, ◌⊎◌, List, length, take, map, not, nat_eq, All, IfOk};
+ghost use Rattle.std.specs.Prelude.{◌≡◌, ◌≤◌, ◌<◌, ◌-◌, ◌^◌, ◌⊎◌, ◌∷◌, [], List, length, take, map, not, nat_eq, All, IfOk};
 ghost use Rattle.std.specs.Option.{option_or};
 ghost use Rattle.im_model.specs.History.{IsHistory};
 ghost use Rattle.im_model.specs.declared.transactions.Transaction.{Transaction};
 ghost use Rattle.im_sqlparse.specs.Formed.{IsCreateTable, IsCreateIndex, IsDeclared, IsDefinition};
 ghost use Rattle.im_sqlmodel.specs.Creations as spec;
 ghost use Rattle.im_sqlmodel.specs.Kept.{IsSqlKept, IsTableOf};
+ghost use Rattle.im_sqlmodel.specs.Keys as keys;
 ghost use Rattle.im_sqlmodel.specs.Rows.{RowsAre};
 ghost use Rattle.im_sqlmodel.specs.Tables as tables;
 ghost use Rattle.im_sqlmodel.specs.declared.answers.SqlError.TheVariants as error;
+ghost use Rattle.im_sqlmodel.specs.declared.answers.SqlOut.TheVariants as out;
 ghost use Rattle.im_sqlmodel.specs.declared.rows.StoredRow.{StoredRow as TheStoredRow};
-ghost use Rattle.im_sql.specs.Writing.{table_entries};
+ghost use Rattle.im_sql.specs.Writing.{Answers, table_entries};
 
 use crate::names::{column_fault, column_names, names_in, names_of, place_of, twice_fault};
 use crate::placing::{ask_since, two_keys};
@@ -247,10 +249,20 @@ fn create_index_of<V: KvView>(
         columns: numbers_of(alloc, columns.as_slice(), create.columns.as_slice())?,
     };
     drop(others);
+    let answer = ask_index(alloc, table, &index, n);
+    drop(index);
+    answer
+}
+
+// Asks for an index of the table.
+fn ask_index(alloc: Global, table: &Table, index: &SqlIndex, n: u64) -> Result<SqlOut, SqlError>
+    requires table { tables.IsTable table.now }
+    requires index { tables.IsTableIndex table.now index.now }
+    ensures { Answers result (Ok (out.Write (spec.asked_since n (spec.index_written table.now index.now) (keys.index_key table.now.tid index.now.iid ∷ keys.mark_key table.now.tid ∷ [])))) }
+{
     let key = index_key(alloc, table.tid, index.iid)?;
     let mark = mark_key(alloc, table.tid)?;
-    let written = index_written(alloc, table, &index)?;
-    drop(index);
+    let written = index_written(alloc, table, index)?;
     let keys = two_keys(alloc, key, mark)?;
     ask_since(alloc, n, written, keys)
 }

@@ -1,4 +1,5 @@
 pub mod AgainLemmas
+pub mod EndedLemmas
 pub mod FateLemmas
 pub mod FoldLemmas
 pub mod ForkLemmas

@@ -4,6 +4,7 @@ ghost use Rattle.im_edge.specs.Sources.{TakesAtMost};
 ghost use Rattle.im_verify.specs.Ends.{HasFate};
 ghost use Rattle.im_verify.specs.Judged.{StopsHeld};
 ghost use Rattle.im_verify.specs.Runs.{BreaksAt, BreaksInto, BreaksOff, Verifies};
+ghost use Rattle.im_verify.specs.Stops.{ended_by};
 
 use crate::ended::Ended;
 use crate::kept::{KeptError, take_kept};
@@ -53,7 +54,16 @@ fn verify_behind<H: Hash32, K: Sink, P: Keeper>(
         Err(KeptError::Memory) => return Ended::Memory,
         Err(KeptError::Line(line)) => return Ended::Kept { line },
     };
-    match take_lines(alloc, &mut client, sink, keeper, stream) {
+    let took = take_lines(alloc, &mut client, sink, keeper, stream);
+    drop(client);
+    ended_by(took)
+}
+
+// How a run ends whose stream's lines were taken so.
+fn ended_by(took: Result<LineEnd, Stop>) -> Ended
+    ensures { result ≡ ended_by took }
+{
+    match took {
         Ok(LineEnd::Fine) => Ended::Ok,
         Ok(LineEnd::Refused) => Ended::Refused,
         Ok(LineEnd::Forked) => Ended::Forked,

@@ -4,7 +4,7 @@ use Rattle.im_draft.specs.Drafts.{AreFree, IsReserved}
 use Rattle.im_draft.specs.declared.drafts.Draft.{Draft}
 use Rattle.im_draft.specs.declared.preconditions.Pre.{Pre}
 use Rattle.im_script.specs.declared.commands.Command.TheVariants.{Set}
-use Rattle.im_session.proofs.ShowLemmas.{unasked_answered}
+use Rattle.im_session.proofs.ShowLemmas.{short_unanswered, unasked_answered}
 use Rattle.im_session.specs.Answered.{IsAnswered, IsUnanswered}
 use Rattle.im_session.proofs.commits.answer_set.Goals as goal
 
@@ -44,3 +44,10 @@ returns-in_ok-reply-in-Err-clause-ok g c =
       | inr refuses ↦ unasked_answered g.N.TipName.digest c.args.pass.now c.tip-number-in-Err.new.pass c.args.pres c.args.drafts.items (record { number = c.tip-number-in-Err.result; reply = done.reply })
           t.later t.gains t.durable.1 t.durable.2 (inr (free, (c.in-Err.why, refuses, done.ensures.text)))
     ]
+
+-- memory ran out
+pub returns-in_err-reply-clause-err : goal.returns-in_err-reply-clause-err
+returns-in_err-reply-clause-err g c = short_unanswered c.args.pass.now c.tip-number.new.pass (Set c.args.pres c.args.drafts.items) c.from_residual.result c.from_residual.ensures.1 c.tip-number.ensures.later c.tip-number.ensures.gains
+
+pub returns-in_err-reply-in-Err-clause-err : goal.returns-in_err-reply-in-Err-clause-err
+returns-in_err-reply-in-Err-clause-err g c = short_unanswered c.args.pass.now c.tip-number-in-Err.new.pass (Set c.args.pres c.args.drafts.items) c.from_residual-in_err-reply-in-Err.result c.from_residual-in_err-reply-in-Err.ensures.1 c.tip-number-in-Err.ensures.later c.tip-number-in-Err.ensures.gains

@@ -8,6 +8,8 @@ use Rattle.im_session.proofs.RefusedLemmas.{header_short}
 use Rattle.im_store.proofs.GainLemmas.{gains_same, later_self}
 use Rattle.im_store.specs.Reading.{AnswersHeader}
 use Rattle.im_table.proofs.PassLemmas.{later_both}
+use Rattle.im_script.specs.declared.commands.Command.TheVariants as says
+use Rattle.im_session.proofs.ShowLemmas.{short_behind, short_unanswered}
 use Rattle.im_session.proofs.proofs.answer_header.Goals as goal
 
 -- there is no header 0
@@ -41,3 +43,26 @@ returns-clause-ok g c =
     header_told g.N.TipName.digest c.args.pass.now c.tip-number.new.pass c.header.new.pass c.args.k (record { number = c.tip-number.result; reply = c.in_ok-reply-3.reply }) header
     (looked c.args.pass.now c.tip-number.new.pass c.header.new.pass c.tip-number.result t.later t.gains t.durable c.header.ensures.later c.header.ensures.gains) (omega arith) (omega arith) told
     (c.in_ok-reply-3.ensures g.N.TipName.digest (c.alh.ensures ∙ ap (λ (x : Hash). alh x header) c.hash.ensures))
+
+-- memory ran out
+pub returns-in_err-reply-clause-err : goal.returns-in_err-reply-clause-err
+returns-in_err-reply-clause-err g c = short_unanswered c.args.pass.now c.tip-number.new.pass (says.Header c.args.k) c.from_residual.result c.from_residual.ensures.1 c.tip-number.ensures.later c.tip-number.ensures.gains
+
+pub returns-in_err-reply-2-clause-err : goal.returns-in_err-reply-2-clause-err
+returns-in_err-reply-2-clause-err g c = short_unanswered c.args.pass.now c.tip-number.new.pass (says.Header c.args.k) c.from_residual-in_err-reply-2.result c.from_residual-in_err-reply-2.ensures.1 c.tip-number.ensures.later c.tip-number.ensures.gains
+
+pub returns-in_err-header-clause-later : goal.returns-in_err-header-clause-later
+returns-in_err-header-clause-later g c = later_both c.args.pass.now c.tip-number.new.pass c.header.new.pass c.tip-number.ensures.later c.header.ensures.later
+
+pub returns-in_err-header-clause-err : goal.returns-in_err-header-clause-err
+returns-in_err-header-clause-err g c =
+    let t = c.tip-number.ensures in
+    short_behind c.args.pass.now c.tip-number.new.pass c.header.new.pass (says.Header c.args.k) c.from_residual-in_err-header.result c.from_residual-in_err-header.ensures.1 t.later c.header.ensures.later t.gains c.header.ensures.gains
+
+pub returns-in_err-reply-3-clause-later : goal.returns-in_err-reply-3-clause-later
+returns-in_err-reply-3-clause-later g c = later_both c.args.pass.now c.tip-number.new.pass c.header.new.pass c.tip-number.ensures.later c.header.ensures.later
+
+pub returns-in_err-reply-3-clause-err : goal.returns-in_err-reply-3-clause-err
+returns-in_err-reply-3-clause-err g c =
+    let t = c.tip-number.ensures in
+    short_behind c.args.pass.now c.tip-number.new.pass c.header.new.pass (says.Header c.args.k) c.from_residual-in_err-reply-3.result c.from_residual-in_err-reply-3.ensures.1 t.later c.header.ensures.later t.gains c.header.ensures.gains

@@ -1,10 +1,17 @@
 use Rattle.std.proofs.Common.{List, ℕ, ◌≡◌, take, subst, arith, Result, Ok}
 use Rattle.std.proofs.lemmas.Result.{IfErr-weaker, IfOk-weaker}
-use Rattle.im_session.proofs.ReadLemmas.{keys_length}
-use Rattle.im_session.proofs.StatementLemmas.{counted_on, read_history, read_kept, run_asks, run_said, seen_later, shown_answered, shown_other}
+use Rattle.im_octet.proofs.Common.{if-err}
+use Rattle.im_script.specs.declared.commands.Command.TheVariants.{Sql}
+use Rattle.im_session.proofs.ReadLemmas.{keys_length, later_thrice}
+use Rattle.im_session.proofs.StatementLemmas.{counted_on, counted_unanswered, read_history, read_kept, run_asks, run_said, seen_later, shown_answered, shown_other}
+use Rattle.im_session.specs.Answered.{IsUnanswered}
+use Rattle.im_session.specs.Statements.{HasCounted}
+use Rattle.im_session.specs.declared.errors.LineError.{LineError}
+use Rattle.im_session.specs.declared.errors.LineError.TheVariants.{Memory}
 use Rattle.im_sqlmodel.specs.declared.answers.SqlError.{SqlError}
 use Rattle.im_sqlmodel.specs.declared.answers.SqlOut.{SqlOut}
 use Rattle.im_sqlmodel.specs.declared.answers.SqlOut.TheVariants as out
+use Rattle.im_sqlparse.specs.Statements.{statement_of}
 use Rattle.im_sqlreply.specs.Shown.{IsShown}
 use Rattle.im_store.proofs.GainLemmas.{gains_before}
 use Rattle.im_table.proofs.PassLemmas.{later_both}
@@ -97,3 +104,22 @@ returns-in_ok-reply-in_default-clause-ok g c first text counted is =
     let gains = gains_before 0 0 old read shown c.keys_at.ensures.gains c.show.ensures.gains in
     shown_answered g.N.TipName.digest first old shown text c.args.stmt.now c.run-answer.result (record { number = n; reply = c.in_ok-reply-in_default.reply }) counted later gains is
     (seen_later read shown n c.show.ensures.later keys.seen) said told
+
+-- memory ran out
+pub returns-in_err-keys-clause-err : goal.returns-in_err-keys-clause-err
+returns-in_err-keys-clause-err g c =
+    let n : ℕ = c.args.number in
+    let read : KnownPass = c.keys_at.new.pass in
+    if-err (λ (why : LineError). (first : KnownPass) (text : List ℕ) → HasCounted first c.args.pass.now n → statement_of text ≡ Ok c.args.stmt.now → IsUnanswered first read (Sql text) why)
+    c.from_residual.result Memory c.from_residual.ensures.1
+    (λ first text counted said. counted_unanswered first c.args.pass.now read n text counted c.keys_at.ensures.later c.keys_at.ensures.gains)
+
+pub returns-in_ok-reply-in_default-clause-later : goal.returns-in_ok-reply-in_default-clause-later
+returns-in_ok-reply-in_default-clause-later g c = later_both c.args.pass.now c.keys_at.new.pass c.show.new.pass c.keys_at.ensures.later c.show.ensures.later
+
+pub returns-in_err-reply-in_default-clause-later : goal.returns-in_err-reply-in_default-clause-later
+returns-in_err-reply-in_default-clause-later g c = later_both c.args.pass.now c.keys_at.new.pass c.show.new.pass c.keys_at.ensures.later c.show.ensures.later
+
+pub returns-in-Ok-Write-clause-later : goal.returns-in-Ok-Write-clause-later
+returns-in-Ok-Write-clause-later g c =
+    later_thrice c.args.pass.now c.keys_at.new.pass c.show.new.pass c.commit_read.new.pass c.keys_at.ensures.later c.show.ensures.later c.commit_read.ensures.later

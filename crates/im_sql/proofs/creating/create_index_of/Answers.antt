@@ -2,18 +2,17 @@ use Rattle.std.proofs.Common.{◌∷◌, ◌+◌, ◌-◌, ◌<◌, ◌^◌, Bor
 use Rattle.std.specs.Option.{option_or}
 use Rattle.std.proofs.lemmas.List.{length-take-le}
 use Rattle.im_sqlmodel.specs.Creations.{column_fault, twice_fault, index_made, index_written}
-use Rattle.im_sqlmodel.specs.Keys.{index_key}
+use Rattle.im_sqlmodel.specs.Keys.{index_key, mark_key}
 use Rattle.im_sqlmodel.specs.Tables.{IsTableIndex}
 use Rattle.im_sqlmodel.specs.declared.answers.SqlError.{SqlError}
 use Rattle.im_sqlmodel.specs.declared.answers.SqlError.TheVariants as error
+use Rattle.im_sqlmodel.specs.declared.tables.SqlIndex.{SqlIndex}
 use Rattle.im_sqlmodel.proofs.KeptLemmas.{kept-sound}
 use Rattle.im_catalog.proofs.HistoryLemmas.{history-taken}
 use Rattle.im_catalog.proofs.ThereLemmas.{rows-are, indexes-are}
-use Rattle.im_sql.specs.Writing.{MayBePlaced}
 use Rattle.im_sql.proofs.AnswerLemmas.{Answer, index-fault, index-told, index-rows, index-asked, or-told}
 use Rattle.im_sql.proofs.CountLemmas.{indexes-few}
 use Rattle.im_sql.proofs.CreateLemmas.{index-made, index-is}
-use Rattle.im_sql.proofs.ShortLemmas.{index-placed}
 use Rattle.im_sql.proofs.creating.create_index_of.Goals as goal
 
 -- what is wrong with the columns of a new index
@@ -46,8 +45,11 @@ overflow_add-index g c =
     let few : length c.in_ok-others.others < 2 ^ 32 - 1 = indexes-few h c.args.table.now c.in_ok-others.others (history-taken c.args.n r.0 r.2 r.3) (c.in_ok-others.ensures r.0 r.1 r.2 (kept-sound h r.4) r.5) in
     omega (arith, few, c.len.ensures)
 
-pub index_written-requires-clause-index : goal.index_written-requires-clause-index
-index_written-requires-clause-index g c =
+pub ask_index-answer-requires-clause-table : goal.ask_index-answer-requires-clause-table
+ask_index-answer-requires-clause-table g c = c.requires.view.5.0
+
+pub ask_index-answer-requires-clause-index : goal.ask_index-answer-requires-clause-index
+ask_index-answer-requires-clause-index g c =
     let r = c.requires.view in
     let h = take c.args.n r.0 in
     let t = c.args.table.now in
@@ -58,19 +60,6 @@ index_written-requires-clause-index g c =
     let none = sym c.in_default.is ∙ c.in_ok-fault.ensures ∙ ap₂ fault_of names c.as_slice-2.ensures in
     subst (IsTableIndex t) (sym (index-is c.len.result t c.args.create.now (lent c.as_slice-3.result.now) c.as_slice-4.result.now c.in_ok-numbers_of.field-0 own c.as_slice-4.ensures c.in_ok-numbers_of.ensures))
     (index-made c.len.result t c.args.create.now low c.requires.formed (sym none))
-
-pub ask_since-requires : goal.ask_since-requires
-ask_since-requires g c =
-    let r = c.requires.view in
-    let h = take c.args.n r.0 in
-    let t = c.args.table.now in
-    let few : length c.in_ok-others.others < 2 ^ 32 - 1 = indexes-few h t c.in_ok-others.others (history-taken c.args.n r.0 r.2 r.3) (c.in_ok-others.ensures r.0 r.1 r.2 (kept-sound h r.4) r.5) in
-    let low : c.len.result < 2 ^ 32 - 1 = omega (arith, few, c.len.ensures) in
-    let names = ap lent c.as_slice.ensures.value ∙ c.in_ok-columns.ensures in
-    let own = ap lent c.as_slice-3.ensures.value ∙ c.in_ok-columns.ensures in
-    let none = sym c.in_default.is ∙ c.in_ok-fault.ensures ∙ ap₂ fault_of names c.as_slice-2.ensures in
-    let made = index-is c.len.result t c.args.create.now (lent c.as_slice-3.result.now) c.as_slice-4.result.now c.in_ok-numbers_of.field-0 own c.as_slice-4.ensures c.in_ok-numbers_of.ensures in
-    subst MayBePlaced (sym (c.in_ok-written.ensures ∙ ap (index_written t) made)) (index-placed t _ r.5.0 (index-made c.len.result t c.args.create.now low c.requires.formed (sym none)))
 
 pub returns-in-Some : goal.returns-in-Some
 returns-in-Some g c = λ history stands few is kept of.
@@ -98,13 +87,15 @@ returns g c = λ history stands few is kept of.
     let sound = kept-sound h kept in
     let rows = rows-are h t sound of in
     let others = c.in_ok-others.others in
+    let numbers = c.in_ok-numbers_of.field-0 in
     let names = ap lent c.as_slice.ensures.value ∙ c.in_ok-columns.ensures in
     let own = ap lent c.as_slice-3.ensures.value ∙ c.in_ok-columns.ensures in
     let none = sym c.in_default.is ∙ c.in_ok-fault.ensures ∙ ap₂ fault_of names c.as_slice-2.ensures in
-    let made = index-is c.len.result t create (lent c.as_slice-3.result.now) c.as_slice-4.result.now c.in_ok-numbers_of.field-0 own c.as_slice-4.ensures c.in_ok-numbers_of.ensures in
-    or-told h create t rows.0 others c.ask_since.result none rows.1 (c.in_ok-others.ensures history stands few sound of)
-    (index-asked h create t (length others) c.args.n rows.0 c.in_ok-written.written.items c.in_ok-keys.keys.items c.ask_since.result
+    let index : SqlIndex = record { iid = c.len.result + 1; unique = create.unique; columns = numbers } in
+    let made = index-is c.len.result t create (lent c.as_slice-3.result.now) c.as_slice-4.result.now numbers own c.as_slice-4.ensures c.in_ok-numbers_of.ensures in
+    or-told h create t rows.0 others c.ask_index-answer.result none rows.1 (c.in_ok-others.ensures history stands few sound of)
+    (index-asked h create t (length others) c.args.n rows.0 (index_written t index) (index_key t.tid index.iid ∷ mark_key t.tid ∷ []) c.ask_index-answer.result
     (sym c.if-branch.false ∙ c.in_ok-has_rows.ensures history stands few rows.0 rows.1) (length-take-le c.args.n history few)
-    (c.in_ok-written.ensures ∙ ap (index_written t) made ∙ ap (λ (k : ℕ). index_written t (index_made k t create)) c.len.ensures)
-    (c.in_ok-keys.ensures ∙ ap₂ (λ (first second : List ℕ). first ∷ second ∷ []) (c.in_ok-key.ensures ∙ ap (λ (k : ℕ). index_key t.tid (k + 1)) c.len.ensures) c.in_ok-mark.ensures)
-    c.ask_since.ensures)
+    (ap (index_written t) made ∙ ap (λ (k : ℕ). index_written t (index_made k t create)) c.len.ensures)
+    (ap (λ (k : ℕ). index_key t.tid (k + 1) ∷ mark_key t.tid ∷ []) c.len.ensures)
+    c.ask_index-answer.ensures)
