@@ -1,15 +1,63 @@
-/* Lists of a hash tree (RFC 6962, section 2.1), made plainly of the stored digests of its whole subtrees: what
-   tools/bench-proofs times the program beside.
+/* Dual proofs of a history of headers and its hash tree (RFC 6962, section 2.1), made plainly of the stored digests of the
+   tree's whole subtrees: what tools/bench-proofs times the program beside.
 
-   plain_tree paths N COUNT    the paths of leaves 1 to COUNT in the tree of N leaves
-   plain_tree duals N          for each line `s t` of the standard input: the path of s in the tree of t - 1 leaves, the
-                               consistency list from s - 1 leaves to t - 1, and the path of leaf t - 1 there
+   plain_tree paths N COUNT    the proof from transaction COUNT + 1 to N + 1, where no transaction was linked before the last, whose tree
+                               has the first N: its advance holds the paths of leaves 1 to COUNT
+   plain_tree duals N          for each line `s t` of the standard input: the proof from s to t, where the tree of each transaction has
+                               all before it
 
-   Lists are written in hex, a line each. The standard error gets the processor seconds that building and listing took. */
-#include "sha256.h"
+   A proof is written as the program writes it: the same members under the same names, digests in hex. It does the work of such a
+   proof, which hashes the inner digests of the linear terms; what it proves is nothing, since the headers' digests are made up. The
+   standard error gets the processor seconds that building and writing took. */
+#include <stdint.h>
 #include <stdio.h>
 #include <stdlib.h>
+#include <string.h>
 #include <time.h>
+
+typedef struct { uint8_t b[32]; } D;
+
+static const uint32_t K[64] = {
+    0x428a2f98, 0x71374491, 0xb5c0fbcf, 0xe9b5dba5, 0x3956c25b, 0x59f111f1, 0x923f82a4, 0xab1c5ed5, 0xd807aa98, 0x12835b01, 0x243185be,
+    0x550c7dc3, 0x72be5d74, 0x80deb1fe, 0x9bdc06a7, 0xc19bf174, 0xe49b69c1, 0xefbe4786, 0x0fc19dc6, 0x240ca1cc, 0x2de92c6f, 0x4a7484aa,
+    0x5cb0a9dc, 0x76f988da, 0x983e5152, 0xa831c66d, 0xb00327c8, 0xbf597fc7, 0xc6e00bf3, 0xd5a79147, 0x06ca6351, 0x14292967, 0x27b70a85,
+    0x2e1b2138, 0x4d2c6dfc, 0x53380d13, 0x650a7354, 0x766a0abb, 0x81c2c92e, 0x92722c85, 0xa2bfe8a1, 0xa81a664b, 0xc24b8b70, 0xc76c51a3,
+    0xd192e819, 0xd6990624, 0xf40e3585, 0x106aa070, 0x19a4c116, 0x1e376c08, 0x2748774c, 0x34b0bcb5, 0x391c0cb3, 0x4ed8aa4a, 0x5b9cca4f,
+    0x682e6ff3, 0x748f82ee, 0x78a5636f, 0x84c87814, 0x8cc70208, 0x90befffa, 0xa4506ceb, 0xbef9a3f7, 0xc67178f2};
+
+static uint32_t turn(uint32_t x, int n) { return x >> n | x << (32 - n); }
+
+/* SHA-256 of at most 119 octets. */
+static D sha256(const uint8_t *text, size_t len) {
+    uint32_t h[8] = {0x6a09e667, 0xbb67ae85, 0x3c6ef372, 0xa54ff53a, 0x510e527f, 0x9b05688c, 0x1f83d9ab, 0x5be0cd19};
+    uint8_t block[128] = {0};
+    size_t all = len < 56 ? 64 : 128;
+    memcpy(block, text, len);
+    block[len] = 0x80;
+    block[all - 2] = (uint8_t)(len * 8 >> 8);
+    block[all - 1] = (uint8_t)(len * 8);
+    for (size_t at = 0; at < all; at += 64) {
+        uint32_t w[64];
+        for (int i = 0; i < 16; i++) {
+            const uint8_t *p = block + at + 4 * i;
+            w[i] = (uint32_t)p[0] << 24 | (uint32_t)p[1] << 16 | (uint32_t)p[2] << 8 | p[3];
+        }
+        for (int i = 16; i < 64; i++) {
+            uint32_t a = w[i - 15], b = w[i - 2];
+            w[i] = w[i - 16] + (turn(a, 7) ^ turn(a, 18) ^ a >> 3) + w[i - 7] + (turn(b, 17) ^ turn(b, 19) ^ b >> 10);
+        }
+        uint32_t a = h[0], b = h[1], c = h[2], d = h[3], e = h[4], f = h[5], g = h[6], last = h[7];
+        for (int i = 0; i < 64; i++) {
+            uint32_t x = last + (turn(e, 6) ^ turn(e, 11) ^ turn(e, 25)) + ((e & f) ^ (~e & g)) + K[i] + w[i];
+            uint32_t y = (turn(a, 2) ^ turn(a, 13) ^ turn(a, 22)) + ((a & b) ^ (a & c) ^ (b & c));
+            last = g, g = f, f = e, e = d + x, d = c, c = b, b = a, a = x + y;
+        }
+        h[0] += a, h[1] += b, h[2] += c, h[3] += d, h[4] += e, h[5] += f, h[6] += g, h[7] += last;
+    }
+    D out;
+    for (int i = 0; i < 32; i++) out.b[i] = (uint8_t)(h[i / 4] >> (24 - 8 * (i % 4)));
+    return out;
+}
 
 static D leaf(const D *a) {
     uint8_t text[33] = {0};
@@ -69,18 +117,130 @@ static int down(size_t n, size_t i, int list, D *terms) {
     return count;
 }
 
-static void show(size_t n, size_t i, int list) {
-    static const char digits[] = "0123456789abcdef";
-    D terms[130];
-    char text[130 * 65 + 1], *to = text;
-    for (int count = down(n, i, list, terms); count-- > 0;) {
-        for (int k = 0; k < 32; k++) {
-            *to++ = digits[terms[count].b[k] >> 4];
-            *to++ = digits[terms[count].b[k] & 15];
-        }
-        *to++ = ' ';
+typedef struct { uint64_t id, bl_tx_id, ts; D bl_root, prev_alh, eh; uint32_t nentries; } Header;
+
+static Header *headers;
+
+/* The headers of transactions 1 to n. */
+static void head(size_t n, int linked) {
+    headers = calloc(n + 1, sizeof(Header));
+    for (size_t k = 1; k <= n; k++) {
+        Header *h = &headers[k];
+        h->id = k, h->ts = 1700000000 + k, h->nentries = 1, h->bl_tx_id = linked ? k - 1 : 0;
+        h->bl_root = h->eh = h->prev_alh = level[0][k - 1 ? k - 2 : 0];
     }
-    *to++ = '\n';
+}
+
+static uint8_t *big_endian(uint8_t *to, uint64_t x, int octets) {
+    for (int i = octets; i-- > 0; x >>= 8) to[i] = (uint8_t)x;
+    return to + octets;
+}
+
+static D inner(const Header *h) {
+    uint8_t text[88], *to = big_endian(text, h->ts, 8);
+    to = big_endian(to, 1, 2);
+    to = big_endian(to, 0, 2);
+    to = big_endian(to, h->nentries, 4);
+    memcpy(to, h->eh.b, 32);
+    to = big_endian(to + 32, h->bl_tx_id, 8);
+    memcpy(to, h->bl_root.b, 32);
+    return sha256(text, 88);
+}
+
+/* The line that is made, which no proof is too long for. */
+static char *text, *to;
+
+static void put(const char *s) {
+    size_t n = strlen(s);
+    memcpy(to, s, n);
+    to += n;
+}
+
+static void put_digest(const D *d) {
+    static const char digits[] = "0123456789abcdef";
+    *to++ = '"';
+    for (int k = 0; k < 32; k++) {
+        *to++ = digits[d->b[k] >> 4];
+        *to++ = digits[d->b[k] & 15];
+    }
+    *to++ = '"';
+}
+
+static void put_number(uint64_t x) {
+    char digits[20];
+    int n = 0;
+    do digits[n++] = (char)('0' + x % 10);
+    while (x /= 10);
+    while (n > 0) *to++ = digits[--n];
+}
+
+/* A list, its last term first. */
+static void put_list(const D *terms, int count) {
+    put("[");
+    while (count-- > 0) {
+        put_digest(&terms[count]);
+        if (count) put(",");
+    }
+    put("]");
+}
+
+static void put_down(size_t n, size_t i, int list) {
+    D terms[130];
+    put_list(terms, down(n, i, list, terms));
+}
+
+static void put_header(const Header *h) {
+    put("{\"blRoot\":"), put_digest(&h->bl_root);
+    put(",\"blTxId\":"), put_number(h->bl_tx_id);
+    put(",\"eh\":"), put_digest(&h->eh);
+    put(",\"id\":"), put_number(h->id);
+    put(",\"md\":\"\",\"nentries\":"), put_number(h->nentries);
+    put(",\"prevAlh\":"), put_digest(&h->prev_alh);
+    put(",\"ts\":"), put_number(h->ts);
+    put(",\"version\":1}");
+}
+
+/* The terms from transaction s to t: the Alh of s, and the inner digests of those behind it. */
+static void put_linear(size_t s, size_t t) {
+    put("["), put_digest(&headers[s].prev_alh);
+    for (size_t k = s + 1; k <= t; k++) {
+        D d = inner(&headers[k]);
+        put(","), put_digest(&d);
+    }
+    put("]");
+}
+
+static void put_advance(size_t a, size_t e, size_t size) {
+    int due = e > a + 1;
+    put("{\"inclusions\":[");
+    for (size_t i = a; due && i + 1 < e; i++) {
+        if (i > a) put(",");
+        put_down(size, i, 0);
+    }
+    put("],\"terms\":");
+    if (due) put_linear(a + 1, e);
+    else put("[]");
+    put("}");
+}
+
+static void show(size_t s, size_t t) {
+    size_t size = headers[t].bl_tx_id, old = headers[s].bl_tx_id;
+    to = text;
+    put("a "), put_number(t), put(" {\"dual\":{\"consistency\":");
+    if (old && old < size) put_down(size, old - 1, 1);
+    else put("[]");
+    put(",\"inclusion\":");
+    if (s < size) put_down(size, s - 1, 0);
+    else put("[]");
+    put(",\"lastInclusion\":");
+    if (size) put_down(size, size - 1, 0);
+    else put("[]");
+    put(",\"linear\":"), put_linear(s > size ? s : size, t);
+    put(",\"linearAdvance\":"), put_advance(old, s < size ? s : size, size);
+    put(",\"source\":"), put_header(&headers[s]);
+    put(",\"target\":"), put_header(&headers[t]);
+    put(",\"targetBlTxAlh\":"), put_digest(&headers[t].prev_alh);
+    put("},\"type\":\"dual\"}\n");
     fwrite(text, 1, (size_t)(to - text), stdout);
 }
 
@@ -92,18 +252,16 @@ static double now(void) {
 
 int main(int argc, char **argv) {
     if (argc < 3) return 2;
-    size_t n = strtoull(argv[2], 0, 10), s, t;
+    size_t n = strtoull(argv[2], 0, 10), count = argc > 3 ? strtoull(argv[3], 0, 10) : 0, s, t;
     double began = now();
     build(n);
+    head(n + 1, !count);
+    if (count) headers[n + 1].bl_tx_id = n;
+    text = malloc(65536 + count * 65 * 67);
     double built = now();
-    if (!strcmp(argv[1], "paths") && argc == 4)
-        for (size_t i = 0, count = strtoull(argv[3], 0, 10); i < count; i++) show(n, i, 0);
+    if (count) show(count + 1, n + 1);
     else
-        while (scanf("%zu %zu", &s, &t) == 2) {
-            if (s < t - 1) show(t - 1, s - 1, 0);
-            if (s > 1 && s < t) show(t - 1, s - 2, 1);
-            if (t > 1) show(t - 1, t - 2, 0);
-        }
+        while (scanf("%zu %zu", &s, &t) == 2) show(s, t);
     fflush(stdout);
     fprintf(stderr, "%.6f %.6f\n", built - began, now() - built);
     return 0;

@@ -161,3 +161,32 @@ ones-power n e is =
     let front : count_ones (2 ^ e + 0) ≡ count_ones 0 + 1 = ones-front e 0 some in
     let none : count_ones 0 ≡ 0 = ones-none in
     ap (λ x. count_ones x) same ∙ omega arith
+
+-- a digit has as many ones as it counts
+ones-digit : (d : ℕ) → d < 2 → count_ones d ≡ d
+ones-digit zero h = ones-none
+ones-digit (suc zero) h = ones-one
+ones-digit (suc (suc d)) h = omega (arith, h)
+
+-- the ones of a number are those of its half, and its last digit
+ones-half : (n : ℕ) → count_ones n ≡ count_ones (n / 2) + n % 2
+ones-half n =
+    let same : n ≡ n / 2 * 2 ^ 1 + n % 2 = omega arith in
+    let cat : count_ones (n / 2 * 2 ^ 1 + n % 2) ≡ count_ones (n / 2) + count_ones (n % 2) = ones_cat 1 (n / 2) (n % 2) (omega arith) in
+    ap (λ x. count_ones x) same ∙ cat ∙ ap (λ x. count_ones (n / 2) + x) (ones-digit (n % 2) (omega arith))
+
+-- the whole subtrees of some leaves and the ones of their number are twice the leaves
+whole-ones-within : (room n : ℕ) → n ≤ room → whole n + count_ones n ≡ 2 * n
+whole-ones-within zero n h =
+    let none : n ≡ 0 = omega arith in
+    let no_trees : whole n ≡ 0 = ap (λ x. whole x) none ∙ whole-none in
+    let no_ones : count_ones n ≡ 0 = ap (λ x. count_ones x) none ∙ ones-none in
+    omega arith
+whole-ones-within (suc room) n h =
+    let step : whole n ≡ n + whole (n / 2) = whole-step n in
+    let half : whole (n / 2) + count_ones (n / 2) ≡ 2 * (n / 2) = whole-ones-within room (n / 2) (omega arith) in
+    let digit : count_ones n ≡ count_ones (n / 2) + n % 2 = ones-half n in
+    omega arith
+
+pub whole-ones : (n : ℕ) → whole n + count_ones n ≡ 2 * n
+whole-ones n = whole-ones-within n n (omega arith)

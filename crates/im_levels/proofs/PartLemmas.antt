@@ -80,6 +80,20 @@ pub record IsFront (width k : ℕ) : Type 0 where
   pub within : k ≤ width
   pub over : width < 2 * k
 
+-- a power of two below n, twice of which reaches n, is the split of n
+pub split-unique : (n k e : ℕ) → 1 < n → k ≡ 2 ^ e → k < n → n ≤ 2 * k → k ≡ split_of n
+split-unique n k e more power below reach =
+    let f : (f : ℕ) × (split_of n ≡ 2 ^ f) = split-power n in
+    let split : split_of n ≡ 2 ^ f.0 = f.1 in
+    let inside : (0 < split_of n) × (split_of n < n) = split-within n more in
+    let reaches : n ≤ 2 * split_of n = split-reaches n in
+    let next_f : 2 ^ suc f.0 ≡ 2 * 2 ^ f.0 = pow-succ' 2 f.0 in
+    let next_e : 2 ^ suc e ≡ 2 * 2 ^ e = pow-succ' 2 e in
+    let low : e < suc f.0 = exponent-less (suc f.0) e (omega arith) in
+    let high : f.0 < suc e = exponent-less (suc e) f.0 (omega (arith, inside.1)) in
+    let same : e ≡ f.0 = omega arith in
+    power ∙ ap (λ x. 2 ^ x) same ∙ sym split
+
 -- it is the split of the next width
 pub front-is : (width k : ℕ) → 0 < width → k ≡ split_of (width + 1) → IsFront width k
 front-is width k some is =

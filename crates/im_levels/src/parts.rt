@@ -1,10 +1,8 @@
 ghost use Rattle.std.specs.Prelude.{◌≡◌, ◌<◌, ◌≤◌, ◌+◌, ◌-◌, ◌^◌, ℕ, List, length, count_ones};
 ghost use Rattle.im_digest.specs.Digests.{Hash};
-ghost use Rattle.im_model.specs.Trees.{node, root};
+ghost use Rattle.im_model.specs.Trees.{node, root, split_of};
 ghost use Rattle.im_levels.specs.Counts.{whole};
 ghost use Rattle.im_levels.specs.Leveled.{leaves_of, IsPart, IsSubtree};
-
-use im_model::trees::split;
 
 /// Leaves beside each other.
 #[derive(Clone, Copy)]
@@ -13,6 +11,16 @@ pub struct Part {
     pub at: usize,
     /// The number of leaves.
     pub width: usize,
+}
+
+/// The largest power of two below n, as `im_model::trees::split` gives it, but in a few steps however large n is.
+pub fn split(n: usize) -> usize
+    requires { 1 < n }
+    ensures value { result ≡ split_of n }
+    ensures left { 0 < result }
+    ensures right { 1 < n → result < n }
+{
+    1 << (n - 1).ilog2()
 }
 
 /// The number of leaves of the largest whole subtree that a part begins with.
@@ -34,16 +42,11 @@ pub fn front(part: Part) -> usize
     split(part.width + 1)
 }
 
-/// The number of whole subtrees of so many leaves.
+/// The number of whole subtrees of so many leaves: with the ones in its binary digits it is twice the number.
 pub fn whole(leaves: usize) -> usize
     requires { whole leaves < 2 ^ 64 }
     ensures { result ≡ whole leaves }
 {
-    let mut total = 0;
-    let mut rest = leaves;
-    while 0 < rest {
-        total += rest;
-        rest /= 2;
-    }
-    total
+    let ones = leaves.count_ones() as usize;
+    leaves + (leaves - ones)
 }

@@ -8,13 +8,15 @@ ghost use Rattle.im_levels.specs.Edges.{IsEdgeOf};
 ghost use Rattle.im_levels.specs.Leveled.{leaves_of, AreStored, IsPart};
 
 use crate::edges::{Edge, edge_root, no_edge};
-use crate::parts::Part;
+use crate::parts::{Part, split};
 use crate::steps::Steps;
 use crate::steps::nodes::Nodes;
 use im_digest::{D32, Hash32};
-use im_model::trees::split;
 use std::alloc::{AllocError, Global};
 use std::sync::ledger::Ledger;
+
+// The room that a walk's terms are given at once: all of a path or a list in a tree of at most 2^20 leaves.
+const MOST_TERMS: usize = 21;
 
 // The half of a part that a leaf is in, the half beside it, and the leaf's index in its half.
 #[derive(Clone, Copy)]
@@ -117,7 +119,7 @@ pub fn path_down_along<H: Hash32, L: Ledger>(
     ensures made { OnOk result (IsEdgeOf (H.digest hash.now) digests.now edge.new) }
     ensures cost { (b : ℕ) → n < 2 ^ b → steps.new ≤ steps.old + 4 * b }
 {
-    let mut terms = Vec::new(alloc);
+    let mut terms = Vec::with_capacity(alloc, MOST_TERMS)?;
     let mut part = Part { at: 0, width: n };
     let mut index = i;
     while 1 < part.width {
@@ -175,7 +177,7 @@ pub fn list_down_along<H: Hash32, L: Ledger>(
     ensures made { OnOk result (IsEdgeOf (H.digest hash.now) digests.now edge.new) }
     ensures cost { (b : ℕ) → n < 2 ^ b → steps.new ≤ steps.old + 4 * b }
 {
-    let mut terms = Vec::new(alloc);
+    let mut terms = Vec::with_capacity(alloc, MOST_TERMS)?;
     let mut part = Part { at: 0, width: n };
     let mut index = m - 1;
     while index < part.width - 1 {

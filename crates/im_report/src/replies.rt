@@ -75,7 +75,10 @@ pub fn header_shown(alloc: Global, digest: &D32, header: &Header) -> Result<Vec<
     Ok(out)
 }
 
-/// A reply as it is written: `<session> <n> <reply>` and LF.
+// The most octets that a reply has beside its session and its text: two spaces, a number of 64 bits, LF.
+const MOST_BESIDE: usize = 23;
+
+/// A reply as it is written: `<session> <n> <reply>` and LF. Its memory is asked for once, but for that of the number.
 #[tactic(auto, unfolding(crate::specs::Report::reply_line))]
 pub fn reply_text(
     alloc: Global,
@@ -85,7 +88,12 @@ pub fn reply_text(
 ) -> Result<Vec<u8>, AllocError>
     ensures { IfOk result (λ text. text.items ≡ reply_line session.now n reply.now) }
 {
-    let mut out = Vec::from_slice(alloc, session)?;
+    let room = session
+        .len()
+        .saturating_add(reply.len())
+        .saturating_add(MOST_BESIDE);
+    let mut out = Vec::with_capacity(alloc, room)?;
+    out.extend_from_slice(session)?;
     push_number(alloc, &mut out, b" ", n)?;
     out.extend_from_slice(b" ")?;
     out.extend_from_slice(reply)?;

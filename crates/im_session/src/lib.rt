@@ -14,4 +14,5 @@ mod reads;
 pub mod serve;
 pub mod sessions;
 mod statements;
+mod tidings;
 mod writing;

@@ -15,6 +15,7 @@ use crate::proofs::{answer_advance, answer_header, answer_item, answer_prove, an
 use crate::reads::{answer_get, answer_history, answer_scan};
 use crate::sessions::Session;
 use crate::statements::answer_sql;
+use crate::tidings::Tidings;
 use im_digest::Hash32;
 use im_disk::disk::Disk;
 use im_edge::clock::Clock;
@@ -87,13 +88,15 @@ fn show<H: Hash32, D: Disk, C: Clock, N: TipName, R: Wait>(
     }
 }
 
-// Runs a line, and puts the text of its reply behind the others. After an error no text was put for it.
+// Runs a line, puts the text of its reply behind the others, and tells how many transactions are durable as the reply does. After an error
+// no text was put for it.
 fn run_line<H: Hash32, D: Disk, C: Clock, N: TipName, R: Wait>(
     rt: &R,
     alloc: Global,
     store: &Store<'_, H, D, C, SqlKeys, N>,
     pass: &mut Pass,
     texts: &mut Vec<Octets>,
+    tidings: &Tidings,
     line: Line,
 ) -> Result<(), LineError>
     requires pass { IsPassOf N.table pass.old }
@@ -105,6 +108,7 @@ fn run_line<H: Hash32, D: Disk, C: Clock, N: TipName, R: Wait>(
     texts.reserve(1)?;
     let Line { session, command } = line;
     let Answer { number, reply } = answer(rt, alloc, store, pass, command)?;
+    tidings.tell(rt, number);
     let text = reply_text(alloc, session.as_slice(), number, reply.as_slice())?;
     texts.push_reserved(Octets::from_vec(text));
     Ok(())
@@ -116,6 +120,7 @@ fn run_lines<H: Hash32, D: Disk, C: Clock, G: Gate, N: TipName, R: Wait>(
     alloc: Global,
     gate: &G,
     store: &Store<'_, H, D, C, SqlKeys, N>,
+    tidings: &Tidings,
     session: &mut Session,
     lines: Vec<Line>,
 ) -> Option<LineError>
@@ -137,6 +142,7 @@ fn run_lines<H: Hash32, D: Disk, C: Clock, G: Gate, N: TipName, R: Wait>(
             store,
             &mut session.pass,
             &mut session.texts,
+            tidings,
             line,
         );
         gate.pause(Point::After {
@@ -157,11 +163,12 @@ pub(crate) fn run_session<H: Hash32, D: Disk, C: Clock, G: Gate, N: TipName, R: 
     alloc: Global,
     gate: &G,
     store: &Store<'_, H, D, C, SqlKeys, N>,
+    tidings: &Tidings,
     session: &mut Session,
 )
     requires ready { IsReady N.found N.table session.old }
     ensures done { IsDone N.digest N.table session.old session.new }
 {
     let lines = mem::replace(&mut session.lines, Vec::new(alloc));
-    session.why = run_lines(rt, alloc, gate, store, session, lines);
+    session.why = run_lines(rt, alloc, gate, store, tidings, session, lines);
 }

@@ -6,6 +6,7 @@ ghost use Rattle.im_session.specs.Runs.{IsDone, IsHelper, IsIdle, IsReady};
 
 use crate::lines::run_session;
 use crate::sessions::Session;
+use crate::tidings::Tidings;
 use im_digest::Hash32;
 use im_disk::disk::Disk;
 use im_edge::clock::Clock;
@@ -16,7 +17,6 @@ use im_table::pass::Pass;
 use im_table::tip_name::TipName;
 use std::alloc::Global;
 use std::sync::Wait;
-use std::sync::atomic::{AtomicBool, Ordering};
 use std::thread;
 use std::thread::{Threads, join};
 
@@ -40,48 +40,47 @@ pub(crate) struct Helpers {
     pub(crate) links: bool,
 }
 
-// Links again and again, until all sessions have ended or memory runs out.
+// Links what is durable, and again where more is, until all sessions have ended or memory runs out.
 fn link_on<H: Hash32, D: Disk, C: Clock, N: TipName, R: Wait>(
     rt: &R,
     alloc: Global,
     store: &Store<'_, H, D, C, SqlKeys, N>,
-    ended: &AtomicBool,
+    tidings: &Tidings,
     mut pass: Pass,
 ) -> Pass
     requires { IsHelper N.table pass }
     ensures { IsHelper N.table result }
 {
+    tidings.tell(rt, store.tip(&mut pass));
     for _ in rt.forever() {
-        if ended.load(Ordering::SeqCst) {
+        let Ok(linked) = store.link(rt, alloc, &mut pass, LINKED_AT_ONCE) else {
+            break;
+        };
+        if tidings.wait_past(rt, linked) {
             break;
         }
-        if store.link(rt, alloc, &mut pass, LINKED_AT_ONCE).is_err() {
-            break;
-        }
-        thread::yield_now();
     }
     pass
 }
 
-// Indexes again and again, until all sessions have ended or memory runs out.
+// Indexes what is durable, and again where more is, until all sessions have ended or memory runs out.
 fn index_on<H: Hash32, D: Disk, C: Clock, N: TipName, R: Wait>(
     rt: &R,
     alloc: Global,
     store: &Store<'_, H, D, C, SqlKeys, N>,
-    ended: &AtomicBool,
+    tidings: &Tidings,
     mut pass: Pass,
 ) -> Pass
     requires { IsIdle N.table pass }
     ensures { IsIdle N.table result }
 {
     for _ in rt.forever() {
-        if ended.load(Ordering::SeqCst) {
+        let Ok(indexed) = store.index(rt, alloc, &mut pass, INDEXED_AT_ONCE) else {
+            break;
+        };
+        if tidings.wait_past(rt, indexed) {
             break;
         }
-        if store.index(rt, alloc, &mut pass, INDEXED_AT_ONCE).is_err() {
-            break;
-        }
-        thread::yield_now();
     }
     pass
 }
@@ -91,7 +90,7 @@ fn link_where<H: Hash32, D: Disk, C: Clock, N: TipName, R: Wait>(
     rt: &R,
     alloc: Global,
     store: &Store<'_, H, D, C, SqlKeys, N>,
-    ended: &AtomicBool,
+    tidings: &Tidings,
     pass: Pass,
     links: bool,
 ) -> Pass
@@ -100,7 +99,7 @@ fn link_where<H: Hash32, D: Disk, C: Clock, N: TipName, R: Wait>(
     ensures idle { links ≡ false → IsIdle N.table result }
 {
     if links {
-        link_on(rt, alloc, store, ended, pass)
+        link_on(rt, alloc, store, tidings, pass)
     } else {
         pass
     }
@@ -114,7 +113,14 @@ fn run_sessions<
     G: Gate + Sync,
     N: TipName + Send + Sync,
     R: Threads + Wait + Sync,
->(rt: &R, alloc: Global, gate: &G, store: &Store<'_, H, D, C, SqlKeys, N>, sessions: &mut [Session])
+>(
+    rt: &R,
+    alloc: Global,
+    gate: &G,
+    store: &Store<'_, H, D, C, SqlKeys, N>,
+    tidings: &Tidings,
+    sessions: &mut [Session],
+)
     requires { All (IsReady N.found N.table) sessions.old }
     ensures len { length sessions.new ≡ length sessions.old }
     ensures done { (i : ℕ) (d : _) → i < length sessions.old → IsDone N.digest N.table (slice_index_or sessions.old i d) (slice_index_or sessions.new i d) }
@@ -126,7 +132,7 @@ fn run_sessions<
         &|_, session: &mut Session|
             requires { IsReady N.found N.table session.old }
             ensures { IsDone N.digest N.table session.old session.new }
-        { run_session(rt, alloc, gate, store, session) },
+        { run_session(rt, alloc, gate, store, tidings, session) },
     );
 }
 
@@ -143,14 +149,14 @@ fn run_all<
     alloc: Global,
     gate: &G,
     store: &Store<'_, H, D, C, SqlKeys, N>,
-    ended: &AtomicBool,
+    tidings: &Tidings,
     mut sessions: Vec<Session>,
 ) -> Vec<Session>
     requires { All (IsReady N.found N.table) sessions.items }
     ensures { AreDone N.digest N.table sessions.items result.items }
 {
-    run_sessions(rt, alloc, gate, store, sessions.as_mut_slice());
-    ended.store(true, Ordering::SeqCst);
+    run_sessions(rt, alloc, gate, store, tidings, sessions.as_mut_slice());
+    tidings.end(rt);
     sessions
 }
 
@@ -165,7 +171,7 @@ fn help<
     rt: &R,
     alloc: Global,
     store: &Store<'_, H, D, C, SqlKeys, N>,
-    ended: &AtomicBool,
+    tidings: &Tidings,
     helpers: Helpers,
 ) -> (Pass, Pass)
     requires { IsIdle N.table helpers.linker × IsIdle N.table helpers.indexer }
@@ -183,12 +189,12 @@ fn help<
         &|pass: Pass| -> Pass
             requires { IsIdle N.table pass }
             ensures { IsHelper N.table result × (links ≡ false → IsIdle N.table result) }
-        { link_where(rt, alloc, store, ended, pass, links) },
+        { link_where(rt, alloc, store, tidings, pass, links) },
         linker,
         &|pass: Pass| -> Pass
             requires { IsIdle N.table pass }
             ensures { IsIdle N.table result }
-        { index_on(rt, alloc, store, ended, pass) },
+        { index_on(rt, alloc, store, tidings, pass) },
         indexer,
     )
 }
@@ -217,19 +223,19 @@ pub(crate) fn run_phase<
     ensures idle { helpers.links ≡ false → IsIdle N.table result.1 }
     ensures indexer { IsIdle N.table result.2 }
 {
-    let flag = AtomicBool::new(false);
-    let ended = &flag;
+    let phase = Tidings::new();
+    let tidings = &phase;
     let ((linker, indexer), sessions) = side_by_side(
         rt,
         &|helpers: Helpers| -> (Pass, Pass)
             requires { IsIdle N.table helpers.linker × IsIdle N.table helpers.indexer }
             ensures { IsHelper N.table result.0 × (helpers.links ≡ false → IsIdle N.table result.0) × IsIdle N.table result.1 }
-        { help(rt, alloc, store, ended, helpers) },
+        { help(rt, alloc, store, tidings, helpers) },
         helpers,
         &|sessions: Vec<Session>| -> Vec<Session>
             requires { All (IsReady N.found N.table) sessions.items }
             ensures { AreDone N.digest N.table sessions.items result.items }
-        { run_all(rt, alloc, gate, store, ended, sessions) },
+        { run_all(rt, alloc, gate, store, tidings, sessions) },
         sessions,
     );
     (sessions, linker, indexer)

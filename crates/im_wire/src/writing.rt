@@ -8,12 +8,14 @@ ghost use Rattle.im_wire.specs.Tokens.{tokens_of, item_tokens};
 mod duals;
 mod fields;
 mod records;
+mod room;
 
 use crate::fits::{header_fits, message_fits};
 use crate::messages::Message;
 use crate::writing::duals::{put_anchor_field, put_dual_proof_field};
 use crate::writing::fields::{put_digests_field, put_number_field, put_text_field};
 use crate::writing::records::{put_entry_field, put_header, put_header_field};
+use crate::writing::room::message_room;
 use im_model::entries::Entry;
 use im_model::headers::Header;
 use im_mtree::digests::Digests;
@@ -126,7 +128,7 @@ pub fn write(alloc: Global, message: &Message) -> Result<Vec<u8>, AllocError>
     ensures text { IfOk result (λ octets. octets.items ≡ text message.now) }
     ensures again { IfOk result (λ octets. HasMessage octets.items message.now) }
 {
-    let mut out = Writer::new(Vec::new(alloc));
+    let mut out = Writer::new(Vec::with_capacity(alloc, message_room(message))?);
     put_message(alloc, &mut out, message)?;
     message_fits(message);
     Ok(out.into_inner())

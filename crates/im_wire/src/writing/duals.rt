@@ -2,7 +2,7 @@ ghost use Rattle.std.specs.Prelude.{◌≡◌, ◌++◌, OnOk};
 ghost use Rattle.im_wire.specs.Texts.{advance_proof_data, dual_proof_data, anchor_data};
 ghost use Rattle.im_wire.specs.Tokens.{tokens_of, field_tokens, dual_front_tokens, dual_middle_tokens, dual_back_tokens};
 
-use crate::writing::fields::{put_digest_lists_field, put_digests_field, put_hex_field};
+use crate::writing::fields::{put_digest_field, put_digest_lists_field, put_digests_field};
 use crate::writing::records::put_header_field;
 use im_proof::proofs::{AdvanceProof, DualProof};
 use json::Writer;
@@ -65,12 +65,7 @@ fn put_dual_back(alloc: Global, out: &mut Writer, dual: &DualProof) -> Result<()
 {
     put_header_field(alloc, out, "source", &dual.source)?;
     put_header_field(alloc, out, "target", &dual.target)?;
-    put_hex_field(
-        alloc,
-        out,
-        "targetBlTxAlh",
-        dual.target_bl_tx_alh.as_slice(),
-    )?;
+    put_digest_field(out, "targetBlTxAlh", &dual.target_bl_tx_alh)?;
     Ok(())
 }
 

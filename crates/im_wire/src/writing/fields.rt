@@ -90,6 +90,16 @@ fn put_digest(out: &mut Writer, digest: &D32) -> Result<(), AllocError>
     }
 }
 
+// Adds a member that is a digest.
+#[tactic(auto, unfolding(crate::specs::Tokens::field_tokens))]
+pub(crate) fn put_digest_field(out: &mut Writer, name: &str, digest: &D32) -> Result<(), AllocError>
+    ensures ok { OnOk result (out.new.tokens ≡ out.old.tokens ++ field_tokens name.now (hex_data digest.now)) }
+    ensures before { out.new.before ≡ out.old.before }
+{
+    out.key(name)?;
+    put_digest(out, digest)
+}
+
 // Adds an array of digests.
 #[tactic(auto, unfolding(crate::specs::Tokens::tokens_of, crate::specs::Tokens::tail_tokens, crate::specs::Texts::digests_data))]
 fn put_digests(out: &mut Writer, digests: &[D32]) -> Result<(), AllocError>

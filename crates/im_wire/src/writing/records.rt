@@ -2,7 +2,7 @@ ghost use Rattle.std.specs.Prelude.{◌≡◌, ◌++◌, OnOk};
 ghost use Rattle.im_wire.specs.Texts.{header_data, entry_data};
 ghost use Rattle.im_wire.specs.Tokens.{tokens_of, field_tokens, header_front_tokens, header_middle_tokens, header_back_tokens, entry_tokens};
 
-use crate::writing::fields::{put_hex_field, put_number_field, put_signed_field};
+use crate::writing::fields::{put_digest_field, put_hex_field, put_number_field, put_signed_field};
 use im_model::entries::Entry;
 use im_model::headers::Header;
 use json::Writer;
@@ -10,13 +10,13 @@ use std::alloc::{AllocError, Global};
 
 // Adds the first three members of a header.
 #[tactic(auto, unfolding(crate::specs::Tokens::header_front_tokens))]
-fn put_header_front(alloc: Global, out: &mut Writer, header: &Header) -> Result<(), AllocError>
+fn put_header_front(out: &mut Writer, header: &Header) -> Result<(), AllocError>
     ensures ok { OnOk result (out.new.tokens ≡ out.old.tokens ++ header_front_tokens header.now) }
     ensures before { out.new.before ≡ out.old.before }
 {
-    put_hex_field(alloc, out, "blRoot", header.bl_root.as_slice())?;
+    put_digest_field(out, "blRoot", &header.bl_root)?;
     put_number_field(out, "blTxId", header.bl_tx_id)?;
-    put_hex_field(alloc, out, "eh", header.eh.as_slice())?;
+    put_digest_field(out, "eh", &header.eh)?;
     Ok(())
 }
 
@@ -34,11 +34,11 @@ fn put_header_middle(alloc: Global, out: &mut Writer, header: &Header) -> Result
 
 // Adds the last three members.
 #[tactic(auto, unfolding(crate::specs::Tokens::header_back_tokens))]
-fn put_header_back(alloc: Global, out: &mut Writer, header: &Header) -> Result<(), AllocError>
+fn put_header_back(out: &mut Writer, header: &Header) -> Result<(), AllocError>
     ensures ok { OnOk result (out.new.tokens ≡ out.old.tokens ++ header_back_tokens header.now) }
     ensures before { out.new.before ≡ out.old.before }
 {
-    put_hex_field(alloc, out, "prevAlh", header.prev_alh.as_slice())?;
+    put_digest_field(out, "prevAlh", &header.prev_alh)?;
     put_signed_field(out, "ts", header.ts)?;
     put_number_field(out, "version", u64::from(header.version))?;
     Ok(())
@@ -50,9 +50,9 @@ pub(crate) fn put_header(alloc: Global, out: &mut Writer, header: &Header) -> Re
     ensures before { out.new.before ≡ out.old.before }
 {
     out.begin_object()?;
-    put_header_front(alloc, out, header)?;
+    put_header_front(out, header)?;
     put_header_middle(alloc, out, header)?;
-    put_header_back(alloc, out, header)?;
+    put_header_back(out, header)?;
     out.end_object()?;
     Ok(())
 }

@@ -1,16 +1,13 @@
-use Rattle.std.proofs.Common.{◌≡◌, ap, arith, ◌∙◌}
-use Rattle.im_levels.specs.Counts.{whole}
-use Rattle.im_levels.proofs.CountLemmas.{whole-none, whole-step, whole-most}
+use Rattle.std.proofs.Common.{arith}
+use Rattle.im_levels.proofs.CountLemmas.{whole-ones, whole-step}
 use Rattle.im_levels.proofs.parts.whole.Goals as goal
 
-pub overflow_add-total : goal.overflow_add-total
-overflow_add-total c = omega (arith, c.requires, c.loop-rest.invariant, whole-most c.loop-rest.rest)
+-- a number has no more ones than it counts
+pub overflow_sub-result : goal.overflow_sub-result
+overflow_sub-result c = omega (arith, whole-ones c.args.leaves, whole-step c.args.leaves)
 
-pub loop-rest-preserved : goal.loop-rest-preserved
-loop-rest-preserved c = omega (arith, c.loop-rest.invariant, whole-step c.loop-rest.rest)
+pub overflow_add-result : goal.overflow_add-result
+overflow_add-result c = omega (arith, c.requires, whole-ones c.args.leaves, whole-step c.args.leaves)
 
 pub returns : goal.returns
-returns c =
-    let none : c.loop-rest.rest ≡ 0 = omega (arith, c.loop-rest-test.false) in
-    let is : whole c.loop-rest.rest ≡ 0 = ap (λ x. whole x) none ∙ whole-none in
-    omega (arith, c.loop-rest.invariant)
+returns c = omega (arith, whole-ones c.args.leaves, whole-step c.args.leaves)

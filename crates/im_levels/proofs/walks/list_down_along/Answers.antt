@@ -14,7 +14,7 @@ loop-index-init g c =
       inside = omega arith;
       made = c.requires.made;
       first = λ leaves inside. ap (λ m. growth_first (g.H.Hash32.digest c.args.hash.now) (take c.args.n leaves) m) older;
-      rest = λ leaves inside kept. gathered-none _ _ c.new-terms.ensures.items ∙ ap (λ m. growth_rest (g.H.Hash32.digest c.args.hash.now) (take c.args.n leaves) m) older;
+      rest = λ leaves inside kept. gathered-none _ _ c.in_ok-terms.ensures.items ∙ ap (λ m. growth_rest (g.H.Hash32.digest c.args.hash.now) (take c.args.n leaves) m) older;
       cost = λ b h. paid-begins c.args.steps.now b c.args.n h;
     }
 

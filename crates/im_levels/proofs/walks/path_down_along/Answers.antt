@@ -10,7 +10,7 @@ loop-part-init g c = record {
   part = all-part c.args.n;
   inside = omega arith;
   made = c.requires.made;
-  path = λ leaves inside kept. gathered-none _ _ c.new-terms.ensures.items;
+  path = λ leaves inside kept. gathered-none _ _ c.in_ok-terms.ensures.items;
   cost = λ b h. paid-begins c.args.steps.now b c.args.n h;
 }
 

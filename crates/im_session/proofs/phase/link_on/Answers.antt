@@ -1,5 +1,13 @@
-use Rattle.im_session.proofs.HelperLemmas.{linked_on}
+use Rattle.im_session.proofs.HelperLemmas.{helper_on, linked_on}
 use Rattle.im_session.proofs.phase.link_on.Goals as goal
+
+-- it has seen how many transactions are durable
+pub loop-init : goal.loop-init
+loop-init g c = record {
+  can = tt;
+  finite = tt;
+  helper = helper_on g.N.TipName.table c.args.pass c.tip.new.pass 0 c.requires c.tip.ensures.later c.tip.ensures.gains;
+}
 
 -- it has linked once more
 pub loop-preserved : goal.loop-preserved

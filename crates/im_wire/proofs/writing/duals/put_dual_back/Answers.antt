@@ -1,4 +1,3 @@
-use Rattle.std.proofs.Common.{ℕ, List, ◌++◌, ap, ◌∙◌}
 use Rattle.std.specs.Prelude.{codes}
 use Rattle.im_wire.specs.Texts.{hex_data, header_data}
 use Rattle.im_wire.specs.Tokens.{field_tokens, dual_back_tokens}
@@ -10,6 +9,5 @@ unfolding dual_back_tokens
 returns-clause-ok c =
     let source = field_tokens (codes "source") (header_data c.args.dual.now.source) in
     let target = field_tokens (codes "target") (header_data c.args.dual.now.target) in
-    added3 c.args.out.now.tokens _ _ _ source target (field_tokens (codes "targetBlTxAlh") (hex_data c.as_slice.result.now))
-    c.in_ok-put_header_field.ensures.ok c.in_ok-put_header_field-2.ensures.ok c.in_ok-put_hex_field.ensures.ok
-    ∙ ap (λ (alh : List ℕ). c.args.out.now.tokens ++ (source ++ (target ++ field_tokens (codes "targetBlTxAlh") (hex_data alh)))) c.as_slice.ensures
+    added3 c.args.out.now.tokens _ _ _ source target (field_tokens (codes "targetBlTxAlh") (hex_data c.args.dual.now.target_bl_tx_alh))
+    c.in_ok-put_header_field.ensures.ok c.in_ok-put_header_field-2.ensures.ok c.in_ok-put_digest_field.ensures.ok
