@@ -218,7 +218,7 @@ fn run_script<
             clock,
         };
     };
-    match open(alloc, hash, disk, clock, logs) {
+    match open(rt, alloc, hash, disk, clock, logs) {
         Ok(opened) => match judge(alloc, &opened) {
             Ok(()) => serve_script(rt, alloc, gate, sink, opened, passes, script, is_auto(link)),
             Err(error) => {

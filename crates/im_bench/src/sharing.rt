@@ -45,7 +45,7 @@ pub fn run<H: Hash32 + Sync, D: Disk + Send, R: Threads + Wait + Sync>(
 ) -> Result<(u64, D), NotRun>
     requires { (1 ≤ threads) × (threads ≤ 1000) }
 {
-    let opened = match open(alloc, hash, disk, FixedClock { time: 0 }, 1) {
+    let opened = match open(rt, alloc, hash, disk, FixedClock { time: 0 }, 1) {
         Ok(opened) => opened,
         Err(failed) => {
             drop(failed);

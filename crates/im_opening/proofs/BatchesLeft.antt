@@ -14,6 +14,7 @@ use Rattle.im_mtree.proofs.CheckLemmas.{fail_append}
 use Rattle.im_opening.specs.Answers.{Tells}
 use Rattle.im_opening.specs.Opening.{AreBatches}
 use Rattle.im_opening.specs.Parts.{batches_from, batches_in, place_from, counted_end, records_in}
+use Rattle.im_opening.specs.Stretches.{BatchesLeft}
 use Rattle.im_opening.specs.declared.errors.OpenError.{OpenError}
 use Rattle.im_opening.specs.declared.errors.OpenError.TheVariants.{DiskFault, Damaged, Memory}
 use Rattle.im_opening.proofs.Finding.{tells-first}
@@ -22,15 +23,6 @@ use Rattle.im_opening.proofs.Finding.{tells-first}
 pub place-behind : (hash : Hash) (image : Files) (count : ℕ) (r : Reached) → (behind hash image count r).place ≡ records_end image r.place count
 place-behind hash image zero r = refl
 place-behind hash image (suc count) r = place-behind hash image count (behind_one hash image r)
-
--- what is read of them, and what is left, make all
-pub record BatchesLeft (hash : Hash) (image : Files) (gate batches : ℕ) (records : List Record) (r : Reached) : Type 0 where
-  pub most : ℕ
-  pub enough : length (image 1) ≤ gate + most
-  pub records_are : records ++ joined (batches_from image most gate r.place) ≡ joined (batches_in image)
-  pub batches_are : batches + length (batches_from image most gate r.place) ≡ length (batches_in image)
-  pub place_is : place_from image most gate r.place ≡ counted_end image
-  pub finds : first_fail (batches_checks hash image most gate r) ≡ first_fail (image_checks hash image)
 
 pub batches-first : (hash : Hash) (image : Files) → BatchesLeft hash image 0 0 [] at_first
 batches-first hash image = record {

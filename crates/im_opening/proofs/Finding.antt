@@ -1,11 +1,13 @@
 -- The first check that fails, of lists that are put together.
 use Rattle.std.proofs.Common.{◌≡◌, ℕ, List, [], ◌∷◌, ◌++◌, refl, ap, sym, ◌∙◌, subst, false, if◌then◌else◌, Result, Ok, Err, Option, Some, None}
-use Rattle.std.specs.Prelude.{IfSome, IsErrAnd}
+use Rattle.std.specs.Prelude.{IfErr, IfSome, IsErrAnd}
 use Rattle.im_disk.specs.Disk.{Told}
 use Rattle.im_mtree.specs.Checks.{Check, first_fail}
 use Rattle.im_format.specs.declared.damages.Damage.{Damage}
 use Rattle.im_mtree.proofs.CheckLemmas.{then_check, fail_append, fail_both, fail_first}
-use Rattle.im_opening.specs.Answers.{HasOpenCause, Judges, Tells}
+use Rattle.im_disk.specs.declared.disk.DiskError.{DiskError}
+use Rattle.im_disk.specs.declared.disk.DiskError.TheVariants as Disk
+use Rattle.im_opening.specs.Answers.{HasOpenCause, Judges, Tells, of_disk}
 use Rattle.im_opening.specs.declared.errors.OpenError.{OpenError}
 use Rattle.im_opening.specs.declared.errors.OpenError.TheVariants.{DiskFault, Damaged, Memory}
 
@@ -23,6 +25,9 @@ find-stop a c b e =
 pub at-told : (P : Told → Type 0) (o : Option Told) (t : Told) → IfSome o P → o ≡ Some t → P t
 at-told P o t h is = subst (λ (x : Option Told). IfSome x P) is h
 
+pub at-some : {T : Type 0} (P : T → Type 0) (o : Option T) (x : T) → IfSome o P → o ≡ Some x → P x
+at-some {T} P o x h is = subst (λ (y : Option T). IfSome y P) is h
+
 pub if-told : (P : Told → Type 0) (o : Option Told) → ((t : Told) → o ≡ Some t → P t) → IfSome o P
 if-told P None f = tt
 if-told P (Some t) f = f t refl
@@ -31,6 +36,10 @@ if-told P (Some t) f = f t refl
 pub judge-err : {T : Type 0} (checks : List (Check Damage)) (r : Result T OpenError) (x : OpenError) → IsErrAnd r (λ e. e ≡ x) → Tells checks x → Judges checks r
 judge-err checks (Ok y) x h tells = absurd h
 judge-err checks (Err e) x h tells = record { is = subst (Tells checks) (sym h) tells }
+
+pub tell-err : {T : Type 0} (checks : List (Check Damage)) (r : Result T OpenError) (x : OpenError) → IsErrAnd r (λ e. e ≡ x) → Tells checks x → IfErr r (Tells checks)
+tell-err checks (Ok y) x h tells = absurd h
+tell-err checks (Err e) x h tells = subst (Tells checks) (sym h) tells
 
 -- a call that is answered leaves the count of faults
 pub ok-leaves : {T : Type 0} (before now : ℕ) (x : T) → HasOpenCause before now (Ok x) → now ≡ before
@@ -47,3 +56,12 @@ pub tells-behind : (a b : List (Check Damage)) (e : OpenError) → first_fail a 
 tells-behind a b DiskFault fine h = tt
 tells-behind a b (Damaged d) fine h = fail_append a b fine ∙ h
 tells-behind a b Memory fine h = tt
+
+-- an error of the disk tells nothing of checks
+pub disk-unsaid : (checks : List (Check Damage)) (e : DiskError) → Tells checks (of_disk e)
+disk-unsaid checks Disk.Failed = tt
+disk-unsaid checks Disk.Memory = tt
+
+pub disk-err : {T : Type 0} (checks : List (Check Damage)) (r : Result T OpenError) (e : DiskError) → IsErrAnd r (λ x. x ≡ of_disk e) → IfErr r (Tells checks)
+disk-err checks (Ok y) e h = tt
+disk-err checks (Err x) e h = subst (Tells checks) (sym h) (disk-unsaid checks e)

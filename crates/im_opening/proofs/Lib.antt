@@ -1,5 +1,6 @@
 pub mod Finding
 pub mod AheadLemmas
+pub mod FactLemmas
 pub mod SlotFinds
 pub mod EntriesLeft
 pub mod RecordGrows
@@ -17,3 +18,5 @@ pub mod BatchesSame
 pub mod KeptLemmas
 pub mod FoundLemmas
 pub mod OpensLemmas
+pub mod GivenLemmas
+pub mod StretchLemmas

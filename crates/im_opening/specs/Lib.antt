@@ -1,8 +1,10 @@
 pub mod Ahead
 pub mod Answers
 pub mod Cut
+pub mod Facts
 pub mod Found
 pub mod Opening
 pub mod Opens
 pub mod Parts
 pub mod Reach
+pub mod Stretches

@@ -1,5 +1,5 @@
 -- What opening a disk does: said once, for each call that opens one.
-use Rattle.std.specs.Prelude.{◌≡◌, ℕ, List, length, Option, Some, Err, IfSome}
+use Rattle.std.specs.Prelude.{◌≡◌, ℕ, List, length, Option, Some, Err, IfSome, Result, IfOk, IfErr}
 use Rattle.std.specs.Option.{option_map}
 use Rattle.im_digest.specs.Digests.{Hash}
 use Rattle.im_disk.specs.Disk.{Told, after, seen}
@@ -13,7 +13,8 @@ use Rattle.im_format.specs.Standing.{Stands}
 use Rattle.im_format.specs.declared.damages.Damage.{Damage}
 use Rattle.im_model.specs.declared.transactions.Transaction.{Transaction}
 use Rattle.im_mtree.specs.Checks.{first_fail}
-use Rattle.im_opening.specs.Cut.{IsHeldThroughout, IsOpenedBy, SyncsAtMost, WasBegun, WasOpened, opened_by}
+use Rattle.im_opening.specs.Answers.{HasOpenCause, Judges}
+use Rattle.im_opening.specs.Cut.{IsHeldThroughout, IsOpenedBy, SyncsAtMost, WasBegun, WasLeft, WasOpened, opened_by}
 use Rattle.im_opening.specs.Opening.{IsGivenBy}
 use Rattle.im_opening.specs.Parts.{batches_in}
 use Rattle.im_opening.specs.declared.errors.OpenError.{OpenError}
@@ -29,6 +30,15 @@ pub record AreOpened (hash : Hash) (was now : Option Told) (opened : Opened) : T
   pub kept : (t : Told) → was ≡ Some t → IfSome now (IsHeldThroughout (batches_in (seen t)) opened.ends)
   pub moments : (t : Told) (history : List Transaction) → was ≡ Some t → Stands hash (seen t) history
       → Leaves (λ image. Stands hash image history) (Some (after Synced t)) now
+
+-- what opening the files of a disk answers, by what the disk tells and counts before and then
+pub record AreFilesOpened (hash : Hash) {D : Type 0} (told : D → Option Told) (faults : D → ℕ) (before now : D) (answer : Result Opened OpenError) : Type 0 where
+  pub opened : IfOk answer (AreOpened hash (told before) (told now))
+  pub first : (t : Told) → told before ≡ Some t → Judges (image_checks hash (seen t)) answer
+  pub moments : (t : Told) (history : List Transaction) → told before ≡ Some t → Stands hash (seen t) history → WasOpened hash history t (told now)
+  pub left : (t : Told) → told before ≡ Some t → IfErr answer (λ error. WasLeft hash error t (told now))
+  pub grows : Grows (told before) (told now)
+  pub cause : HasOpenCause (faults before) (faults now) answer
 
 -- A disk is opened, with this gate behind the batches that count, and this history. Its image stands for the history, and
 -- for no other. It got a sync, and a closed gate where none stood; at every moment behind the sync each image stands for

@@ -4,12 +4,14 @@ ghost use Rattle.im_disk.specs.Disk.{Told, seen};
 ghost use Rattle.im_format.specs.Damages.{batch_checks, numbers};
 ghost use Rattle.im_mtree.specs.Checks.{first_fail};
 ghost use Rattle.im_opening.specs.Answers.{HasOpenCause, Judges};
+ghost use Rattle.im_opening.specs.Facts.{IsKnown};
 ghost use Rattle.im_opening.specs.Parts.{Shows, mark_checks};
 ghost use Rattle.im_opening.specs.Reach.{AreMore, Fits, IsWholeProgress, reached_of};
 
 use crate::errors::OpenError;
 use crate::records::{Progress, read_records};
 use crate::source::RecordSource;
+use crate::windows::Window;
 use im_clog::marks::Mark;
 use im_digest::Hash32;
 use im_disk::disk::Disk;
@@ -45,7 +47,8 @@ fn check_mark(mark: &Mark, gate: u64, before: u64) -> Result<(), Damage>
     Ok(())
 }
 
-/// Reads the records of the batch with this mark, whose gate stands at a place of the commit log.
+/// Reads the records of the batch with this mark, whose gate stands at a place of the commit log, with the digests that a
+/// window has.
 pub(crate) fn read_batch<D: Disk, H: Hash32>(
     alloc: Global,
     hash: &H,
@@ -53,6 +56,7 @@ pub(crate) fn read_batch<D: Disk, H: Hash32>(
     source: &RecordSource,
     mark: &Mark,
     gate: u64,
+    window: &Window,
     progress: &mut Progress,
 ) -> Result<(), OpenError>
     requires shows { IfSome (D.told disk.old) (λ t. Shows (seen t) source.now.log.now source.now.lengths) }
@@ -61,6 +65,7 @@ pub(crate) fn read_batch<D: Disk, H: Hash32>(
     requires place { progress.old.place ≤ length source.now.log.now }
     requires fits { Fits (H.digest hash.now) progress.old }
     requires whole { IsWholeProgress (H.digest hash.now) progress.old }
+    requires known { IsKnown (H.digest hash.now) window.now }
     ensures within { OnOk result (progress.new.place ≤ length source.now.log.now) }
     ensures some { OnOk result (1 ≤ mark.now.count) }
     ensures more { OnOk result (length progress.new.alhs.items ≡ length progress.old.alhs.items + mark.now.count) }
@@ -74,7 +79,7 @@ pub(crate) fn read_batch<D: Disk, H: Hash32>(
     ensures cause { HasOpenCause (D.faults disk.old) (D.faults disk.new) result }
 {
     check_mark(mark, gate, progress.alhs.len() as u64)?;
-    read_records(alloc, hash, disk, source, mark.count, progress)?;
+    read_records(alloc, hash, disk, source, mark.count, window, progress)?;
     if mark.end != progress.place {
         let found = damage(gate + 17, progress.place, mark.end);
         return Err(OpenError::Damaged(found));

@@ -1,4 +1,5 @@
 ghost use Rattle.std.specs.Prelude.{◌≡◌, List, Some, IfOk, IfErr};
+ghost use Rattle.im_digest.specs.Digests.{Hash};
 ghost use Rattle.im_disk.specs.Disk.{Told, seen};
 ghost use Rattle.im_disk.specs.Grown.{Grows};
 ghost use Rattle.im_format.specs.Damages.{image_checks};
@@ -10,19 +11,21 @@ ghost use Rattle.im_opening.specs.Answers.{HasOpenCause, Judges};
 ghost use Rattle.im_opening.specs.Cut.{WasLeft, WasOpened};
 ghost use Rattle.im_opening.specs.Found.{IsFound};
 ghost use Rattle.im_opening.specs.Opening.{IsOneHistory};
-ghost use Rattle.im_opening.specs.Opens.{FailsToOpen, AreOpened, Opens};
+ghost use Rattle.im_opening.specs.Opens.{AreFilesOpened, AreOpened, FailsToOpen, Opens};
 ghost use Rattle.im_opening.specs.Reach.{txs_of};
+ghost use Rattle.im_opening.specs.Stretches.{IsLong, IsReading};
 
 use crate::ahead::Ahead;
 use crate::errors::OpenError;
 use crate::found::FoundHistory;
-use crate::reading::{Opened, read_files};
+use crate::reading::{Opened, read_files, read_files_on};
 use crate::repair::repair;
 use im_alog::laying::sync;
 use im_digest::Hash32;
 use im_disk::disk::Disk;
 use im_journal::journal::Journal;
 use std::alloc::Global;
+use std::thread::Threads;
 
 /// A disk that was opened: its journal, at rest, and the history that it holds.
 #[derive(Drop)]
@@ -42,12 +45,15 @@ pub struct OpenFailed<D: Drop> {
     pub error: OpenError,
 }
 
-// Opens the files of a disk. Of files that are damaged nothing is written.
-fn open_files<D: Disk, H: Hash32>(
-    alloc: Global,
+// Opens the files of a disk, which a function reads. Of files that are damaged nothing is written.
+fn open_files<D: Disk, H: Hash32, F: FnOnce(&H, &mut D) -> Result<Opened, OpenError>>(
     hash: &H,
     disk: &mut D,
+    read: F,
 ) -> Result<Opened, OpenError>
+    requires callable { F.IsAlwaysCallable read }
+    requires reads { (hash was answer now : _) → F.post read hash was answer now
+        → IsReading (H.digest hash.now) D.told D.faults was.now now.now answer }
     ensures opened { IfOk result (AreOpened (H.digest hash.now) (D.told disk.old) (D.told disk.new)) }
     ensures first { (t : Told) → D.told disk.old ≡ Some t → Judges (image_checks (H.digest hash.now) (seen t)) result }
     ensures moments { (t : Told) (history : List Transaction) → D.told disk.old ≡ Some t → Stands (H.digest hash.now) (seen t) history
@@ -57,7 +63,7 @@ fn open_files<D: Disk, H: Hash32>(
     ensures cause { HasOpenCause (D.faults disk.old) (D.faults disk.new) result }
 {
     sync(disk)?;
-    let opened = read_files(alloc, hash, disk)?;
+    let opened = read(hash, disk)?;
     repair(disk, &opened)?;
     Ok(opened)
 }
@@ -91,7 +97,68 @@ pub fn open<D: Disk, H: Hash32>(
         → IfErr result (λ failed. WasLeft (H.digest hash.now) failed.error t (D.told failed.disk)) }
 {
     let mut ahead = Ahead::new(alloc, disk);
-    let opened = match open_files(alloc, hash, &mut ahead) {
+    let read = |hash: &H, disk: &mut Ahead<D>| read_files(alloc, hash, disk);
+    let answer = open_files(hash, &mut ahead, read);
+    resumed(alloc, ahead, answer)
+}
+
+/// Opens a disk, as `open` does and with its answer, where a thread for each processor but one hashes ahead of the reading. The
+/// disk gets the changing calls that `open` makes, and each value is asked for twice. It takes memory for what is hashed of 4,096
+/// records, about 4 KiB for one of one entry. Values above 160 octets are hashed by one thread, and so are the first batch and
+/// what a batch has behind the 2,048 records that are hashed at once. Where the files are damaged, or more than 32,768 Alh are
+/// linked at once, some strings are hashed twice.
+///
+/// # Errors
+///
+/// As `open`.
+pub fn open_on<R: Threads + Sync, D: Disk, H: Hash32 + Sync>(
+    rt: &R,
+    alloc: Global,
+    hash: &H,
+    disk: D,
+) -> Result<Recovered<D>, OpenFailed<D>>
+    ensures opens { IfOk result (λ r. Opens D.told D.faults (H.digest hash.now) disk r.journal.disk r.journal.ends.commits (txs_of r.found.records.items)) }
+    ensures rests { IfOk result (λ r. IsFound D.told (H.digest hash.now) r.journal r.found.records.items) }
+    // Its batches are those by which the files stood for the history.
+    ensures held { (t : Told) (history : List Transaction) → D.told disk ≡ Some t → (stands : Stands (H.digest hash.now) (seen t) history)
+        → IfOk result (λ r. IsAtRest D.told (H.digest hash.now) history stands.batches r.journal) }
+    ensures found { IfOk result (λ r. IsOneHistory (H.digest hash.now) r.found) }
+    ensures fresh { IfOk result (λ r. (r.journal.failures ≡ 0) × (r.journal.batch.step ≡ Idle)) }
+    ensures failed { IfErr result (λ failed. FailsToOpen D.told D.faults (H.digest hash.now) disk failed.disk failed.error) }
+    // Whatever the files are.
+    ensures left { (t : Told) → D.told disk ≡ Some t
+        → IfErr result (λ failed. WasLeft (H.digest hash.now) failed.error t (D.told failed.disk)) }
+{
+    let mut ahead = Ahead::new(alloc, disk);
+    let read = |hash: &H, disk: &mut Ahead<D>| read_files_on(rt, alloc, hash, disk);
+    let answer = open_files(hash, &mut ahead, read);
+    resumed(alloc, ahead, answer)
+}
+
+// The journal of a disk whose files were opened, at rest, with what was found; or the disk, where they weren't.
+fn resumed<D: Disk>(
+    alloc: Global,
+    ahead: Ahead<D>,
+    answer: Result<Opened, OpenError>,
+) -> Result<Recovered<D>, OpenFailed<D>>
+    requires files { (hash : Hash) × (before : D) × IsLong hash × AreFilesOpened hash D.told D.faults before ahead answer }
+    ensures opens { (hash : Hash) (before : D) → IsLong hash → AreFilesOpened hash D.told D.faults before ahead answer
+        → IfOk result (λ r. Opens D.told D.faults hash before r.journal.disk r.journal.ends.commits (txs_of r.found.records.items)) }
+    ensures rests { (hash : Hash) (before : D) → IsLong hash → AreFilesOpened hash D.told D.faults before ahead answer
+        → IfOk result (λ r. IsFound D.told hash r.journal r.found.records.items) }
+    ensures held { (hash : Hash) (before : D) → IsLong hash → AreFilesOpened hash D.told D.faults before ahead answer
+        → (t : Told) (history : List Transaction) → D.told before ≡ Some t → (stands : Stands hash (seen t) history)
+        → IfOk result (λ r. IsAtRest D.told hash history stands.batches r.journal) }
+    ensures found { (hash : Hash) (before : D) → AreFilesOpened hash D.told D.faults before ahead answer
+        → IfOk result (λ r. IsOneHistory hash r.found) }
+    ensures fresh { (hash : Hash) (before : D) → IsLong hash → AreFilesOpened hash D.told D.faults before ahead answer
+        → IfOk result (λ r. (r.journal.failures ≡ 0) × (r.journal.batch.step ≡ Idle)) }
+    ensures failed { (hash : Hash) (before : D) → IsLong hash → AreFilesOpened hash D.told D.faults before ahead answer
+        → IfErr result (λ failed. FailsToOpen D.told D.faults hash before failed.disk failed.error) }
+    ensures left { (hash : Hash) (before : D) → AreFilesOpened hash D.told D.faults before ahead answer → (t : Told) → D.told before ≡ Some t
+        → IfErr result (λ failed. WasLeft hash failed.error t (D.told failed.disk)) }
+{
+    let opened = match answer {
         Ok(opened) => opened,
         Err(error) => {
             let disk = ahead.into_disk();

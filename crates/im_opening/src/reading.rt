@@ -1,28 +1,27 @@
-ghost use Rattle.std.specs.Prelude.{◌≡◌, ◌≤◌, ◌*◌, length, Some, IfOk, IfSome};
-ghost use Rattle.im_clog.specs.Marks.{IsUncounted};
+ghost use Rattle.std.specs.Prelude.{◌≡◌, ◌*◌, Some, IfOk, IfSome};
+ghost use Rattle.im_digest.specs.Digests.{Hash};
+ghost use Rattle.im_disk.specs.Causes.{HasCause};
 ghost use Rattle.im_disk.specs.Disk.{Told, seen};
 ghost use Rattle.im_format.specs.Damages.{image_checks};
 ghost use Rattle.im_opening.specs.Answers.{HasOpenCause, Judges};
-ghost use Rattle.im_opening.specs.Opening.{AreBatches, AreGrouped, IsGivenBy};
-ghost use Rattle.im_disk.specs.Causes.{HasCause};
-ghost use Rattle.im_record.specs.Slots.{HaveLengths};
-ghost use Rattle.im_opening.specs.Parts.{Shows};
+ghost use Rattle.im_opening.specs.Opening.{IsGivenBy};
 ghost use Rattle.im_opening.specs.Reach.{Fits, IsWholeProgress};
+ghost use Rattle.im_opening.specs.Stretches.{opened_as};
+ghost use Rattle.im_record.specs.Slots.{HaveLengths};
 
-use crate::batches::read_batch;
 use crate::ends::end_of;
 use crate::errors::OpenError;
 use crate::found::FoundHistory;
-use crate::records::Progress;
 use crate::source::RecordSource;
+use crate::stretches::{BatchesRead, read_batches, read_batches_on};
 use im_alog::reading::read_all;
-use im_atree::trees::Tree;
-use im_clog::marks::{Mark, Uncounted, batch_at};
+use im_clog::marks::Uncounted;
 use im_digest::Hash32;
 use im_disk::disk::{Disk, DiskError};
-use im_format::files::{BATCH_OCTETS, COMMIT_LOG, FIRST_VALUE_LOG, TRANSACTION_LOG};
+use im_format::files::{COMMIT_LOG, FIRST_VALUE_LOG, TRANSACTION_LOG};
 use im_journal::ends::Ends;
 use std::alloc::Global;
+use std::thread::Threads;
 
 /// The files as they were read: the history of the batches that count, and where these end.
 #[derive(Drop)]
@@ -35,70 +34,6 @@ pub struct Opened {
     pub ends: Ends,
     /// Why no batch counts at that gate.
     pub behind: Uncounted,
-}
-
-// The batches that count, by their records, and why none counts behind them.
-#[derive(Drop)]
-struct BatchesRead {
-    progress: Progress,
-    gate: usize,
-    batches: u64,
-    behind: Uncounted,
-}
-
-// Reads the batches that count, from the first one on.
-fn read_batches<D: Disk, H: Hash32>(
-    alloc: Global,
-    hash: &H,
-    disk: &mut D,
-    commits: &[u8],
-    source: &RecordSource,
-) -> Result<BatchesRead, OpenError>
-    requires shows { IfSome (D.told disk.old) (λ t. Shows (seen t) source.now.log.now source.now.lengths) }
-    requires commits { IfSome (D.told disk.old) (λ t. commits.now ≡ seen t 1) }
-    ensures fits { IfOk result (λ read. Fits (H.digest hash.now) read.progress) }
-    ensures whole { IfOk result (λ read. IsWholeProgress (H.digest hash.now) read.progress) }
-    ensures grouped { IfOk result (λ read. AreGrouped read.progress.records.items read.batches) }
-    ensures gate { IfOk result (λ read. read.gate ≡ 25 * read.batches) }
-    ensures few { IfOk result (λ read. read.batches ≤ 1048576) }
-    ensures reaches { IfOk result (λ read. read.gate ≤ length commits.now) }
-    ensures within { IfOk result (λ read. read.progress.place ≤ length source.now.log.now) }
-    ensures behind { IfOk result (λ read. IsUncounted commits.now read.gate read.behind) }
-    ensures read { (t : Told) → D.told disk.old ≡ Some t
-        → IfOk result (λ read. AreBatches (seen t) read.progress.records.items read.batches read.progress.place) }
-    ensures first { (t : Told) → D.told disk.old ≡ Some t
-        → Judges (image_checks (H.digest hash.now) (seen t)) result }
-    ensures told { D.told disk.new ≡ D.told disk.old }
-    ensures cause { HasOpenCause (D.faults disk.old) (D.faults disk.new) result }
-{
-    let mut progress = Progress {
-        records: Vec::new(alloc),
-        headers: Vec::new(alloc),
-        alhs: Vec::new(alloc),
-        bl: 0,
-        bl_root: [0; 32],
-        tree: Tree::new(alloc),
-        place: 0,
-    };
-    let mut gate = 0;
-    let mut batches = 0;
-    'batches: loop {
-        match batch_at(commits, gate) {
-            Ok(mark) => {
-                read_batch(alloc, hash, disk, source, &mark, gate as u64, &mut progress)?;
-                gate += BATCH_OCTETS;
-                batches += 1;
-            }
-            Err(behind) => {
-                return Ok(BatchesRead {
-                    progress,
-                    gate,
-                    batches,
-                    behind,
-                });
-            }
-        }
-    }
 }
 
 // The lengths of the value logs.
@@ -114,24 +49,11 @@ fn log_lengths<D: Disk>(disk: &mut D) -> Result<[u64; 4], DiskError>
     Ok([first, second, third, fourth])
 }
 
-// Reads the batches that count, of these octets of the two logs.
-fn read_logs<D: Disk, H: Hash32>(
-    alloc: Global,
-    hash: &H,
-    disk: &mut D,
-    commits: &[u8],
-    log: &[u8],
-) -> Result<Opened, OpenError>
-    requires commits { IfSome (D.told disk.old) (λ t. commits.now ≡ seen t 1) }
-    requires log { IfSome (D.told disk.old) (λ t. log.now ≡ seen t 0) }
-    ensures given { IfOk result (IsGivenBy (H.digest hash.now) (D.told disk.old)) }
-    ensures first { (t : Told) → D.told disk.old ≡ Some t → Judges (image_checks (H.digest hash.now) (seen t)) result }
-    ensures told { D.told disk.new ≡ D.told disk.old }
-    ensures cause { HasOpenCause (D.faults disk.old) (D.faults disk.new) result }
+// The files as they were read, by all batches that count.
+fn opened_of(read: BatchesRead) -> Opened
+    ensures { (hash : Hash) → Fits hash read.progress → IsWholeProgress hash read.progress → read.gate ≡ 25 * read.batches
+        → result ≡ opened_as read }
 {
-    let lengths = log_lengths(disk)?;
-    let source = RecordSource { log, lengths };
-    let read = read_batches(alloc, hash, disk, commits, &source)?;
     let BatchesRead {
         progress,
         gate,
@@ -155,12 +77,55 @@ fn read_logs<D: Disk, H: Hash32>(
         alhs: progress.alhs,
         tree: progress.tree,
     };
-    Ok(Opened {
+    Opened {
         found,
         batches,
         ends,
         behind,
-    })
+    }
+}
+
+// Reads the batches that count, of these octets of the two logs.
+fn read_logs<D: Disk, H: Hash32>(
+    alloc: Global,
+    hash: &H,
+    disk: &mut D,
+    commits: &[u8],
+    log: &[u8],
+) -> Result<Opened, OpenError>
+    requires commits { IfSome (D.told disk.old) (λ t. commits.now ≡ seen t 1) }
+    requires log { IfSome (D.told disk.old) (λ t. log.now ≡ seen t 0) }
+    ensures given { IfOk result (IsGivenBy (H.digest hash.now) (D.told disk.old)) }
+    ensures first { (t : Told) → D.told disk.old ≡ Some t → Judges (image_checks (H.digest hash.now) (seen t)) result }
+    ensures told { D.told disk.new ≡ D.told disk.old }
+    ensures cause { HasOpenCause (D.faults disk.old) (D.faults disk.new) result }
+{
+    let lengths = log_lengths(disk)?;
+    let source = RecordSource { log, lengths };
+    let read = read_batches(alloc, hash, disk, commits, &source)?;
+    Ok(opened_of(read))
+}
+
+// The same, where several threads hash ahead.
+fn read_logs_on<R: Threads + Sync, D: Disk, H: Hash32 + Sync>(
+    rt: &R,
+    alloc: Global,
+    hash: &H,
+    disk: &mut D,
+    commits: &[u8],
+    log: &[u8],
+) -> Result<Opened, OpenError>
+    requires commits { IfSome (D.told disk.old) (λ t. commits.now ≡ seen t 1) }
+    requires log { IfSome (D.told disk.old) (λ t. log.now ≡ seen t 0) }
+    ensures given { IfOk result (IsGivenBy (H.digest hash.now) (D.told disk.old)) }
+    ensures first { (t : Told) → D.told disk.old ≡ Some t → Judges (image_checks (H.digest hash.now) (seen t)) result }
+    ensures told { D.told disk.new ≡ D.told disk.old }
+    ensures cause { HasOpenCause (D.faults disk.old) (D.faults disk.new) result }
+{
+    let lengths = log_lengths(disk)?;
+    let source = RecordSource { log, lengths };
+    let read = read_batches_on(rt, alloc, hash, disk, commits, &source)?;
+    Ok(opened_of(read))
 }
 
 /// Reads the files and checks them. Nothing is written.
@@ -187,4 +152,21 @@ pub fn read_files<D: Disk, H: Hash32>(
     let commits = read_all(alloc, disk, COMMIT_LOG)?;
     let log = read_all(alloc, disk, TRANSACTION_LOG)?;
     read_logs(alloc, hash, disk, commits.as_slice(), log.as_slice())
+}
+
+/// Reads the files and checks them, as `read_files` does and with its answer, where several threads hash ahead of the reading.
+pub(crate) fn read_files_on<R: Threads + Sync, D: Disk, H: Hash32 + Sync>(
+    rt: &R,
+    alloc: Global,
+    hash: &H,
+    disk: &mut D,
+) -> Result<Opened, OpenError>
+    ensures given { IfOk result (IsGivenBy (H.digest hash.now) (D.told disk.old)) }
+    ensures first { (t : Told) → D.told disk.old ≡ Some t → Judges (image_checks (H.digest hash.now) (seen t)) result }
+    ensures told { D.told disk.new ≡ D.told disk.old }
+    ensures cause { HasOpenCause (D.faults disk.old) (D.faults disk.new) result }
+{
+    let commits = read_all(alloc, disk, COMMIT_LOG)?;
+    let log = read_all(alloc, disk, TRANSACTION_LOG)?;
+    read_logs_on(rt, alloc, hash, disk, commits.as_slice(), log.as_slice())
 }

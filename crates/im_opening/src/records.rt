@@ -1,16 +1,21 @@
-ghost use Rattle.std.specs.Prelude.{◌≡◌, ◌≤◌, ◌<◌, ◌+◌, length, map, take, Some, IfOk, OnOk, IfSome};
+ghost use Rattle.std.specs.Prelude.{◌≡◌, ◌≤◌, ◌<◌, ◌+◌, length, map, take, List, Some, IfErr, IfOk, OnOk, IfSome};
 ghost use Rattle.im_disk.specs.Disk.{Told, seen};
 ghost use Rattle.im_format.specs.Damages.{record_checks, records_checks};
 ghost use Rattle.im_levels.specs.Leveled.{IsLeveled};
 ghost use Rattle.im_model.specs.Entries.{entry_digest};
 ghost use Rattle.im_model.specs.History.{IsTransaction, bl_root_of, next_header};
+ghost use Rattle.im_format.specs.declared.damages.Damage.{Damage};
+ghost use Rattle.im_mtree.specs.Checks.{Check};
 ghost use Rattle.im_opening.specs.Answers.{HasOpenCause, Judges};
+ghost use Rattle.im_opening.specs.Facts.{IsKnown};
 ghost use Rattle.im_opening.specs.Parts.{Shows};
 ghost use Rattle.im_opening.specs.Reach.{AreMore, Fits, IsOneMore, IsWholeProgress, reached_of};
 
 use crate::errors::OpenError;
+use crate::known::Known;
 use crate::source::RecordSource;
 use crate::transactions::{TransactionRead, read_transaction};
+use crate::windows::Window;
 use im_atree::trees::Tree;
 use im_digest::{D32, Hash32};
 use im_disk::disk::Disk;
@@ -80,8 +85,8 @@ fn header_behind<H: Hash32>(
     next_header(alloc, hash, progress.alhs.as_slice(), bl_root, tx, eh)
 }
 
-/// Reads the next record, with the values of its transaction.
-pub(crate) fn read_record<D: Disk, H: Hash32>(
+// Reads the next record, with the values of its transaction.
+fn read_record<D: Disk, H: Hash32>(
     alloc: Global,
     hash: &H,
     disk: &mut D,
@@ -131,13 +136,45 @@ pub(crate) fn read_record<D: Disk, H: Hash32>(
     Ok(())
 }
 
-/// Reads so many records that follow each other.
+// Reads the next record, as `read_record` does, with the digests that a window has.
+fn read_known<D: Disk, H: Hash32>(
+    alloc: Global,
+    hash: &H,
+    disk: &mut D,
+    source: &RecordSource,
+    window: &Window,
+    progress: &mut Progress,
+) -> Result<(), OpenError>
+    requires shows { IfSome (D.told disk.old) (λ t. Shows (seen t) source.now.log.now source.now.lengths) }
+    requires place { progress.old.place ≤ length source.now.log.now }
+    requires few { length progress.old.alhs.items < 1048576 }
+    requires fits { Fits (H.digest hash.now) progress.old }
+    requires whole { IsWholeProgress (H.digest hash.now) progress.old }
+    requires known { IsKnown (H.digest hash.now) window.now }
+    ensures within { OnOk result (progress.new.place ≤ length source.now.log.now) }
+    ensures more { OnOk result (length progress.new.alhs.items ≡ length progress.old.alhs.items + 1) }
+    ensures fits { OnOk result (Fits (H.digest hash.now) progress.new) }
+    ensures whole { OnOk result (IsWholeProgress (H.digest hash.now) progress.new) }
+    ensures read { (t : Told) → D.told disk.old ≡ Some t
+        → OnOk result (IsOneMore (H.digest hash.now) (seen t) progress.old progress.new) }
+    ensures first { (t : Told) → D.told disk.old ≡ Some t
+        → Judges (record_checks (H.digest hash.now) (seen t) (reached_of progress.old)) result }
+    ensures told { D.told disk.new ≡ D.told disk.old }
+    ensures cause { HasOpenCause (D.faults disk.old) (D.faults disk.new) result }
+{
+    let near = window.near_of(progress.alhs.len() as u64);
+    let known = Known::of(hash, near, &window.far);
+    read_record(alloc, &known, disk, source, progress)
+}
+
+/// Reads so many records that follow each other, with the digests that a window has.
 pub(crate) fn read_records<D: Disk, H: Hash32>(
     alloc: Global,
     hash: &H,
     disk: &mut D,
     source: &RecordSource,
     count: u64,
+    window: &Window,
     progress: &mut Progress,
 ) -> Result<(), OpenError>
     requires shows { IfSome (D.told disk.old) (λ t. Shows (seen t) source.now.log.now source.now.lengths) }
@@ -145,6 +182,7 @@ pub(crate) fn read_records<D: Disk, H: Hash32>(
     requires few { length progress.old.alhs.items + count ≤ 1048576 }
     requires fits { Fits (H.digest hash.now) progress.old }
     requires whole { IsWholeProgress (H.digest hash.now) progress.old }
+    requires known { IsKnown (H.digest hash.now) window.now }
     ensures within { OnOk result (progress.new.place ≤ length source.now.log.now) }
     ensures more { OnOk result (length progress.new.alhs.items ≡ length progress.old.alhs.items + count) }
     ensures fits { OnOk result (Fits (H.digest hash.now) progress.new) }
@@ -157,7 +195,7 @@ pub(crate) fn read_records<D: Disk, H: Hash32>(
     ensures cause { HasOpenCause (D.faults disk.old) (D.faults disk.new) result }
 {
     for _i in 0..count {
-        read_record(alloc, hash, disk, source, progress)?;
+        read_known(alloc, hash, disk, source, window, progress)?;
     }
     Ok(())
 }

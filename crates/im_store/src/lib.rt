@@ -19,7 +19,7 @@
 //! pub fn run<H: Hash32 + Sync, D: Disk + Send, C: Clock + Drop + Send, R: Threads + Wait + Sync>(
 //!     rt: &R, alloc: Global, hash: &H, disk: D, clock: C, one: Prepared, two: Prepared,
 //! ) -> Option<D> {
-//!     let Ok(opened) = open::<H, D, C, Free>(alloc, hash, disk, clock, 1) else {
+//!     let Ok(opened) = open::<R, H, D, C, Free>(rt, alloc, hash, disk, clock, 1) else {
 //!         return None;
 //!     };
 //!     serve::<H, D, C, Brand, R>(rt, alloc, opened, one, two)

@@ -13,11 +13,12 @@ use im_edge::clock::Clock;
 use im_journal::journal::Journal;
 use im_opening::errors::OpenError;
 use im_opening::found::FoundHistory;
-use im_opening::opening::{OpenFailed as NotRecovered, Recovered, open as recover};
+use im_opening::opening::{OpenFailed as NotRecovered, Recovered, open_on as recover};
 use im_table::law::Law;
 use im_table::tip::Tip;
 use std::alloc::Global;
 use std::marker::Model;
+use std::thread::Threads;
 
 mod found;
 mod naming;
@@ -100,14 +101,15 @@ impl<'h, H: Hash32, D: Disk, C: Clock, L: Law> Opened<'h, H, D, C, L> {
 /// that is found, and gives a store that has no name yet: `Opened::named`.
 ///
 /// The disk gets that first sync, and the closing of the gate behind the batches that reads give then, where it was missing or cut off: no
-/// other call that changes it. Each value, entry and leaf is hashed once, and each header twice; each key and each value is copied once
-/// more, into the index.
+/// other call that changes it. Each value, entry and leaf is hashed, and each header twice, most of them by threads that hash ahead of the
+/// reading (`open_on` of im_opening says what that takes). Each key and each value is copied once more, into the index.
 ///
 /// # Errors
 ///
 /// `Damaged` exactly where the files stand for no history: it tells the first place that doesn't hold what it should, in reading order.
 /// `DiskFault` only where the disk failed in this call. `Memory`. The disk and the clock come back.
-pub fn open<'h, H: Hash32, D: Disk, C: Clock, L: Law>(
+pub fn open<'h, R: Threads + Sync, H: Hash32 + Sync, D: Disk, C: Clock, L: Law>(
+    rt: &R,
     alloc: Global,
     hash: &'h H,
     disk: D,
@@ -121,7 +123,7 @@ pub fn open<'h, H: Hash32, D: Disk, C: Clock, L: Law>(
     ensures failed { IfErr result (λ failed. FailsToOpen D.told D.faults (H.digest hash.now) disk failed.disk failed.why) }
     ensures back { IfErr result (λ failed. failed.clock ≡ clock) }
 {
-    match recover(alloc, hash, disk) {
+    match recover(rt, alloc, hash, disk) {
         Ok(recovered) => {
             let Recovered { journal, found } = recovered;
             opened_over(alloc, hash, journal, found, clock, logs)

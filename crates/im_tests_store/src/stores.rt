@@ -25,6 +25,7 @@ use std::alloc::{AllocError, Global};
 use std::marker::Brand;
 use std::sync::Wait;
 use std::test::Fail;
+use std::thread::Threads;
 
 pub(crate) type Open<'h> = Opened<'h, Sum, MemDisk, FixedClock, Free>;
 
@@ -77,9 +78,14 @@ fn halt_of(committed: Result<Receipt, CommitError>) -> Option<(u64, Option<u64>)
 }
 
 // An empty disk whose changing calls of these numbers fail, opened.
-pub(crate) fn opened<'h>(alloc: Global, hash: &'h Sum, failing: &[u64]) -> Result<Open<'h>, Fail> {
+pub(crate) fn opened<'h, R: Threads + Sync>(
+    rt: &R,
+    alloc: Global,
+    hash: &'h Sum,
+    failing: &[u64],
+) -> Result<Open<'h>, Fail> {
     let disk = MemDisk::new(alloc, Vec::from_slice(alloc, failing)?)?;
-    match open(alloc, hash, disk, FixedClock { time: 0 }, 1) {
+    match open(rt, alloc, hash, disk, FixedClock { time: 0 }, 1) {
         Ok(opened) => Ok(opened),
         Err(failed) => {
             drop(failed);
@@ -186,9 +192,9 @@ fn one_thread<N: TipName, R: Wait>(
     Ok(first && tip && settled && grown && proved && read && calls)
 }
 
-fn run_one<R: Wait>(rt: &R, alloc: Global) -> Result<bool, Fail> {
+fn run_one<R: Threads + Wait + Sync>(rt: &R, alloc: Global) -> Result<bool, Fail> {
     let set = setting(alloc, b"k", b"v", Vec::new(alloc))?;
-    one_thread::<Brand, R>(rt, alloc, opened(alloc, &Sum, &[])?, set)
+    one_thread::<Brand, R>(rt, alloc, opened(rt, alloc, &Sum, &[])?, set)
 }
 
 #[test]
@@ -221,10 +227,10 @@ fn halts<N: TipName, R: Wait>(
     Ok(fault && stopped && settle && beyond && failed)
 }
 
-fn run_halts<R: Wait>(rt: &R, alloc: Global) -> Result<bool, Fail> {
+fn run_halts<R: Threads + Wait + Sync>(rt: &R, alloc: Global) -> Result<bool, Fail> {
     let one = setting(alloc, b"k", b"v", Vec::new(alloc))?;
     let two = setting(alloc, b"l", b"w", Vec::new(alloc))?;
-    halts::<Brand, R>(rt, alloc, opened(alloc, &Sum, &[8])?, one, two)
+    halts::<Brand, R>(rt, alloc, opened(rt, alloc, &Sum, &[8])?, one, two)
 }
 
 #[test]
@@ -278,7 +284,7 @@ fn leaves<N: TipName, R: Wait>(
 // one whose gate isn't made durable, and one that is.
 const GATES: [(u64, u64, u8); 3] = [(8, 8, 0), (9, 9, 1), (0, 9, 1)];
 
-fn run_leaves<R: Wait>(
+fn run_leaves<R: Threads + Wait + Sync>(
     rt: &R,
     alloc: Global,
     fails: u64,
@@ -289,7 +295,7 @@ fn run_leaves<R: Wait>(
     leaves::<Brand, R>(
         rt,
         alloc,
-        opened(alloc, &Sum, &[fails])?,
+        opened(rt, alloc, &Sum, &[fails])?,
         set,
         fails > 0,
         calls,

@@ -136,7 +136,7 @@ fn run_two<R: Threads + Wait + Sync>(
 ) -> Result<[u64; 4], Fail> {
     let one = new_key(alloc, b'k')?;
     let two = new_key(alloc, key)?;
-    two_threads::<Brand, R>(rt, alloc, opened(alloc, &Sum, &[fails])?, one, two)
+    two_threads::<Brand, R>(rt, alloc, opened(rt, alloc, &Sum, &[fails])?, one, two)
 }
 
 // The key that is asked for beside k; the call that fails, or none (0); the numbers of both receipts, in either order, of which the greater is

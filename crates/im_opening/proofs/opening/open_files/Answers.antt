@@ -26,16 +26,16 @@ returns-in_err-sync-clause-moments g c t history is stands =
 pub returns-in_err-opened-clause-moments : goal.returns-in_err-opened-clause-moments
 returns-in_err-opened-clause-moments g c t history is stands =
     let synced = synced-told (g.D.Disk.told c.args.disk.now) (g.D.Disk.told c.sync.new.disk) t c.in_ok-sync.ensures.ok is in
-    inr (inr (rest-leaves (g.H.Hash32.digest c.args.hash.now) history t (g.D.Disk.told c.read_files.new.disk) stands (c.in_err-opened.ensures.told ∙ synced)))
+    inr (inr (rest-leaves (g.H.Hash32.digest c.args.hash.now) history t (g.D.Disk.told c.read.new.arg3) stands ((c.requires.reads _ _ _ _ c.in_err-opened.ensures).told_is ∙ synced)))
 
 pub returns-in_err-repair-clause-moments : goal.returns-in_err-repair-clause-moments
 returns-in_err-repair-clause-moments g c t history is stands =
     let hash = g.H.Hash32.digest c.args.hash.now in
     let synced = synced-told (g.D.Disk.told c.args.disk.now) (g.D.Disk.told c.sync.new.disk) t c.in_ok-sync.ensures.ok is in
-    let told = c.in_ok-opened.ensures.told ∙ synced in
-    let read : IsRead hash (seen t) c.in_ok-opened.opened = c.in_ok-opened.ensures.given.read (after Synced t) synced in
+    let told = (c.requires.reads _ _ _ _ c.in_ok-opened.ensures).told_is ∙ synced in
+    let read : IsRead hash (seen t) c.in_ok-opened.opened = (c.requires.reads _ _ _ _ c.in_ok-opened.ensures).given.read (after Synced t) synced in
     let long : Has32 hash = record { long = g.met.H.Hash32.size c.args.hash.now } in
-    inr (inr (repaired-leaves hash history t (g.D.Disk.told c.read_files.new.disk) (g.D.Disk.told c.repair.new.disk) told
+    inr (inr (repaired-leaves hash history t (g.D.Disk.told c.read.new.arg3) (g.D.Disk.told c.repair.new.disk) told
     (stands-once hash (seen t) (history_in (seen t)) history long read.stands stands)
     (c.in_err-repair.ensures.leaves hash (after Synced t) told (λ image now. now) read)))
 
@@ -45,7 +45,7 @@ returns-clause-opened g c =
     let was = g.D.Disk.told c.args.disk.now in
     let mid = g.D.Disk.told c.sync.new.disk in
     let opened = c.in_ok-opened.opened in
-    let given = c.in_ok-opened.ensures.given in
+    let given = (c.requires.reads _ _ _ _ c.in_ok-opened.ensures).given in
     let long : Has32 hash = record { long = g.met.H.Hash32.size c.args.hash.now } in
     let synced : (t : Told) → was ≡ Some t → mid ≡ Some (after Synced t) = λ t is. synced-told was mid t c.in_ok-sync.ensures.ok is in
     let f : Told → Told = repaired opened.behind (gate_of opened.batches) in
@@ -60,15 +60,15 @@ returns-clause-opened g c =
       };
       calls =
           c.in_ok-repair.ensures.calls
-          ∙ ap (λ (m : Option Told). option_map f m) (c.in_ok-opened.ensures.told ∙ c.in_ok-sync.ensures.ok)
+          ∙ ap (λ (m : Option Told). option_map f m) ((c.requires.reads _ _ _ _ c.in_ok-opened.ensures).told_is ∙ c.in_ok-sync.ensures.ok)
           ∙ map-told f (after Synced) was;
       kept = λ t is.
-          c.in_ok-repair.ensures.kept hash (after Synced t) (c.in_ok-opened.ensures.told ∙ synced t is) (λ image now. now)
+          c.in_ok-repair.ensures.kept hash (after Synced t) ((c.requires.reads _ _ _ _ c.in_ok-opened.ensures).told_is ∙ synced t is) (λ image now. now)
           (given.read (after Synced t) (synced t is)) (given.there (after Synced t) (synced t is));
       moments = λ t history is stands.
-          (let told = c.in_ok-opened.ensures.told ∙ synced t is in
+          (let told = (c.requires.reads _ _ _ _ c.in_ok-opened.ensures).told_is ∙ synced t is in
           let read : IsRead hash (seen t) opened = given.read (after Synced t) (synced t is) in
-          repaired-leaves hash history t (g.D.Disk.told c.read_files.new.disk) (g.D.Disk.told c.repair.new.disk) told
+          repaired-leaves hash history t (g.D.Disk.told c.read.new.arg3) (g.D.Disk.told c.repair.new.disk) told
           (stands-once hash (seen t) (history_in (seen t)) history long read.stands stands)
           (c.in_ok-repair.ensures.leaves hash (after Synced t) told (λ image now. now) read));
     }
@@ -79,7 +79,7 @@ returns-clause-moments g c t history is stands = inr (inr ((returns-clause-opene
 pub returns-clause-first : goal.returns-clause-first
 returns-clause-first g c t is = record {
   is =
-      (c.in_ok-opened.ensures.first (after Synced t)
+      ((c.requires.reads _ _ _ _ c.in_ok-opened.ensures).first (after Synced t)
       (synced-told (g.D.Disk.told c.args.disk.now) (g.D.Disk.told c.sync.new.disk) t c.in_ok-sync.ensures.ok is)).is;
 }
 
@@ -92,17 +92,17 @@ returns-in_err-sync-clause-left g c t is =
 pub returns-in_err-opened-clause-left : goal.returns-in_err-opened-clause-left
 returns-in_err-opened-clause-left g c t is =
     let hash = g.H.Hash32.digest c.args.hash.now in
-    let now = g.D.Disk.told c.read_files.new.disk in
+    let now = g.D.Disk.told c.read.new.arg3 in
     if-err (λ e. WasLeft hash e t now) c.from_residual-in_err-opened.result c.in_err-opened.field-0.0 c.from_residual-in_err-opened.ensures.1
     (read-left hash c.in_err-opened.field-0.0 t now
-    (c.in_err-opened.ensures.told ∙ synced-told (g.D.Disk.told c.args.disk.now) (g.D.Disk.told c.sync.new.disk) t c.in_ok-sync.ensures.ok is))
+    ((c.requires.reads _ _ _ _ c.in_err-opened.ensures).told_is ∙ synced-told (g.D.Disk.told c.args.disk.now) (g.D.Disk.told c.sync.new.disk) t c.in_ok-sync.ensures.ok is))
 
 pub returns-in_err-repair-clause-left : goal.returns-in_err-repair-clause-left
 returns-in_err-repair-clause-left g c t is =
     let hash = g.H.Hash32.digest c.args.hash.now in
     let synced = synced-told (g.D.Disk.told c.args.disk.now) (g.D.Disk.told c.sync.new.disk) t c.in_ok-sync.ensures.ok is in
-    let told = c.in_ok-opened.ensures.told ∙ synced in
-    let read : IsRead hash (seen t) c.in_ok-opened.opened = c.in_ok-opened.ensures.given.read (after Synced t) synced in
+    let told = (c.requires.reads _ _ _ _ c.in_ok-opened.ensures).told_is ∙ synced in
+    let read : IsRead hash (seen t) c.in_ok-opened.opened = (c.requires.reads _ _ _ _ c.in_ok-opened.ensures).given.read (after Synced t) synced in
     let opened = c.in_ok-opened.opened in
     let same : opened.batches ≡ length read.stands.batches =
     batches-same hash (history_in (seen t)) (seen t) opened.batches read.stands read.batches.batches_are
@@ -113,7 +113,7 @@ returns-in_err-repair-clause-left g c t is =
     (stopped-left hash error t (g.D.Disk.told c.repair.new.disk) (
       history_in (seen t),
       read.stands,
-      repaired-leaves hash (history_in (seen t)) t (g.D.Disk.told c.read_files.new.disk) (g.D.Disk.told c.repair.new.disk) told refl
+      repaired-leaves hash (history_in (seen t)) t (g.D.Disk.told c.read.new.arg3) (g.D.Disk.told c.repair.new.disk) told refl
           (c.in_err-repair.ensures.leaves hash (after Synced t) told (λ image now. now) read),
       subst H same (opened.behind, read.behind_is, c.in_err-repair.ensures.half (after Synced t) told),
     ))
@@ -127,24 +127,24 @@ pub returns-in_err-opened-clause-grows : goal.returns-in_err-opened-clause-grows
 returns-in_err-opened-clause-grows g c =
     let a = g.D.Disk.told c.args.disk.now in
     let b = g.D.Disk.told c.sync.new.disk in
-    let d = g.D.Disk.told c.read_files.new.disk in
+    let d = g.D.Disk.told c.read.new.arg3 in
     let first : Grows a b = grows_by_answer Synced Missed a b c.sync.result c.sync.ensures.ok c.sync.ensures.failed c.sync.ensures.memory in
-    grows_both a b d first (grows_same b d c.in_err-opened.ensures.told)
+    grows_both a b d first (grows_same b d (c.requires.reads _ _ _ _ c.in_err-opened.ensures).told_is)
 
 pub returns-in_err-repair-clause-grows : goal.returns-in_err-repair-clause-grows
 returns-in_err-repair-clause-grows g c =
     let a = g.D.Disk.told c.args.disk.now in
     let b = g.D.Disk.told c.sync.new.disk in
-    let d = g.D.Disk.told c.read_files.new.disk in
+    let d = g.D.Disk.told c.read.new.arg3 in
     let e = g.D.Disk.told c.repair.new.disk in
     let first : Grows a b = grows_by_answer Synced Missed a b c.sync.result c.sync.ensures.ok c.sync.ensures.failed c.sync.ensures.memory in
-    grows_both a d e (grows_both a b d first (grows_same b d c.in_ok-opened.ensures.told)) c.in_err-repair.ensures.grows
+    grows_both a d e (grows_both a b d first (grows_same b d (c.requires.reads _ _ _ _ c.in_ok-opened.ensures).told_is)) c.in_err-repair.ensures.grows
 
 pub returns-clause-grows : goal.returns-clause-grows
 returns-clause-grows g c =
     let a = g.D.Disk.told c.args.disk.now in
     let b = g.D.Disk.told c.sync.new.disk in
-    let d = g.D.Disk.told c.read_files.new.disk in
+    let d = g.D.Disk.told c.read.new.arg3 in
     let e = g.D.Disk.told c.repair.new.disk in
     let first : Grows a b = grows_by_answer Synced Missed a b c.sync.result c.sync.ensures.ok c.sync.ensures.failed c.sync.ensures.memory in
-    grows_both a d e (grows_both a b d first (grows_same b d c.in_ok-opened.ensures.told)) c.in_ok-repair.ensures.grows
+    grows_both a d e (grows_both a b d first (grows_same b d (c.requires.reads _ _ _ _ c.in_ok-opened.ensures).told_is)) c.in_ok-repair.ensures.grows

@@ -11,11 +11,11 @@ loop-i-preserved g c =
     let inv = c.loop-i.invariant in
     let first = c.args.progress.now in
     let now = c.loop-i.progress in
-    let next = c.read_record.new.progress in
-    let ens = c.in_ok-read_record.ensures in
+    let next = c.read_known.new.progress in
+    let ens = c.in_ok-read_known.ensures in
     record {
       told = ens.told ∙ inv.told;
-      faults = ok-leaves _ _ c.in_ok-read_record.field-0 ens.cause ∙ inv.faults;
+      faults = ok-leaves _ _ c.in_ok-read_known.field-0 ens.cause ∙ inv.faults;
       place = ens.within;
       many = omega (arith, ens.more, inv.many);
       fits = ens.fits;
@@ -26,15 +26,15 @@ loop-i-preserved g c =
           next.records.items (reached_of next) (inv.left t is) c.loop-i-test.true (ens.read t told).records_are (ens.read t told).reached_is (ens.first t told).is;
     }
 
-pub returns-in_err-read_record-clause-first : goal.returns-in_err-read_record-clause-first
-returns-in_err-read_record-clause-first g c t is =
+pub returns-in_err-read_known-clause-first : goal.returns-in_err-read_known-clause-first
+returns-in_err-read_known-clause-first g c t is =
     let hash = g.H.Hash32.digest c.args.hash.now in
     let inv = c.loop-i.invariant in
     let first = c.args.progress.now in
     let now = c.loop-i.progress in
-    judge-err _ _ c.in_err-read_record.field-0.0 c.from_residual.ensures.1
+    judge-err _ _ c.in_err-read_known.field-0.0 c.from_residual.ensures.1
     (records-tell hash (seen t) c.args.count first.records.items (reached_of first) c.loop-i._i now.records.items (reached_of now)
-    c.in_err-read_record.field-0.0 (inv.left t is) c.loop-i-test.true (c.in_err-read_record.ensures.first t (inv.told ∙ is)).is)
+    c.in_err-read_known.field-0.0 (inv.left t is) c.loop-i-test.true (c.in_err-read_known.ensures.first t (inv.told ∙ is)).is)
 
 pub returns-clause-first : goal.returns-clause-first
 returns-clause-first g c t is =

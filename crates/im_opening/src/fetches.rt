@@ -1,0 +1,123 @@
+ghost use Rattle.std.specs.Prelude.{◌≡◌, IfSome};
+ghost use Rattle.im_disk.specs.Causes.{HasCause};
+ghost use Rattle.im_disk.specs.Disk.{seen};
+ghost use Rattle.im_opening.specs.Parts.{Shows};
+
+use crate::leads::{Fields, Lead, fields_at};
+use crate::source::RecordSource;
+use im_disk::disk::{Disk, DiskError};
+use im_format::files::{FIRST_VALUE_LOG, LAST_VALUE_LOG};
+use im_model::limits::MOST_VALUE_OCTETS;
+use std::alloc::{AllocError, Global};
+
+/// The values of records that are looked ahead at, one behind the other, and where each ends. Nothing rests on them, as on
+/// `Lead`.
+#[derive(Drop)]
+pub(crate) struct Values {
+    octets: Vec<u8>,
+    ends: Vec<usize>,
+}
+
+impl Values {
+    /// None. It takes no memory.
+    pub(crate) fn empty(alloc: Global) -> Self {
+        Values {
+            octets: Vec::new(alloc),
+            ends: Vec::new(alloc),
+        }
+    }
+
+    /// The value of this number, from 0, where it is there.
+    pub(crate) fn at(&self, number: usize) -> Option<&[u8]> {
+        let end = *self.ends.get(number)?;
+        let start = match number {
+            0 => 0,
+            _ => *self.ends.get(number - 1)?,
+        };
+        if end < start || self.octets.len() < end {
+            return None;
+        }
+        Some(&self.octets[start..end])
+    }
+
+    // Adds a value behind all others. Its only error is want of memory.
+    fn add(&mut self, octets: &[u8]) -> Result<(), AllocError> {
+        self.octets.extend_from_slice(octets)?;
+        self.ends.push(self.octets.len())?;
+        Ok(())
+    }
+}
+
+/// Reads the values of records, up to the first that doesn't lie within its log.
+pub(crate) fn fetch<D: Disk>(
+    alloc: Global,
+    disk: &mut D,
+    source: &RecordSource,
+    leads: &[Lead],
+) -> Result<Values, DiskError>
+    requires shows { IfSome (D.told disk.old) (λ t. Shows (seen t) source.now.log.now source.now.lengths) }
+    ensures told { D.told disk.new ≡ D.told disk.old }
+    ensures cause { HasCause (D.faults disk.old) (D.faults disk.new) result }
+{
+    let mut values = Values::empty(alloc);
+    for lead in leads {
+        if !fetch_record(alloc, disk, source, lead, &mut values)? {
+            break;
+        }
+    }
+    Ok(values)
+}
+
+// Reads the values of a record, and tells whether all lie within their logs.
+fn fetch_record<D: Disk>(
+    alloc: Global,
+    disk: &mut D,
+    source: &RecordSource,
+    lead: &Lead,
+    values: &mut Values,
+) -> Result<bool, DiskError>
+    requires shows { IfSome (D.told disk.old) (λ t. Shows (seen t) source.now.log.now source.now.lengths) }
+    ensures told { D.told disk.new ≡ D.told disk.old }
+    ensures cause { HasCause (D.faults disk.old) (D.faults disk.new) result }
+{
+    let mut at = lead.at.saturating_add(28);
+    for _i in 0..lead.entries {
+        let Some(fields) = fields_at(source.log, at) else {
+            return Ok(false);
+        };
+        if !fetch_value(alloc, disk, source, &fields, values)? {
+            return Ok(false);
+        }
+        at = fields.end;
+    }
+    Ok(true)
+}
+
+// Reads a value, where it lies within its log.
+fn fetch_value<D: Disk>(
+    alloc: Global,
+    disk: &mut D,
+    source: &RecordSource,
+    fields: &Fields,
+    values: &mut Values,
+) -> Result<bool, DiskError>
+    requires shows { IfSome (D.told disk.old) (λ t. Shows (seen t) source.now.log.now source.now.lengths) }
+    ensures told { D.told disk.new ≡ D.told disk.old }
+    ensures cause { HasCause (D.faults disk.old) (D.faults disk.new) result }
+{
+    if fields.log > u64::from(LAST_VALUE_LOG) || fields.len > MOST_VALUE_OCTETS as u64 {
+        return Ok(false);
+    }
+    let end = source.lengths[fields.log as usize];
+    if end < fields.place || end - fields.place < fields.len {
+        return Ok(false);
+    }
+    let mut octets = vec![in alloc; 0u8; fields.len as usize]?;
+    disk.read(
+        FIRST_VALUE_LOG + fields.log as u8,
+        fields.place,
+        &mut octets,
+    )?;
+    values.add(octets.as_slice())?;
+    Ok(true)
+}

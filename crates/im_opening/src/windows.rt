@@ -1,0 +1,83 @@
+ghost use Rattle.im_digest.specs.Digests.{Hash};
+ghost use Rattle.im_opening.specs.Facts.{AreFacts, IsKnown};
+
+use crate::facts::Facts;
+use crate::leads::Lead;
+use im_digest::D32;
+use std::alloc::Global;
+
+/// What was hashed ahead, of records that follow each other and of the tree over them.
+#[derive(Drop)]
+pub(crate) struct Window {
+    /// What they say of themselves.
+    pub leads: Vec<Lead>,
+    /// How many records are before the first.
+    pub first: u64,
+    /// How many records are before the first behind them; all, where nothing is hashed ahead any more.
+    pub until: u64,
+    /// How many of them are in a chunk.
+    pub size: u64,
+    /// What is hashed of the records of each chunk alone.
+    pub near: Vec<Facts>,
+    /// What is hashed of the tree over their Alh.
+    pub far: Facts,
+}
+
+impl Window {
+    ghost use Rattle.std.specs.Prelude.{All};
+    ghost use Rattle.im_digest.specs.Digests.{Hash};
+    ghost use Rattle.im_opening.specs.Facts.{AreFacts, IsKnown};
+
+    /// One that has nothing, before the first record.
+    pub(crate) fn empty(alloc: Global) -> Self
+        ensures { (hash : Hash) → IsKnown hash result }
+    {
+        Window {
+            leads: Vec::new(alloc),
+            first: 0,
+            until: 0,
+            size: 1,
+            near: Vec::new(alloc),
+            far: Facts::with_room(alloc, 0),
+        }
+    }
+
+    /// One that has this of these records, in chunks of this size.
+    pub(crate) fn of(leads: Vec<Lead>, size: usize, near: Vec<Facts>, far: Facts) -> Self
+        ensures { (hash : Hash) → All (λ facts. AreFacts hash facts) near.items → AreFacts hash far → IsKnown hash result }
+    {
+        let first = match leads.first() {
+            Some(lead) => lead.id.saturating_sub(1),
+            None => 0,
+        };
+        let until = match leads.last() {
+            Some(lead) => lead.id,
+            None => u64::MAX,
+        };
+        Window {
+            leads,
+            first,
+            until,
+            size: size as u64,
+            near,
+            far,
+        }
+    }
+
+    /// What was hashed of the record behind so many.
+    pub(crate) fn near_of(&self, before: u64) -> &Facts
+        ensures { (hash : Hash) → IsKnown hash self.now → AreFacts hash result.now }
+    {
+        let chunk = before.saturating_sub(self.first) / self.size.max(1);
+        match self.near.get(chunk as usize) {
+            Some(facts) => facts,
+            None => &self.far,
+        }
+    }
+
+    /// The Alh that the record behind so many says that it has, where it is one of these.
+    pub(crate) fn alh_behind(&self, before: u64) -> Option<D32> {
+        let index = before.checked_sub(self.first)?;
+        Some(self.leads.get(index as usize)?.alh)
+    }
+}
