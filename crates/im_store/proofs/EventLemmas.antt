@@ -1,21 +1,26 @@
 -- The calls of a store as steps of the machine.
-use Rattle.std.proofs.Common.{◌≡◌, ◌≤◌, ◌<◌, ◌+◌, ◌-◌, ◌++◌, ◌∷◌, [], ◌∙◌, ℕ, zero, suc, ℤ, List, Option, None, Some, length, take, slice_get, get_or, replicate, true, refl, ap, sym, subst, arith, inl}
-use Rattle.std.proofs.lemmas.List.{length-take-le, take-map, take_more}
+use Rattle.std.proofs.Common.{◌≡◌, ◌≤◌, ◌<◌, ◌+◌, ◌-◌, ◌++◌, ◌∷◌, [], ◌∙◌, ℕ, zero, suc, ℤ, List, Option, None, Some, length, map, take, slice_get, get_or, replicate, max, true, refl, ap, sym, subst, arith, inl, Bool, if◌then◌else◌}
+use Rattle.std.proofs.lemmas.Bool.{eq-eqb}
+use Rattle.std.proofs.lemmas.List.{get_or-take, length-take-le, take-map, take_more}
+use Rattle.std.specs.Prelude.{slice_index_or}
 use Rattle.im_digest.specs.Digests.{Hash}
 use Rattle.im_dual.proofs.FrontLemmas.{front-anchor, front-between}
 use Rattle.im_machine.specs.Answers.{IsShown}
-use Rattle.im_machine.specs.Machines.{Machine}
+use Rattle.im_machine.specs.Machines.{raised, Machine}
 use Rattle.im_machine.specs.Runs.{Run}
 use Rattle.im_machine.specs.Steps.{Places}
 use Rattle.im_machine.specs.declared.events.Event.TheVariants as on
 use Rattle.im_machine.specs.declared.outputs.Output.TheVariants as tells
 use Rattle.im_machine.specs.declared.questions.KeyQuestion.{KeyQuestion}
 use Rattle.im_machine.specs.declared.questions.ProofQuestion.TheVariants as asks
+use Rattle.im_machine.specs.declared.words.Word.TheVariants.{Failed, Indexed, Placed}
+use Rattle.im_model.specs.Entries.{entry_digest}
 use Rattle.im_model.specs.History.{header_of, no_transaction, transaction_of, IsHistory}
 use Rattle.im_model.specs.declared.entries.Entry.{Entry}
 use Rattle.im_model.specs.declared.transactions.Transaction.{Transaction}
 use Rattle.im_model.proofs.HeaderLemmas.{header-prefix}
-use Rattle.im_proof.specs.Between.{anchor_between, dual_between}
+use Rattle.im_proof.specs.Between.{anchor_between, dual_between, no_entry}
+use Rattle.im_proof.specs.Built.{path_of}
 use Rattle.im_proof.specs.declared.proofs.DualProof.{DualProof}
 use Rattle.im_table.specs.Histories.{history_of}
 use Rattle.im_table.specs.Known.{KnownPass}
@@ -26,7 +31,10 @@ use Rattle.im_versions.specs.Admits.{place_refusal}
 use Rattle.im_versions.specs.declared.refusals.PlaceError.{PlaceError}
 use Rattle.im_versions.specs.declared.versions.Version.{Version}
 use Rattle.im_store.specs.Commits.{HasPlaced, IsRefusedAt}
-use Rattle.im_store.specs.Events.{AreIndexSteps, AreLinkSteps, IsAckStep, IsPlaceStep, IsProveStep, IsRefusalStep, IsSnapStep}
+use Rattle.im_store.specs.Events.{AreIndexSteps, AreLinkSteps, IsAckStep, IsLoadStep, IsLookStep, IsPlaceStep, IsProveStep, IsRefusalStep, IsSnapStep}
+use Rattle.im_store.specs.Loads.{SawDurable}
+use Rattle.im_store.specs.Proving.{ProvesEntry}
+use Rattle.im_store.specs.declared.answers.ProvedEntry.{ProvedEntry}
 
 -- the transaction of an item
 got : (xs : List LogItem) (k : ℕ) (x : LogItem) (d : Transaction) → slice_get xs k ≡ Some x → get_or (history_of xs) k d ≡ x.tx
@@ -139,6 +147,32 @@ advance_event hash history s t h some order within m session shows durable =
       ),
     )
 
+-- a transaction among the first that a machine holds
+first_transaction : (history placed : List Transaction) (k n : ℕ) → 1 ≤ k → k ≤ n → take n placed ≡ take n history → transaction_of placed k ≡ transaction_of history k
+first_transaction history placed k n some order first =
+    let below : k - 1 < n = omega (arith, some, order) in
+    sym (get_or-take n placed (k - 1) no_transaction below) ∙ ap (λ (l : List Transaction). get_or l (k - 1) no_transaction) first
+    ∙ get_or-take n history (k - 1) no_transaction below
+
+pub item_event : (hash : Hash) (history : List Transaction) (number index state : ℕ) (item : ProvedEntry) → IsHistory history → 1 ≤ number → number ≤ state → state ≤ length history
+    → index < length (transaction_of history number).entries → ProvesEntry hash history number index state item
+    → IsProveStep hash history state (asks.Item number index state) (tells.Item item.dual item.entry item.path)
+item_event hash history number index state item h some order within few proves m session shows durable =
+    let same : transaction_of history number ≡ transaction_of m.placed number = sym (first_transaction history m.placed number state some order shows.first) in
+    let dual : DualProof = dual_between hash (take state m.placed) number state in
+    let entry : Entry = slice_index_or (transaction_of m.placed number).entries index no_entry in
+    let dual_is : item.dual ≡ dual = proves.dual_is ∙ first_dual hash history m.placed number state h some order within shows.first in
+    let entry_is : item.entry ≡ entry = proves.entry_is ∙ ap (λ (t : Transaction). slice_index_or t.entries index no_entry) same in
+    let path_is = proves.path_is ∙ ap (λ (t : Transaction). path_of hash (map (entry_digest hash) t.entries) index) same in
+    inl (
+      (shows.up, (record { some = some; order = order; within = durable }, subst (λ (t : Transaction). index < length t.entries) same few)),
+      (
+        ap (λ (d : DualProof). tells.Item d item.entry item.path) dual_is ∙ ap (λ (e : Entry). tells.Item dual e item.path) entry_is
+            ∙ ap (λ (p : List (List ℕ)). tells.Item dual entry p) path_is,
+        refl,
+      ),
+    )
+
 pub snap_event : (hash : Hash) (history : List Transaction) (n : ℕ) (question : KeyQuestion) (versions : List Version) → IsSnapStep hash history n question versions
 snap_event hash history n question versions m session shows indexed shown =
     inl (
@@ -166,3 +200,26 @@ indexes_run hash (suc k) m after up is durable =
 
 pub indexes_event : (hash : Hash) (before after : ℕ) → before ≤ after → AreIndexSteps hash before after
 indexes_event hash before after le m up indexed durable = indexes_run hash (after - before) m after up (omega (arith, indexed, le)) durable
+
+-- what a session is told is all that it was told, where it was told no more before
+raised_to : (sessions : ℕ → ℕ) (session n : ℕ) → sessions session ≤ n → raised sessions session n session ≡ n
+raised_to sessions session n le =
+    let most : max (sessions session) n ≡ n = omega (arith, le) in
+    ap (λ (b : Bool). if b then max (sessions session) n else sessions session) (eq-eqb session session refl) ∙ most
+
+pub load_event : (hash : Hash) (old new : KnownPass) (number : ℕ) → SawDurable old new number → IsLoadStep hash old.view.least.durable number new.view.least.durable
+load_event hash old new number saw m session up durable told =
+    let next : ℕ → Machine = λ n. record m { sessions = raised m.sessions session n } in (
+      inl (up, (ap tells.Word (sym durable), ap next (sym durable))),
+      raised_to m.sessions session number (omega (arith, told, saw.least)),
+      saw.known,
+    )
+
+pub look_placed : (hash : Hash) (number : ℕ) → IsLookStep hash Placed number
+look_placed hash number m session up is = inl (up, (ap tells.Word (sym is), refl))
+
+pub look_indexed : (hash : Hash) (number : ℕ) → IsLookStep hash Indexed number
+look_indexed hash number m session up is = inl (up, (ap tells.Word (sym is), refl))
+
+pub look_failed : (hash : Hash) (number : ℕ) → IsLookStep hash Failed number
+look_failed hash number m session up is = inl (up, (ap tells.Word (sym is), refl))

@@ -2,8 +2,8 @@
 -- the event is allowed there, and answers and leaves just that.
 use Rattle.std.specs.Prelude.{◌≡◌, ◌≤◌, ◌-◌, ℕ, ℤ, List, take, replicate, true}
 use Rattle.im_digest.specs.Digests.{Hash}
-use Rattle.im_machine.specs.Answers.{IsShown}
-use Rattle.im_machine.specs.Machines.{Machine}
+use Rattle.im_machine.specs.Answers.{word_of, IsShown}
+use Rattle.im_machine.specs.Machines.{raised, Machine}
 use Rattle.im_machine.specs.Runs.{Run}
 use Rattle.im_machine.specs.Steps.{Steps}
 use Rattle.im_machine.specs.declared.events.Event.TheVariants as on
@@ -11,6 +11,8 @@ use Rattle.im_machine.specs.declared.outputs.Output.{Output}
 use Rattle.im_machine.specs.declared.outputs.Output.TheVariants as tells
 use Rattle.im_machine.specs.declared.questions.KeyQuestion.{KeyQuestion}
 use Rattle.im_machine.specs.declared.questions.ProofQuestion.{ProofQuestion}
+use Rattle.im_machine.specs.declared.words.Word.{Word}
+use Rattle.im_machine.specs.declared.words.Word.TheVariants.{Durable}
 use Rattle.im_model.specs.History.{header_of, transaction_of}
 use Rattle.im_model.specs.declared.transactions.Transaction.{Transaction}
 use Rattle.im_tx.specs.Asked.{Asked}
@@ -61,3 +63,16 @@ abbrev pub AreIndexSteps : Hash → ℕ → ℕ → Type 0
 AreIndexSteps hash before after =
     (m : Machine) → m.up ≡ true → m.indexed ≡ before → after ≤ m.durable
     → Run hash m (replicate (after - before) on.Index) (replicate (after - before) tells.Done) (record m { indexed = after })
+
+-- Load of the word durable, by a session that was told no more than `before`: this number is told, and it is all that the session was told
+-- then, no more than `after`
+abbrev pub IsLoadStep : Hash → ℕ → ℕ → ℕ → Type 0
+IsLoadStep hash before number after =
+    (m : Machine) (session : ℕ) → m.up ≡ true → m.durable ≡ number → m.sessions session ≤ before
+    → Steps hash m (on.Load session Durable) (tells.Word number) (record m { sessions = raised m.sessions session number })
+    × (raised m.sessions session number session ≡ number) × (number ≤ after)
+
+-- Load of another word: this number is told, and nothing changes
+abbrev pub IsLookStep : Hash → Word → ℕ → Type 0
+IsLookStep hash word number =
+    (m : Machine) (session : ℕ) → m.up ≡ true → word_of m word ≡ number → Steps hash m (on.Load session word) (tells.Word number) m

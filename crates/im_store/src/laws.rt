@@ -1,6 +1,6 @@
 //! What holds of the definitions. Each function does nothing, and its contract is the law.
 
-ghost use Rattle.std.specs.Prelude.{◌≡◌, ◌≤◌, ℕ, ℤ, List, length, take, None, Option, Some};
+ghost use Rattle.std.specs.Prelude.{◌≡◌, ◌<◌, ◌≤◌, ℕ, ℤ, List, length, take, None, Option, Some};
 ghost use Rattle.im_digest.specs.Digests.{Hash};
 ghost use Rattle.im_disk.specs.Disk.{Told, after};
 ghost use Rattle.im_disk.specs.Moments.{Leaves};
@@ -9,7 +9,8 @@ ghost use Rattle.im_format.specs.Standing.{StandsFrom};
 ghost use Rattle.im_machine.specs.declared.outputs.Output.TheVariants as tells;
 ghost use Rattle.im_machine.specs.declared.questions.KeyQuestion.{KeyQuestion};
 ghost use Rattle.im_machine.specs.declared.questions.ProofQuestion.TheVariants as asks;
-ghost use Rattle.im_model.specs.History.{header_of, IsHistory};
+ghost use Rattle.im_machine.specs.declared.words.Word.TheVariants.{Failed, Indexed, Placed};
+ghost use Rattle.im_model.specs.History.{header_of, transaction_of, IsHistory};
 ghost use Rattle.im_model.specs.declared.transactions.Transaction.{Transaction};
 ghost use Rattle.im_proof.specs.Between.{anchor_between, dual_between};
 ghost use Rattle.im_table.specs.Histories.{history_of};
@@ -20,8 +21,11 @@ ghost use Rattle.im_versions.specs.declared.refusals.PlaceError.{PlaceError};
 ghost use Rattle.im_versions.specs.declared.versions.Version.{Version};
 ghost use Rattle.im_store.specs.Closing.{ClosesStore};
 ghost use Rattle.im_store.specs.Commits.{HasPlaced, IsRefusedAt};
-ghost use Rattle.im_store.specs.Events.{AreIndexSteps, AreLinkSteps, IsAckStep, IsPlaceStep, IsProveStep, IsRefusalStep, IsSnapStep};
+ghost use Rattle.im_store.specs.Events.{AreIndexSteps, AreLinkSteps, IsAckStep, IsLoadStep, IsLookStep, IsPlaceStep, IsProveStep, IsRefusalStep, IsSnapStep};
+ghost use Rattle.im_store.specs.Loads.{IsLoaded, SawDurable, SawFailures, SawIndexed};
 ghost use Rattle.im_store.specs.Names.{Naming, OpensAs};
+ghost use Rattle.im_store.specs.Proving.{ProvesEntry};
+ghost use Rattle.im_store.specs.declared.answers.ProvedEntry.{ProvedEntry};
 
 use im_disk::disk::Disk;
 use im_table::law::Law;
@@ -49,9 +53,26 @@ pub fn a_proof_is_a_prove()
         → IsProveStep hash history t (asks.Advance s t) (tells.Advance (dual_between hash history s t) (anchor_between hash history s t)) }
 {}
 
+/// An entry with its path and the dual proof to a state is the event Prove.
+pub fn an_entry_is_a_prove()
+    ensures { (hash : Hash) (history : List Transaction) (number index state : ℕ) (item : ProvedEntry) → IsHistory history → 1 ≤ number → number ≤ state → state ≤ length history
+        → index < length (transaction_of history number).entries → ProvesEntry hash history number index state item
+        → IsProveStep hash history state (asks.Item number index state) (tells.Item item.dual item.entry item.path) }
+{}
+
 /// What is told of keys at a number is the event Snap, in each machine that holds so much.
 pub fn a_read_is_a_snap()
     ensures { (hash : Hash) (history : List Transaction) (n : ℕ) (question : KeyQuestion) (versions : List Version) → IsSnapStep hash history n question versions }
+{}
+
+/// What a call loads of a word is the event Load. A session that was told no more of what is durable than its pass knew is told no more
+/// than the pass knows then; the other words change nothing.
+pub fn a_look_is_a_load()
+    ensures durable { (hash : Hash) (old new : KnownPass) (number : ℕ) → SawDurable old new number
+        → IsLoadStep hash old.view.least.durable number new.view.least.durable }
+    ensures placed { (hash : Hash) (old new : KnownPass) (number : ℕ) → IsLoaded old.view.looks.placed new.view.looks.placed number → IsLookStep hash Placed number }
+    ensures indexed { (hash : Hash) (old new : KnownPass) (number : ℕ) → SawIndexed old new number → IsLookStep hash Indexed number }
+    ensures failed { (hash : Hash) (old new : KnownPass) (number : ℕ) → SawFailures old new number → IsLookStep hash Failed number }
 {}
 
 /// From one size to another a machine's tree is raised by the event Link, once for each leaf, and its index by the event Index.
