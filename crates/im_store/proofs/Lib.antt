@@ -3,6 +3,9 @@ pub mod ListLemmas
 pub mod FrontLemmas
 pub mod CommitLemmas
 pub mod EventLemmas
+pub mod BatchEvents
+pub mod ReachedEvents
+pub mod OpenEvents
 pub mod MomentLemmas
 pub mod FlushLemmas
 pub mod SettleLemmas

@@ -12,3 +12,4 @@ pub mod Proving
 pub mod Reading
 pub mod Closing
 pub mod Events
+pub mod DiskEvents

@@ -1,0 +1,10 @@
+use Rattle.im_store.proofs.BatchEvents.{batch_events}
+use Rattle.im_store.proofs.ReachedEvents.{rests_there}
+use Rattle.im_store.proofs.laws.a_batch_is_stage_seal_gate_settle.Goals as goal
+
+pub returns-clause-steps : goal.returns-clause-steps
+returns-clause-steps c = λ hash n durable history before now made. batch_events hash n durable history before now made
+
+pub returns-clause-rests : goal.returns-clause-rests
+returns-clause-rests c = λ hash n durable history before now made m gives reached holds going idle count disk.
+    rests_there hash n durable history before now made m gives reached holds going idle count disk
