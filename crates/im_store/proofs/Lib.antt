@@ -2,10 +2,6 @@ pub mod GainLemmas
 pub mod ListLemmas
 pub mod FrontLemmas
 pub mod CommitLemmas
-pub mod EventLemmas
-pub mod BatchEvents
-pub mod ReachedEvents
-pub mod OpenEvents
 pub mod MomentLemmas
 pub mod FlushLemmas
 pub mod SettleLemmas

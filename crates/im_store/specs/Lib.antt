@@ -11,5 +11,3 @@ pub mod Growth
 pub mod Proving
 pub mod Reading
 pub mod Closing
-pub mod Events
-pub mod DiskEvents

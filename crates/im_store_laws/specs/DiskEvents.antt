@@ -18,7 +18,7 @@ use Rattle.im_machine.specs.declared.outputs.Output.{Output}
 use Rattle.im_machine.specs.declared.outputs.Output.TheVariants as tells
 use Rattle.im_model.specs.declared.transactions.Transaction.{Transaction}
 use Rattle.im_seated_journal.specs.Calls.{calls_of_batches}
-use Rattle.im_store.specs.Events.{HoldsFirst}
+use Rattle.im_store_laws.specs.Events.{HoldsFirst}
 
 -- an event that calls the disk, by whether the call is to fail
 abbrev pub DiskStep : Type 0

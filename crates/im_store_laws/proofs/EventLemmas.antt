@@ -31,7 +31,7 @@ use Rattle.im_versions.specs.Admits.{place_refusal}
 use Rattle.im_versions.specs.declared.refusals.PlaceError.{PlaceError}
 use Rattle.im_versions.specs.declared.versions.Version.{Version}
 use Rattle.im_store.specs.Commits.{HasPlaced, IsRefusedAt}
-use Rattle.im_store.specs.Events.{AreIndexSteps, AreLinkSteps, IsAckStep, IsLoadStep, IsLookStep, IsPlaceStep, IsProveStep, IsRefusalStep, IsSnapStep}
+use Rattle.im_store_laws.specs.Events.{AreIndexSteps, AreLinkSteps, IsAckStep, IsLoadStep, IsLookStep, IsPlaceStep, IsProveStep, IsRefusalStep, IsSnapStep}
 use Rattle.im_store.specs.Loads.{SawDurable}
 use Rattle.im_store.specs.Proving.{ProvesEntry}
 use Rattle.im_store.specs.declared.answers.ProvedEntry.{ProvedEntry}

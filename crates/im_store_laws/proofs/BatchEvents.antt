@@ -33,7 +33,7 @@ use Rattle.im_machine.specs.declared.outputs.Output.{Output}
 use Rattle.im_machine.specs.declared.outputs.Output.TheVariants as tells
 use Rattle.im_model.specs.declared.transactions.Transaction.{Transaction}
 use Rattle.im_seated_journal.specs.Calls.{calls_of_batch, calls_of_batches, IsFilled, MakesBatches, MakesPart}
-use Rattle.im_store.specs.DiskEvents.{answers_of, events_of, steps_of_batch, steps_of_batches, AreBatchSteps, CallsNothing, DiskStep, MakesSteps}
+use Rattle.im_store_laws.specs.DiskEvents.{answers_of, events_of, steps_of_batch, steps_of_batches, AreBatchSteps, CallsNothing, DiskStep, MakesSteps}
 
 -- a step whose call fails
 record Falls (hash : Hash) (m : Machine) (step : DiskStep) (call : Call) : Type 0 where

@@ -1,5 +1,5 @@
-use Rattle.im_store.proofs.EventLemmas.{load_event, look_failed, look_indexed, look_placed}
-use Rattle.im_store.proofs.laws.a_look_is_a_load.Goals as goal
+use Rattle.im_store_laws.proofs.EventLemmas.{load_event, look_failed, look_indexed, look_placed}
+use Rattle.im_store_laws.proofs.laws.a_look_is_a_load.Goals as goal
 
 pub returns-clause-durable : goal.returns-clause-durable
 returns-clause-durable c = λ hash old new number saw. load_event hash old new number saw

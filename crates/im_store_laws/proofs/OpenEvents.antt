@@ -19,9 +19,9 @@ use Rattle.im_machine.specs.declared.outputs.Output.TheVariants as tells
 use Rattle.im_model.specs.declared.transactions.Transaction.{Transaction}
 use Rattle.im_opening.specs.Cut.{repaired, shut_at}
 use Rattle.im_table.specs.Histories.{history_of}
-use Rattle.im_store.specs.DiskEvents.{AreFaultSteps, IsOpenStep}
+use Rattle.im_store_laws.specs.DiskEvents.{AreFaultSteps, IsOpenStep}
 use Rattle.im_store.specs.Names.{Naming, OpensAs}
-use Rattle.im_store.proofs.BatchEvents.{nothing_behind}
+use Rattle.im_store_laws.proofs.BatchEvents.{nothing_behind}
 
 -- what the machine's opening leaves of a disk, by whether the log is cut at the gate
 cut_if : (t : Told) (gate : ℕ) (cut : Bool) → is_cut (seen t 1) gate ≡ cut → disk_opened gate t ≡ (if cut then shut_at gate (after Synced t) else after Synced t)

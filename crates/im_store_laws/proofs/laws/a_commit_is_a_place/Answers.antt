@@ -1,5 +1,5 @@
-use Rattle.im_store.proofs.EventLemmas.{place_event, refusal_event}
-use Rattle.im_store.proofs.laws.a_commit_is_a_place.Goals as goal
+use Rattle.im_store_laws.proofs.EventLemmas.{place_event, refusal_event}
+use Rattle.im_store_laws.proofs.laws.a_commit_is_a_place.Goals as goal
 
 pub returns-clause-placed : goal.returns-clause-placed
 returns-clause-placed c = λ hash time asked old new n p. place_event hash time asked old new n p

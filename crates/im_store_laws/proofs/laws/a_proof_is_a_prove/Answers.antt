@@ -1,5 +1,5 @@
-use Rattle.im_store.proofs.EventLemmas.{advance_event, dual_event, header_event}
-use Rattle.im_store.proofs.laws.a_proof_is_a_prove.Goals as goal
+use Rattle.im_store_laws.proofs.EventLemmas.{advance_event, dual_event, header_event}
+use Rattle.im_store_laws.proofs.laws.a_proof_is_a_prove.Goals as goal
 
 pub returns-clause-header : goal.returns-clause-header
 returns-clause-header c = λ hash history k some within. header_event hash history k some within

@@ -1,6 +1,6 @@
-use Rattle.im_store.proofs.BatchEvents.{batch_events}
-use Rattle.im_store.proofs.ReachedEvents.{rests_there}
-use Rattle.im_store.proofs.laws.a_batch_is_stage_seal_gate_settle.Goals as goal
+use Rattle.im_store_laws.proofs.BatchEvents.{batch_events}
+use Rattle.im_store_laws.proofs.ReachedEvents.{rests_there}
+use Rattle.im_store_laws.proofs.laws.a_batch_is_stage_seal_gate_settle.Goals as goal
 
 pub returns-clause-steps : goal.returns-clause-steps
 returns-clause-steps c = λ hash n durable history before now made. batch_events hash n durable history before now made

@@ -1,5 +1,0 @@
-use Rattle.im_store.proofs.EventLemmas.{snap_event}
-use Rattle.im_store.proofs.laws.a_read_is_a_snap.Goals as goal
-
-pub returns : goal.returns
-returns c = λ hash history n question versions. snap_event hash history n question versions

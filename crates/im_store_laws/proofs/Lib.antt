@@ -1,0 +1,4 @@
+pub mod EventLemmas
+pub mod BatchEvents
+pub mod ReachedEvents
+pub mod OpenEvents
