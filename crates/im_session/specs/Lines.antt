@@ -63,7 +63,7 @@ pub record WasRefused (history : List Transaction) (low : ℕ) (command : Comman
   pub refused : place_refusal (take at history) asked.pres ≡ Some why
 
 -- A line has no reply. At most one transaction was placed for it all the same, and then it linked nothing. Where the disk failed and none was placed, what the line
--- asks for was refused, behind transactions that weren't known to be durable.
+-- asks for was refused, behind no fewer transactions than it read.
 pub record IsStuck (old new : KnownPass) (line : Line) (why : LineError) : Type 0 where
   pub fault : KnowsFault why old new
   pub late : Option ℕ

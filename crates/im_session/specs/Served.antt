@@ -107,8 +107,8 @@ pub record RunsPhases (hash : Hash) (links : Bool) (old new : KnownPass) (script
 -- the number of each reply; and since the opening's first sync each image of each moment stood for one that holds what was found. Where each line that was run
 -- was answered, each image now stands for the whole history, and so does what reads give, the values put by the rule. The clock was asked
 -- once for each transaction that was placed, in order, and for nothing else. The disk got the calls of batches of these transactions, in order, and no other
--- call that changes it, and has failed at least once where a line tells a fault of it; and that line asked for something, which was placed, or refused behind what wasn't
--- durable yet.
+-- call that changes it, and has failed at least once where a line tells a fault of it; and that line asked for something, which was placed, or refused behind no fewer
+-- than it read.
 pub record Serves {D : Type 0} (told : D → Option Told) (faults : D → ℕ) (links : Bool) (n : Naming) (script : List (List Line)) (written_before written_now : Option (List ℕ)) (sink_before sink_now : ℕ)
     (disk : D) (constant : Option ℤ) (given : Option (List ℤ)) (end : Result Unit Stopped) : Type 0 where
   pub phases : List (List Outcome)
