@@ -1,6 +1,6 @@
 -- The calls of a store's disk as steps of the machine.
 use Rattle.std.proofs.Common.{◌≡◌, ◌≤◌, ◌<◌, ◌+◌, ◌++◌, ◌∷◌, [], ◌∙◌, ℕ, zero, suc, List, Option, None, Some, length, map, take, drop, replicate, true, false, Bool, refl, ap, sym, subst, arith, inl, inr, append-nil, append_assoc, drop-drop, length-append, length-take, take-add, take-append-drop}
-use Rattle.std.proofs.lemmas.List.{length-map, length-take-le, map-append}
+use Rattle.std.proofs.lemmas.List.{drop-take, length-map, length-take-le, map-append}
 use Rattle.std.specs.List.{All}
 use Rattle.std.specs.Prelude.{◌⊎◌, slice_get}
 use Rattle.std.specs.Option.{option_map}
@@ -33,7 +33,8 @@ use Rattle.im_machine.specs.declared.outputs.Output.{Output}
 use Rattle.im_machine.specs.declared.outputs.Output.TheVariants as tells
 use Rattle.im_model.specs.declared.transactions.Transaction.{Transaction}
 use Rattle.im_seated_journal.specs.Calls.{calls_of_batch, calls_of_batches, IsFilled, MakesBatches, MakesPart}
-use Rattle.im_store_laws.specs.DiskEvents.{answers_of, events_of, steps_of_batch, steps_of_batches, AreBatchSteps, CallsNothing, DiskStep, MakesSteps}
+use Rattle.im_seated_journal.proofs.CallLemmas.{batches_more}
+use Rattle.im_store_laws.specs.DiskEvents.{answers_of, events_of, settled, steps_of_batch, AreBatchSteps, AreLastSteps, CallsNothing, DiskStep, MakesSteps, RestsOn}
 
 -- a step whose call fails
 record Falls (hash : Hash) (m : Machine) (step : DiskStep) (call : Call) : Type 0 where
@@ -326,41 +327,48 @@ module _ (hash : Hash) (placed : List Transaction) (batches : List (List Record)
         put = subst (λ (l : List ValueRef). ArePut 1 (length (joined (batches ++ a ∷ [])) + 1) l b) refs (subst (λ (k : ℕ). ArePut 1 k (refs_of (joined batches) ++ refs_of a) b) at put);
       }
 
--- batches, one behind the other, and what is due behind them
-record Gone (hash : Hash) (m : Machine) (first more : List (List Record)) (rest : List Record) (t : Told) : Type 0 where
-  pub goes : Goes hash (base m first (length (joined first)) t) (steps_of_batches first more) (calls_of_batches first more)
-      (base m (first ++ more) (length (joined (first ++ more))) (after_all (calls_of_batches first more) t))
-  pub due : AreDue hash m.placed (first ++ more) rest
+-- of batches that are due, one behind the other, and what is due behind them
+due_behind : (hash : Hash) (placed : List Transaction) (first done : List (List Record)) (rest : List Record) → AreDue hash placed first (joined done ++ rest) → AreDue hash placed (first ++ done) rest
+due_behind hash placed first [] rest due = subst (λ (b : List (List Record)). AreDue hash placed b rest) (sym (append-nil first)) due
+due_behind hash placed first (batch ∷ done) rest due =
+    let apart : AreDue hash placed first (batch ++ (joined done ++ rest)) = subst (λ (l : List Record). AreDue hash placed first l) (append_assoc batch (joined done) rest) due in
+    subst (λ (b : List (List Record)). AreDue hash placed b rest) (append_assoc first (batch ∷ []) done)
+    (due_behind hash placed (first ++ batch ∷ []) done rest (due_next hash placed first batch (joined done ++ rest) apart))
 
-batches_gone : (hash : Hash) (m : Machine) (first more : List (List Record)) (rest : List Record) (t : Told) → All IsFilled more → AreDue hash m.placed first (joined more ++ rest)
-    → Gone hash m first more rest t
-batches_gone hash m first [] rest t filled due =
-    let same : first ++ [] ≡ first = append-nil first in
-    record {
-      goes = ap (λ (b : List (List Record)). base m b (length (joined b)) t) same;
-      due = subst (λ (b : List (List Record)). AreDue hash m.placed b rest) (sym same) due;
-    }
-batches_gone hash m first (batch ∷ more) rest t filled due =
-    let own : List Call = calls_of_batch first batch in
-    let others : List Call = calls_of_batches (first ++ batch ∷ []) more in
-    let apart : AreDue hash m.placed first (batch ++ (joined more ++ rest)) = subst (λ (l : List Record). AreDue hash m.placed first l) (append_assoc batch (joined more) rest) due in
-    let next : Gone hash m (first ++ batch ∷ []) more rest (after_all own t) =
-    batches_gone hash m (first ++ batch ∷ []) more rest (after_all own t) (All-tail IsFilled batch more filled) (due_next hash m.placed first batch (joined more ++ rest) apart) in
-    let count : length (joined (first ++ batch ∷ [])) ≡ length (joined first) + length batch = ap (λ (l : List Record). length l) (joined_more first batch) ∙ length-append (joined first) batch in
-    let same : (first ++ batch ∷ []) ++ more ≡ first ++ (batch ∷ more) = append_assoc first (batch ∷ []) more in
-    let both : after_all others (after_all own t) ≡ after_all (own ++ others) t = sym (after_both own others t) in
-    let one = batch_goes hash m first batch t (due_first hash m.placed first batch (joined more ++ rest) apart) (All-head IsFilled batch more filled) in
-    let middle : Machine = base m (first ++ batch ∷ []) (length (joined (first ++ batch ∷ []))) (after_all own t) in
-    let one_there : Goes hash (base m first (length (joined first)) t) (steps_of_batch first batch) own middle =
-    subst (λ (k : ℕ). Goes hash (base m first (length (joined first)) t) (steps_of_batch first batch) own (base m (first ++ batch ∷ []) k (after_all own t))) (sym count) one in
-    let end : Machine = base m ((first ++ batch ∷ []) ++ more) (length (joined ((first ++ batch ∷ []) ++ more))) (after_all others (after_all own t)) in
-    let goes = goes_both hash (steps_of_batch first batch) (steps_of_batches (first ++ batch ∷ []) more) own others (base m first (length (joined first)) t) middle end one_there next.goes in
-    record {
-      goes = subst (λ (s : Machine). Goes hash (base m first (length (joined first)) t) (steps_of_batches first (batch ∷ more)) (own ++ others) s)
-          (ap (λ (b : List (List Record)). base m b (length (joined b)) (after_all others (after_all own t))) same ∙ ap (λ (x : Told). base m (first ++ (batch ∷ more)) (length (joined (first ++ (batch ∷ more)))) x) both)
-          goes;
-      due = subst (λ (b : List (List Record)). AreDue hash m.placed b rest) same next.due;
-    }
+-- what is due of a history is due wherever as much of it is placed
+module _ (hash : Hash) (history placed : List Transaction) (batches : List (List Record)) (rs : List Record) (due : AreDue hash history batches rs)
+    (same : take (length (joined batches) + length rs) placed ≡ take (length (joined batches) + length rs) history) where
+  abbrev start : ℕ
+  start = length (joined batches)
+
+  abbrev end : ℕ
+  end = start + length rs
+
+  enough : end ≤ length placed
+  enough =
+      let short : length (take end history) ≡ end = length-take-le end history due.within in
+      omega (arith, short, ap (λ (l : List Transaction). length l) same, length-take end placed)
+
+  records_there : AreRecords hash placed (start + 1) rs
+  records_there =
+      let front : AreRecords hash (take end placed) (start + 1) rs =
+      subst (λ (l : List Transaction). AreRecords hash l (start + 1) rs) (sym same) (records_front hash history end (start + 1) rs (omega arith) (omega arith) due.records) in
+      let size : length (take end placed) ≡ end = length-take-le end placed enough in
+      subst (λ (l : List Transaction). AreRecords hash l (start + 1) rs) (take-append-drop end placed)
+      (records_longer hash (take end placed) (drop end placed) (start + 1) rs (omega arith) (omega (arith, size)) front)
+
+  due_there : AreDue hash placed batches rs
+  due_there = record {
+    within = enough;
+    transactions = due.transactions ∙ sym (drop-take start (length rs) history) ∙ ap (λ (l : List Transaction). drop start l) (sym same) ∙ drop-take start (length rs) placed;
+    records = records_there;
+    put = due.put;
+  }
+
+-- each of some batches is filled
+filled_at : (done : List (List Record)) (records : List Record) (rest : List (List Record)) → All IsFilled (done ++ records ∷ rest) → 1 ≤ length records
+filled_at [] records rest filled = All-head IsFilled records rest filled
+filled_at (batch ∷ done) records rest filled = filled_at done records rest (All-tail IsFilled batch (done ++ records ∷ rest) filled)
 
 -- the last batch, as far as its calls came
 last_made : (hash : Hash) (m : Machine) (batches : List (List Record)) (last : List Record) (t now : Told) → AreDue hash m.placed batches last
@@ -391,12 +399,8 @@ module _ (m : Machine) (up : m.up ≡ true) (going : m.stopped ≡ false) (idle 
       ∙ ap (λ (x : Told). with_parts m (length (joined batches)) batches m.progress x m.up m.stopped) disk
       ∙ rested batches (length (joined batches)) t
 
--- the batches whose calls a store's disk got are due in each machine that holds as much
-module _ (hash : Hash) (n durable : ℕ) (history placed : List Transaction) (before now : Told) (made : MakesBatches hash 1 n durable history (Some before) (Some now))
-    (same : take (durable + length made.last) placed ≡ take (durable + length made.last) history) where
-  abbrev most : ℕ
-  most = durable + length made.last
-
+-- the batches whose calls a store's disk got are due in its history
+module _ (hash : Hash) (n durable : ℕ) (history : List Transaction) (before now : Told) (made : MakesBatches hash 1 n durable history (Some before) (Some now)) where
   abbrev own : List Record
   own = joined made.more ++ made.last
 
@@ -408,61 +412,93 @@ module _ (hash : Hash) (n durable : ℕ) (history placed : List Transaction) (be
       sym (length-map (joined (made.first ++ made.more)) (λ (r : Record). r.tx)) ∙ ap (λ (l : List Transaction). length l) made.durable_are
       ∙ length-take-le durable history (omega (arith, made.within))
 
-  count_all : length (joined made.first) + length own ≡ most
+  count_all : length (joined made.first) + length own ≡ durable + length made.last
   count_all =
       sym (length-append (joined made.first) own) ∙ ap (λ (l : List Record). length l) (sym whole_are)
       ∙ length-append (joined (made.first ++ made.more)) made.last ∙ ap (λ (k : ℕ). k + length made.last) durable_count
 
-  enough : most ≤ length placed
-  enough =
-      let short : length (take most history) ≡ most = length-take-le most history made.within in
-      omega (arith, short, ap (λ (l : List Transaction). length l) same, length-take most placed)
-
-  pub all_txs : map (λ r. r.tx) (joined made.first ++ own) ≡ take (length (joined made.first) + length own) placed
+  pub all_txs : map (λ r. r.tx) (joined made.first ++ own) ≡ take (length (joined made.first) + length own) history
   all_txs =
       let tx : Record → Transaction = λ r. r.tx in
       ap (λ (l : List Record). map tx l) (sym whole_are) ∙ map-append tx (joined (made.first ++ made.more)) made.last
       ∙ ap (λ (l : List Transaction). l ++ map tx made.last) made.durable_are ∙ ap (λ (l : List Transaction). take durable history ++ l) made.last_are
-      ∙ sym (take-add durable (length made.last) history) ∙ sym same ∙ ap (λ (k : ℕ). take k placed) (sym count_all)
+      ∙ sym (take-add durable (length made.last) history) ∙ ap (λ (k : ℕ). take k history) (sym count_all)
 
-  pub all_records : AreRecords hash placed 1 (joined made.first ++ own)
-  all_records =
-      let count : length (joined made.first ++ own) ≡ most = length-append (joined made.first) own ∙ count_all in
-      let there : AreRecords hash history 1 (joined made.first ++ own) = subst (λ (l : List Record). AreRecords hash history 1 l) whole_are made.records_are in
-      let front : AreRecords hash (take most placed) 1 (joined made.first ++ own) =
-      subst (λ (l : List Transaction). AreRecords hash l 1 (joined made.first ++ own)) (sym same)
-      (records_front hash history most 1 (joined made.first ++ own) (omega arith) (omega (arith, count)) there) in
-      let size : length (take most placed) ≡ most = length-take-le most placed enough in
-      subst (λ (l : List Transaction). AreRecords hash l 1 (joined made.first ++ own)) (take-append-drop most placed)
-      (records_longer hash (take most placed) (drop most placed) 1 (joined made.first ++ own) (omega arith) (omega (arith, count, size)) front)
+  pub all_records : AreRecords hash history 1 (joined made.first ++ own)
+  all_records = subst (λ (l : List Record). AreRecords hash history 1 l) whole_are made.records_are
 
-  due_all : AreDue hash placed made.first own
+  due_all : AreDue hash history made.first own
   due_all =
       let at : 1 + length (joined made.first) ≡ length (joined made.first) + 1 = omega arith in
       let number : n + 1 ≡ length (joined made.first) + 1 = omega (arith, made.found_are) in
       record {
-        within = omega (arith, enough, count_all);
-        transactions = txs_behind (joined made.first) own placed (length (joined made.first) + length own) refl all_txs;
-        records = subst (λ (k : ℕ). AreRecords hash placed k own) at (records_apart hash placed 1 (joined made.first) own all_records).1;
+        within = omega (arith, made.within, count_all);
+        transactions = txs_behind (joined made.first) own history (length (joined made.first) + length own) refl all_txs;
+        records = subst (λ (k : ℕ). AreRecords hash history k own) at (records_apart hash history 1 (joined made.first) own all_records).1;
         put = subst (λ (k : ℕ). ArePut 1 k (refs_of (joined made.first)) own) number made.put;
       }
 
+-- one of them, in a machine that holds as much and rests on those before it
+module _ (hash : Hash) (m : Machine) (first done : List (List Record)) (records : List Record) (before : Told) (holds : m.up ≡ true)
+    (rests : RestsOn m (first ++ done) (after_all (calls_of_batches first done) before)) (due : AreDue hash m.placed (first ++ done) records) (some : 1 ≤ length records) where
+  abbrev batches : List (List Record)
+  batches = first ++ done
+
+  abbrev all : List (List Record)
+  all = first ++ (done ++ records ∷ [])
+
+  abbrev told : Told
+  told = after_all (calls_of_batches first done) before
+
+  abbrev told_all : Told
+  told_all = after_all (calls_of_batches first (done ++ records ∷ [])) before
+
+  abbrev one_end : Machine
+  one_end = base m (batches ++ records ∷ []) (length (joined batches) + length records) (after_all (calls_of_batch batches records) told)
+
+  told_are : after_all (calls_of_batch batches records) told ≡ told_all
+  told_are =
+      sym (after_both (calls_of_batches first done) (calls_of_batch batches records) before) ∙ ap (λ (l : List Call). after_all l before) (sym (batches_more first done records))
+
+  one_end_is : one_end ≡ settled m all told_all
+  one_end_is =
+      let count : length (joined batches) + length records ≡ length (joined (batches ++ records ∷ [])) =
+      sym (ap (λ (l : List Record). length l) (joined_more batches records) ∙ length-append (joined batches) records) in
+      ap (λ (k : ℕ). base m (batches ++ records ∷ []) k (after_all (calls_of_batch batches records) told)) count
+      ∙ ap (λ (b : List (List Record)). base m b (length (joined b)) (after_all (calls_of_batch batches records) told)) (append_assoc first done (records ∷ []))
+      ∙ ap (λ (t : Told). base m all (length (joined all)) t) told_are ∙ sym (rested m holds rests.going rests.idle all (length (joined all)) told_all)
+
+  one_run : Run hash m (events_of (steps_of_batch batches records)) (answers_of (steps_of_batch batches records)) one_end
+  one_run =
+      let steps : List DiskStep = steps_of_batch batches records in
+      let here : m ≡ base m batches (length (joined batches)) told = at_base m holds rests.going rests.idle batches told rests.batches_are rests.durable_are rests.disk_is in
+      subst (λ (s : Machine). Run hash s (events_of steps) (answers_of steps) one_end) (sym here)
+      (all_run hash steps (calls_of_batch batches records) (base m batches (length (joined batches)) told) one_end (batch_goes hash m batches records told due some))
+
 pub batch_events : (hash : Hash) (n durable : ℕ) (history : List Transaction) (before now : Told) (made : MakesBatches hash 1 n durable history (Some before) (Some now))
-    → AreBatchSteps hash history durable made.first made.more made.last before now
-batch_events hash n durable history before now made m holds rests =
+    → AreBatchSteps hash history made.first made.more before
+batch_events hash n durable history before now made done records rest split m holds rests =
     let first : List (List Record) = made.first in
-    let more : List (List Record) = made.more in
-    let steps : List DiskStep = steps_of_batches first more in
-    let told : Told = after_all (calls_of_batches first more) before in
-    let due : AreDue hash m.placed first (joined more ++ made.last) = due_all hash n durable history m.placed before now made holds.first in
-    let gone : Gone hash m first more made.last before = batches_gone hash m first more made.last before made.filled due in
-    let middle : Machine = base m (first ++ more) (length (joined (first ++ more))) told in
-    let here : m ≡ base m first (length (joined first)) before = at_base m holds.up rests.going rests.idle first before rests.batches_are rests.durable_are rests.disk_is in
-    let count : length (joined (first ++ more)) ≡ durable = durable_count hash n durable history m.placed before now made holds.first in
-    let run : Run hash (base m first (length (joined first)) before) (events_of steps) (answers_of steps) middle =
-    all_run hash steps (calls_of_batches first more) (base m first (length (joined first)) before) middle gone.goes in (
-      middle,
-      ap (λ (k : ℕ). base m (first ++ more) k told) count ∙ sym (rested m holds.up rests.going rests.idle (first ++ more) durable told),
-      subst (λ (s : Machine). Run hash s (events_of steps) (answers_of steps) middle) (sym here) run,
-      last_made hash m (first ++ more) made.last told now gone.due made.part,
+    let behind : List Record = joined rest ++ made.last in
+    let whole : joined made.more ++ made.last ≡ joined done ++ (records ++ behind) =
+    ap (λ (l : List (List Record)). joined l ++ made.last) split ∙ ap (λ (l : List Record). l ++ made.last) (joined_both done (records ∷ rest))
+    ∙ append_assoc (joined done) (records ++ joined rest) made.last ∙ ap (λ (l : List Record). joined done ++ l) (append_assoc records (joined rest) made.last) in
+    let due : AreDue hash history first (joined done ++ (records ++ behind)) =
+    subst (λ (l : List Record). AreDue hash history first l) whole (due_all hash n durable history before now made) in
+    let one : AreDue hash history (first ++ done) records = due_first hash history (first ++ done) records behind (due_behind hash history first done (records ++ behind) due) in
+    let here : AreDue hash m.placed (first ++ done) records = due_there hash history m.placed (first ++ done) records one holds.first in
+    let some : 1 ≤ length records = filled_at done records rest (subst (λ (l : List (List Record)). All IsFilled l) split made.filled) in (
+      one_end hash m first done records before holds.up rests here some,
+      one_end_is hash m first done records before holds.up rests here some,
+      one_run hash m first done records before holds.up rests here some,
     )
+
+pub last_events : (hash : Hash) (n durable : ℕ) (history : List Transaction) (before now : Told) (made : MakesBatches hash 1 n durable history (Some before) (Some now))
+    → AreLastSteps hash history made.first made.more made.last before now
+last_events hash n durable history before now made m holds rests =
+    let batches : List (List Record) = made.first ++ made.more in
+    let told : Told = after_all (calls_of_batches made.first made.more) before in
+    let due : AreDue hash history batches made.last = due_behind hash history made.first made.more made.last (due_all hash n durable history before now made) in
+    let here : m ≡ base m batches (length (joined batches)) told = at_base m holds.up rests.going rests.idle batches told rests.batches_are rests.durable_are rests.disk_is in
+    subst (λ (s : Machine). MakesSteps hash s (steps_of_batch batches made.last) now) (sym here)
+    (last_made hash m batches made.last told now (due_there hash history m.placed batches made.last due holds.first) made.part)

@@ -34,7 +34,7 @@ own_stands hash m gives reached up going idle =
 
 -- so they are the first of those whose calls the disk of a store got that told the same
 module _ (hash : Hash) (n durable : ℕ) (history : List Transaction) (before now : Told) (made : MakesBatches hash 1 n durable history (Some before) (Some now)) (m : Machine)
-    (gives : Gives32 hash) (reached : IsReached hash m) (holds : HoldsFirst m history (durable + length made.last)) (going : m.stopped ≡ false) (idle : m.progress ≡ None)
+    (gives : Gives32 hash) (reached : IsReached hash m) (holds : HoldsFirst m history n) (going : m.stopped ≡ false) (idle : m.progress ≡ None)
     (count : m.durable ≡ n) (disk : m.disk ≡ before) where
   own : (there : Stands hash (seen m.disk) (take m.durable m.placed)) × (there.batches ≡ m.batches)
   own = own_stands hash m gives reached holds.up going idle
@@ -42,16 +42,21 @@ module _ (hash : Hash) (n durable : ℕ) (history : List Transaction) (before no
   number : length (joined made.first) ≡ m.durable
   number = made.found_are ∙ sym count
 
+  front : take (length (joined made.first)) history ≡ take m.durable m.placed
+  front = ap (λ (k : ℕ). take k history) made.found_are ∙ sym holds.first ∙ ap (λ (k : ℕ). take k m.placed) (sym count)
+
   txs : map (λ r. r.tx) (joined made.first) ≡ take m.durable m.placed
   txs =
-      txs_before (joined made.first) (joined made.more ++ made.last) m.placed (length (joined made.first) + length (joined made.more ++ made.last))
-      (all_txs hash n durable history m.placed before now made holds.first)
-      ∙ ap (λ (k : ℕ). take k m.placed) number
+      txs_before (joined made.first) (joined made.more ++ made.last) history (length (joined made.first) + length (joined made.more ++ made.last))
+      (all_txs hash n durable history before now made)
+      ∙ front
 
   records : AreRecords hash (take m.durable m.placed) 1 (joined made.first)
   records =
-      records_front hash m.placed m.durable 1 (joined made.first) (omega arith) (omega (arith, number))
-      (records_apart hash m.placed 1 (joined made.first) (joined made.more ++ made.last) (all_records hash n durable history m.placed before now made holds.first)).0
+      let size : ℕ = length (joined made.first) in
+      subst (λ (l : List Transaction). AreRecords hash l 1 (joined made.first)) front
+      (records_front hash history size 1 (joined made.first) (omega arith) (omega arith)
+      (records_apart hash history 1 (joined made.first) (joined made.more ++ made.last) (all_records hash n durable history before now made)).0)
 
   held : HasBatches (seen m.disk) made.first
   held = subst (λ (t : Told). HasBatches (seen t) made.first) (sym disk) made.held

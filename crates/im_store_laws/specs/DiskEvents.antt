@@ -1,6 +1,6 @@
 -- Which steps of the machine over events the changing calls of a store's disk are, its opening, and what it tells of failures. They are said
 -- of one value log: the machine has no more.
-use Rattle.std.specs.Prelude.{◌≡◌, ◌⊎◌, ◌+◌, ◌-◌, ◌++◌, ◌∷◌, [], ℕ, List, length, map, replicate, Bool, true, false, Option, None, Some}
+use Rattle.std.specs.Prelude.{⊤, ◌≡◌, ◌⊎◌, ◌+◌, ◌-◌, ◌++◌, ◌∷◌, [], ℕ, List, length, map, replicate, Bool, true, false, Option, None, Some}
 use Rattle.im_digest.specs.Digests.{Hash}
 use Rattle.im_disk.specs.Disk.{Told}
 use Rattle.im_disk.specs.Grown.{after_all}
@@ -39,11 +39,6 @@ steps_of_batch batches (r ∷ rs) =
     replicate (length (pieces_of (ends_of batches) (length (joined batches) + 1) (r ∷ rs))) (λ fails. on.Stage (length (joined batches) + length (r ∷ rs)) fails)
     ++ (λ fails. on.Seal fails) ∷ (λ fails. on.Gate fails) ∷ (λ fails. on.Settle fails) ∷ []
 
--- those that make each of these batches durable behind the first ones, one after the other
-abbrev pub steps_of_batches : List (List Record) → List (List Record) → List DiskStep
-steps_of_batches batches [] = []
-steps_of_batches batches (records ∷ more) = steps_of_batch batches records ++ steps_of_batches (batches ++ records ∷ []) more
-
 -- the disk of the machine may be called, no batch is in progress, these batches hold what is durable, and its disk tells this
 pub record RestsOn (m : Machine) (batches : List (List Record)) (t : Told) : Type 0 where
   pub going : m.stopped ≡ false
@@ -68,18 +63,42 @@ MakesSteps hash m steps now =
     ⊎ ((step : DiskStep) × (rest : List DiskStep) × (left ≡ step ∷ rest)
     × Run hash m (events_of made ++ step true ∷ []) (answers_of made ++ tells.Failed ∷ []) end × CallsNothing hash end))
 
--- with these batches durable, so many transactions, and a disk that tells this
-abbrev pub settled : Machine → List (List Record) → ℕ → Told → Machine
-settled m batches durable t = record m { durable = durable; batches = batches; disk = t }
+-- with these batches durable, and a disk that tells this
+abbrev pub settled : Machine → List (List Record) → Told → Machine
+settled m batches t = record m { durable = length (joined batches); batches = batches; disk = t }
 
--- In each machine that holds as much of the history as the batches, and rests on the first of them, the steps of the further ones lead to
--- the machine in which these are durable; and from there those of the last one are made as far as the disk came.
-abbrev pub AreBatchSteps : Hash → List Transaction → ℕ → List (List Record) → List (List Record) → List Record → Told → Told → Type 0
-AreBatchSteps hash history durable first more last before now =
-    (m : Machine) → HoldsFirst m history (durable + length last) → RestsOn m first before
-    → (middle : Machine) × (middle ≡ settled m (first ++ more) durable (after_all (calls_of_batches first more) before))
-    × Run hash m (events_of (steps_of_batches first more)) (answers_of (steps_of_batches first more)) middle
-    × MakesSteps hash middle (steps_of_batch (first ++ more) last) now
+-- Each of the further batches, behind the first ones and those of the further that are done: in each machine that holds as much of the
+-- history as these and it, and rests on these, its steps lead to the machine in which it is durable too.
+abbrev pub AreBatchSteps : Hash → List Transaction → List (List Record) → List (List Record) → Told → Type 0
+AreBatchSteps hash history first more before =
+    (done : List (List Record)) (records : List Record) (rest : List (List Record)) → more ≡ done ++ records ∷ rest
+    → (m : Machine) → HoldsFirst m history (length (joined (first ++ done)) + length records) → RestsOn m (first ++ done) (after_all (calls_of_batches first done) before)
+    → (end : Machine) × (end ≡ settled m (first ++ (done ++ records ∷ [])) (after_all (calls_of_batches first (done ++ records ∷ [])) before))
+    × Run hash m (events_of (steps_of_batch (first ++ done) records)) (answers_of (steps_of_batch (first ++ done) records)) end
+
+-- A last batch, behind the first and all of the further ones: in each machine that holds as much of the history as these and it, and rests
+-- on these, its steps are made as far as the disk came.
+abbrev pub AreLastSteps : Hash → List Transaction → List (List Record) → List (List Record) → List Record → Told → Told → Type 0
+AreLastSteps hash history first more last before now =
+    (m : Machine) → HoldsFirst m history (length (joined (first ++ more)) + length last) → RestsOn m (first ++ more) (after_all (calls_of_batches first more) before)
+    → MakesSteps hash m (steps_of_batch (first ++ more) last) now
+
+-- an event that neither calls the disk nor tells a failure, and is no crash and no opening
+abbrev pub IsBeside : Event → Type 0
+IsBeside (on.Place session ts asked) = ⊤
+IsBeside (on.Stage last fails) = ⊥
+IsBeside (on.Seal fails) = ⊥
+IsBeside (on.Gate fails) = ⊥
+IsBeside (on.Settle fails) = ⊥
+IsBeside (on.Ack session number) = ⊤
+IsBeside on.Fault = ⊥
+IsBeside on.Link = ⊤
+IsBeside on.Index = ⊤
+IsBeside (on.Load session word) = ⊤
+IsBeside (on.Snap session number question) = ⊤
+IsBeside (on.Prove session question) = ⊤
+IsBeside (on.Crash image) = ⊥
+IsBeside on.Open = ⊥
 
 -- Open, of a disk that told this: as many transactions are told as were found, and behind it the machine has what was found, rests on the
 -- batches that hold it, and its disk tells what the store's does.

@@ -1,9 +1,13 @@
 //! What holds of the definitions. Each function does nothing, and its contract is the law.
 
-ghost use Rattle.std.specs.Prelude.{◌≡◌, ◌<◌, ◌≤◌, ◌+◌, ◌-◌, ◌^◌, ℕ, ℤ, List, length, false, None, Option, Some};
+ghost use Rattle.std.specs.Prelude.{◌≡◌, ◌<◌, ◌≤◌, ◌-◌, ◌^◌, ℕ, ℤ, List, length, false, None, Option, Some};
 ghost use Rattle.im_digest.specs.Digests.{Hash};
 ghost use Rattle.im_disk.specs.Disk.{Told, after};
+ghost use Rattle.im_format.specs.declared.records.Record.{Record};
 ghost use Rattle.im_machine.specs.Machines.{Machine};
+ghost use Rattle.im_machine.specs.Steps.{Steps};
+ghost use Rattle.im_machine.specs.declared.events.Event.{Event};
+ghost use Rattle.im_machine.specs.declared.outputs.Output.{Output};
 ghost use Rattle.im_machine.specs.declared.outputs.Output.TheVariants as tells;
 ghost use Rattle.im_machine.specs.declared.questions.KeyQuestion.{KeyQuestion};
 ghost use Rattle.im_machine.specs.declared.questions.ProofQuestion.TheVariants as asks;
@@ -21,7 +25,7 @@ ghost use Rattle.im_tx.specs.Asked.{Asked};
 ghost use Rattle.im_versions.specs.declared.refusals.PlaceError.{PlaceError};
 ghost use Rattle.im_versions.specs.declared.versions.Version.{Version};
 ghost use Rattle.im_store.specs.Commits.{HasPlaced, IsRefusedAt};
-ghost use Rattle.im_store_laws.specs.DiskEvents.{AreBatchSteps, AreFaultSteps, IsOpenStep, RestsOn};
+ghost use Rattle.im_store_laws.specs.DiskEvents.{AreBatchSteps, AreFaultSteps, AreLastSteps, IsBeside, IsOpenStep, RestsOn};
 ghost use Rattle.im_store_laws.specs.Events.{AreIndexSteps, AreLinkSteps, HoldsFirst, IsAckStep, IsLoadStep, IsLookStep, IsPlaceStep, IsProveStep, IsRefusalStep, IsSnapStep};
 ghost use Rattle.im_store.specs.Loads.{IsLoaded, SawDurable, SawFailures, SawIndexed};
 ghost use Rattle.im_store.specs.Names.{Naming, OpensAs};
@@ -80,15 +84,20 @@ pub fn growth_is_one_by_one()
 {}
 
 /// What a store of one value log writes is the events Stage, Seal, Gate and Settle: the calls that its disk got since it was opened, as
-/// closing it tells them, are those of the events of its batches, one behind the other, as far as they came. Where a call failed its event
-/// fails, and none that calls the disk is allowed behind it. So it is in each machine that rests on the batches that were found; and a
-/// machine does that to which a run leads, while its disk may be called and no batch is in progress, and which has as many durable on a
-/// disk that tells the same.
+/// closing it tells them, are those of the events of its batches. Each batch does them in each machine that has placed what it covers, and
+/// rests on the batches before it, on a disk that tells what those left; it ends in one that rests on it too. The last batch does them as far
+/// as the disk came: where a call failed its event fails, and none that calls the disk is allowed behind it. Between two batches a machine
+/// goes on resting, whatever it places, links, indexes or answers. A machine to which a run leads rests on the batches that were found,
+/// while its disk may be called and no batch is in progress, and where it has as many durable on a disk that tells the same.
 pub fn a_batch_is_stage_seal_gate_settle()
     ensures steps { (hash : Hash) (n durable : ℕ) (history : List Transaction) (before now : Told) (made : MakesBatches hash 1 n durable history (Some before) (Some now))
-        → AreBatchSteps hash history durable made.first made.more made.last before now }
+        → AreBatchSteps hash history made.first made.more before }
+    ensures last { (hash : Hash) (n durable : ℕ) (history : List Transaction) (before now : Told) (made : MakesBatches hash 1 n durable history (Some before) (Some now))
+        → AreLastSteps hash history made.first made.more made.last before now }
+    ensures between { (hash : Hash) (m next : Machine) (event : Event) (output : Output) (batches : List (List Record)) (t : Told)
+        → IsBeside event → Steps hash m event output next → RestsOn m batches t → RestsOn next batches t }
     ensures rests { (hash : Hash) (n durable : ℕ) (history : List Transaction) (before now : Told) (made : MakesBatches hash 1 n durable history (Some before) (Some now)) (m : Machine)
-        → Gives32 hash → IsReached hash m → HoldsFirst m history (durable + length made.last) → m.stopped ≡ false → m.progress ≡ None → m.durable ≡ n → m.disk ≡ before
+        → Gives32 hash → IsReached hash m → HoldsFirst m history n → m.stopped ≡ false → m.progress ≡ None → m.durable ≡ n → m.disk ≡ before
         → RestsOn m made.first before }
 {}
 
