@@ -88,7 +88,7 @@ pub fn growth_is_one_by_one()
 /// rests on the batches before it, on a disk that tells what those left; it ends in one that rests on it too. The last batch does them as far
 /// as the disk came: where a call failed its event fails, and none that calls the disk is allowed behind it. Between two batches a machine
 /// goes on resting, whatever it places, links, indexes or answers. A machine to which a run leads rests on the batches that were found,
-/// while its disk may be called and no batch is in progress, and where it has as many durable on a disk that tells the same.
+/// where it holds what was found, has as many durable on a disk that may be called and tells the same, and no batch is in progress.
 pub fn a_batch_is_stage_seal_gate_settle()
     ensures steps { (hash : Hash) (n durable : ℕ) (history : List Transaction) (before now : Told) (made : MakesBatches hash 1 n durable history (Some before) (Some now))
         → AreBatchSteps hash history made.first made.more before }
