@@ -10,7 +10,7 @@ mod sharing;
 
 use counted::Counted;
 use im_digest::Sha;
-use im_disk::locked_folder::LockedFolder;
+use im_folder::locked_folder::LockedFolder;
 use sharing::{NotRun, run};
 use std::env;
 use std::process::ExitCode;

@@ -1,4 +1,3 @@
-mod Silent
 pub mod Burning
 pub mod Growing
 pub mod Leaving

@@ -1,4 +1,3 @@
-pub mod Brought
 pub mod Causes
 pub mod Disk
 pub mod Fused

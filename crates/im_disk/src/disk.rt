@@ -5,6 +5,8 @@ ghost use Rattle.im_disk.specs.Causes.{HasCause};
 ghost use Rattle.im_disk.specs.declared.calls.Call.TheVariants.{Wrote, Tore, Synced, Missed};
 
 use std::alloc::AllocError;
+use std::io;
+use std::io::ErrorKind;
 
 /// Why a disk didn't do what it was asked.
 #[derive(Clone, Copy, Debug, PartialEq, Eq)]
@@ -22,6 +24,23 @@ impl From<AllocError> for DiskError {
 
     fn from(_: AllocError) -> Self {
         DiskError::Memory
+    }
+}
+
+/// Want of memory, the system's too, is `Memory`, and every other error is a failure.
+impl From<io::Error> for DiskError {
+    ghost use Rattle.std.specs.Prelude.{◌↔◌};
+    ghost use Rattle.std.specs.IoError.{error_kind};
+    ghost use Rattle.std.specs.declared.io.ErrorKind.TheVariants.{OutOfMemory};
+    ghost use Rattle.im_disk.specs.declared.disk.DiskError.TheVariants.{Memory};
+
+    ghost from_gives = { λ error cause. (cause ≡ Memory) ↔ (error_kind error ≡ OutOfMemory) };
+
+    fn from(error: io::Error) -> Self {
+        match error.kind() {
+            ErrorKind::OutOfMemory => DiskError::Memory,
+            _ => DiskError::Failed,
+        }
     }
 }
 

@@ -2,7 +2,7 @@
 
 use crate::watched::{Asked, WatchedFiles};
 use im_disk::disk::{Disk, DiskError};
-use im_disk::folder::FolderDisk;
+use im_folder::folder::FolderDisk;
 use std::alloc::Global;
 use std::fs;
 use std::fs::Files;

@@ -2,11 +2,11 @@
 //! also within a program.
 
 use im_disk::disk::{Disk, DiskError};
-use im_disk::locked_folder::LockedFolder;
 use im_edge::file_keeper::FileKeeper;
 use im_edge::file_lock::{FileLock, Lockable};
 use im_edge::keeper::{Keeper, KeeperError};
 use im_edge::locked_keeper::LockedKeeper;
+use im_folder::locked_folder::LockedFolder;
 use std::alloc::Global;
 use std::fs;
 use std::fs::Files;

@@ -1,9 +1,9 @@
 ghost use Rattle.std.specs.Prelude.{◌≡◌, ◌<◌, ◌+◌, ◌-◌, ◌^◌, ◌⊎◌, min, true, OnOk, IsSome, slice_set};
 ghost use Rattle.im_disk.specs.Causes.{HasCause};
-ghost use Rattle.im_disk.specs.Brought.{AllBrought};
+ghost use Rattle.im_folder.specs.Brought.{AllBrought};
 
-use crate::disk::{Disk, DiskError};
 use crate::folder::{FolderDisk, counted};
+use im_disk::disk::{Disk, DiskError};
 use im_edge::file_lock::{FileLock, Lockable};
 use std::alloc::Global;
 use std::fs::Files;

@@ -1,11 +1,9 @@
 ghost use Rattle.std.specs.Prelude.{◌≡◌, ◌<◌, ◌≤◌, ◌+◌, ◌-◌, ◌^◌, ◌↔◌, ◌⊎◌, min, true, IsTrue, IsOk, IsErr, IsErrOf, IfErr, OnErr, OnOk, IsFalse, slice_set, slice_index_or, replicate, false};
-ghost use Rattle.std.specs.IoError.{error_kind};
-ghost use Rattle.std.specs.declared.io.ErrorKind.TheVariants.{OutOfMemory};
-ghost use Rattle.im_disk.specs.declared.disk.DiskError.TheVariants.{Failed, Memory};
+ghost use Rattle.im_disk.specs.declared.disk.DiskError.TheVariants.{Failed};
 ghost use Rattle.im_disk.specs.Causes.{HasCause};
-ghost use Rattle.im_disk.specs.Brought.{AllBrought, KeepsRest, Stays};
+ghost use Rattle.im_folder.specs.Brought.{AllBrought, KeepsRest, Stays};
 
-use crate::disk::{Disk, DiskError};
+use im_disk::disk::{Disk, DiskError};
 use im_edge::file_lock::folder_of;
 use im_edge::sink::{Writing, write_all};
 use std::alloc::Global;
@@ -305,18 +303,6 @@ impl<R: Files> Disk for FolderDisk<'_, R> {
             self.unsynced.lost = true;
         }
         counted(&mut self.failures, answer)
-    }
-}
-
-/// Want of memory, the system's too, is `Memory`, and every other error is a failure.
-impl From<io::Error> for DiskError {
-    ghost from_gives = { λ error cause. (cause ≡ Memory) ↔ (error_kind error ≡ OutOfMemory) };
-
-    fn from(error: io::Error) -> Self {
-        match error.kind() {
-            ErrorKind::OutOfMemory => DiskError::Memory,
-            _ => DiskError::Failed,
-        }
     }
 }
 

@@ -1,6 +1,6 @@
 use Rattle.std.proofs.Common.{refl}
-use Rattle.im_disk.proofs.Silent.{on_ok, if_ok}
-use Rattle.im_disk.proofs.folder.FolderDiskDisk.TheImpl.Goals as goal
+use Rattle.im_folder.proofs.Silent.{on_ok, if_ok}
+use Rattle.im_folder.proofs.locked_folder.LockedFolderDisk.TheImpl.Goals as goal
 
 pub write_at-tells : goal.write_at-tells
 write_at-tells g x c =

@@ -1,6 +1,6 @@
 -- What is left to bring to the disk of a folder's files.
 use Rattle.std.specs.Prelude.{◌≡◌, ◌<◌, ◌≤◌, ℕ, true, false, IsFalse, IsTrue, slice_index_or}
-use Rattle.im_disk.specs.declared.folder.Unsynced.{Unsynced}
+use Rattle.im_folder.specs.declared.folder.Unsynced.{Unsynced}
 
 -- no file and no folder is marked as left to bring
 pub record AllBrought (u : Unsynced) : Type 0 where

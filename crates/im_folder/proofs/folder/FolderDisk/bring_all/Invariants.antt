@@ -1,6 +1,6 @@
 use Rattle.std.proofs.Common.{◌≡◌, ◌<◌, ◌≤◌, ℕ, get_or, false}
-use Rattle.im_disk.specs.declared.folder.Unsynced.{Unsynced}
-use Rattle.im_disk.proofs.folder.FolderDisk.bring_all.Given as goal
+use Rattle.im_folder.specs.declared.folder.Unsynced.{Unsynced}
+use Rattle.im_folder.proofs.folder.FolderDisk.bring_all.Given as goal
 
 -- the files so far are brought, and all else is as it was
 pub record Bringing (before now : Unsynced) (n : ℕ) : Type 0 where
