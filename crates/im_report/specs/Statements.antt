@@ -87,7 +87,8 @@ pub record IsWriteTold (history : List Transaction) (text : List ℕ) (n : ℕ) 
   pub asks : AsksToWrite history text read asked
   pub told : IsPlacedAs history asked read n reply ⊎ IsRefusedAs history asked read n reply
 
--- The reply to `sql` at n. Nothing is tried again: where another transaction has written a guarded key since, that is told.
+-- The reply to `sql` at n. Where another transaction has written a guarded key behind what was read, that is told; how often a statement was judged
+-- before its reply isn't said.
 abbrev pub IsSqlAnswer : List Transaction → List ℕ → ℕ → List ℕ → Type 0
 IsSqlAnswer history text n reply = IsFaultTold text reply ⊎ (IsAnswerTold history text n reply ⊎ IsWriteTold history text n reply)
 

@@ -48,8 +48,8 @@ pub record FailsAt (history : List Transaction) (low : ℕ) (outcomes : List Out
   pub there : slice_get outcomes (length (first_replies outcomes)) ≡ Some first
   pub refused : IfNone first.late (WasRefused history (highest low (replies_in (of_session first.line.session outcomes))) first.line.command)
 
--- What a pass knows of faults behind a phase, and by why the phase stopped, if it did: of one where the disk failed at the first line without a reply, and that line had to
--- reach the disk. It told none where all lines were answered; nor where all are of one session, and it wasn't the disk that failed there.
+-- What a pass knows of faults behind a phase, and by why the phase stopped, if it did: of one where the disk failed at the first line without a reply, and that line asked
+-- for something to be written. It told none where all lines were answered; nor where all are of one session, and it wasn't the disk that failed there.
 pub record KnowsFaults (old new : KnownPass) (outcomes : List Outcome) (why : Option LineError) : Type 0 where
   pub knows : why ≡ Some DiskFault → 1 ≤ new.view.least.failed
   pub failed : why ≡ Some DiskFault → (items : List LogItem) → MayBecome new items → FailsAt (history_of items) old.view.least.durable outcomes
