@@ -162,7 +162,7 @@ fn put_block<'v>(
 }
 
 // Puts the last version of each key among these that is of the first `n` transactions into a map, in the place of an
-// earlier one of its key. It passes over the others of a key by doubling and halving.
+// earlier one of its key. It passes over the others of a key by what the first says of them, and by doubling and halving where that isn't so.
 fn put_last<'v>(
     newest: &mut BTreeMap<&'v [u8], &'v Version>,
     versions: &'v [Shared],

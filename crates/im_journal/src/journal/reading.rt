@@ -96,6 +96,13 @@ impl<D: Disk> Journal<D> {
         self.batch.step
     }
 
+    /// The number of transactions of the batch in progress, and where none is of the last one; 0 before the first.
+    pub fn batch_count(&self) -> u64
+        ensures { result ≡ self.now.batch.count }
+    {
+        self.batch.count
+    }
+
     /// How many calls of the disk have failed since opening, at most 2^64 - 1.
     pub fn failures(&self) -> u64
         ensures { result ≡ self.now.failures }
