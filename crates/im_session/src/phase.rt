@@ -40,7 +40,7 @@ pub(crate) struct Helpers {
     pub(crate) links: bool,
 }
 
-// Links what is durable, and again where more is, until all sessions have ended or memory runs out.
+// Links what is durable, some at a time, and once more where all sessions have ended, unless memory runs out.
 fn link_on<H: Hash32, D: Disk, C: Clock, N: TipName, R: Wait>(
     rt: &R,
     alloc: Global,
@@ -52,18 +52,21 @@ fn link_on<H: Hash32, D: Disk, C: Clock, N: TipName, R: Wait>(
     ensures { IsHelper N.table result }
 {
     tidings.tell(rt, store.tip(&mut pass));
+    let mut linked = 0;
     for _ in rt.forever() {
-        let Ok(linked) = store.link(rt, alloc, &mut pass, LINKED_AT_ONCE) else {
+        let ended = tidings.wait_past(rt, linked);
+        let Ok(size) = store.link(rt, alloc, &mut pass, LINKED_AT_ONCE) else {
             break;
         };
-        if tidings.wait_past(rt, linked) {
+        if ended {
             break;
         }
+        linked = size;
     }
     pass
 }
 
-// Indexes what is durable, and again where more is, until all sessions have ended or memory runs out.
+// Indexes what is durable, some at a time, and once more where all sessions have ended, unless memory runs out.
 fn index_on<H: Hash32, D: Disk, C: Clock, N: TipName, R: Wait>(
     rt: &R,
     alloc: Global,
@@ -74,13 +77,16 @@ fn index_on<H: Hash32, D: Disk, C: Clock, N: TipName, R: Wait>(
     requires { IsIdle N.table pass }
     ensures { IsIdle N.table result }
 {
+    let mut indexed = 0;
     for _ in rt.forever() {
-        let Ok(indexed) = store.index(rt, alloc, &mut pass, INDEXED_AT_ONCE) else {
+        let ended = tidings.wait_past(rt, indexed);
+        let Ok(count) = store.index(rt, alloc, &mut pass, INDEXED_AT_ONCE) else {
             break;
         };
-        if tidings.wait_past(rt, indexed) {
+        if ended {
             break;
         }
+        indexed = count;
     }
     pass
 }

@@ -11,7 +11,11 @@ struct SoFar {
     ended: bool,
 }
 
-/// How far a phase has come: what the linker and the indexer wait for, so that they take no processor time where there is nothing to do.
+// Of how many durable transactions who waits is told at a time: it is waked where the number passes a multiple of this one. To wake a thread
+// takes longer than to place a transaction, so it isn't done for each.
+const TOLD_AT_ONCE: u64 = 16;
+
+/// How far a phase has come: what the linker and the indexer wait for, so that they take no processor time where there is little to do.
 ///
 /// # Thread safety
 ///
@@ -36,11 +40,17 @@ impl Tidings {
 
     /// Tells that so many transactions are durable.
     pub(crate) fn tell<R: Wait>(&self, rt: &R, durable: u64) {
-        let mut so_far = self.so_far.lock(rt);
-        if so_far.durable < durable {
-            so_far.durable = durable;
+        if self.reaches(rt, durable) {
             self.changed.notify_all();
         }
+    }
+
+    // Keeps that so many are durable, and tells whether who waits has to be told.
+    fn reaches<R: Wait>(&self, rt: &R, durable: u64) -> bool {
+        let mut so_far = self.so_far.lock(rt);
+        let before = so_far.durable;
+        so_far.durable = before.max(durable);
+        goes_on(before, durable)
     }
 
     /// Tells that all sessions have ended.
@@ -50,11 +60,17 @@ impl Tidings {
         self.changed.notify_all();
     }
 
-    /// Waits until more transactions than so many are durable, or all sessions have ended, and tells whether they have.
+    /// Waits until some transactions more than so many are durable, at most as many as are told at once, or all sessions have ended, and
+    /// tells whether they have.
     pub(crate) fn wait_past<R: Wait>(&self, rt: &R, known: u64) -> bool {
         let so_far = self.changed.wait_while(rt, self.so_far.lock(rt), |so_far| {
-            so_far.durable <= known && !so_far.ended
+            !goes_on(known, so_far.durable) && !so_far.ended
         });
         so_far.ended
     }
+}
+
+// Whether the number passes a multiple of those that are told at once.
+fn goes_on(known: u64, durable: u64) -> bool {
+    known / TOLD_AT_ONCE < durable / TOLD_AT_ONCE
 }

@@ -14,6 +14,7 @@ use im_disk::disk::Disk;
 use im_edge::clock::Clock;
 use im_journal::batches::Step;
 use im_journal::errors::JournalError;
+use im_journal::journal::Journal;
 use im_seated_book::seated::SeatedBook;
 use im_seated_journal::seated::SeatedJournal;
 use im_table::law::Law;
@@ -27,7 +28,7 @@ use std::thread::yield_now;
 // free. A look takes about a microsecond: so a batch on a fast disk is awaited awake, and on a slow one asleep.
 const LOOKS: u32 = 1000;
 
-// How often others are let run before a batch is begun: some microseconds where no other thread waits for a processor.
+// How often others are let run where there are some: a few microseconds where no other thread waits for a processor.
 const TURNS: u32 = 50;
 
 // How often a batch is halved where memory runs out: the last one is of one transaction, since there are at most 2^20.
@@ -89,7 +90,7 @@ impl<'h, H: Hash32, D: Disk, C: Clock, L: Law, N: TipName> Store<'h, H, D, C, L,
         self.flush_to(rt, alloc, pass, n, &mut journal)
     }
 
-    // The journal's lock, or `None` where the first `n` are durable before it is had.
+    // The journal's lock, or `None` where the first `n` are durable before it is had. With the lock others have been let place theirs.
     fn journal_for<R: Wait>(
         &self,
         rt: &R,
@@ -103,16 +104,19 @@ impl<'h, H: Hash32, D: Disk, C: Clock, L: Law, N: TipName> Store<'h, H, D, C, L,
         ensures failed { pass.new.view.looks.failed ≡ pass.old.view.looks.failed }
         ensures placed { pass.new.view.looks.placed ≡ pass.old.view.looks.placed }
     {
-        for _look in 0..LOOKS {
+        for look in 0..LOOKS {
             if n <= self.tip.load_durable(pass) {
                 return None;
             }
             if let Some(journal) = self.journal.try_lock() {
+                let_others_place(journal.journal(), n, look > 0);
                 return Some(journal);
             }
             yield_now();
         }
-        Some(self.journal.lock(rt))
+        let journal = self.journal.lock(rt);
+        let_others_place(journal.journal(), n, true);
+        Some(journal)
     }
 
     // Makes batches durable, under the journal's lock, until the first `n` transactions of the pass's list are.
@@ -191,7 +195,6 @@ impl<'h, H: Hash32, D: Disk, C: Clock, L: Law, N: TipName> Store<'h, H, D, C, L,
         ensures durable { pass.new.view.looks.durable ≡ pass.old.view.looks.durable }
         ensures placed { length pass.old.view.seen ≤ pass.new.view.looks.placed.last }
     {
-        let_others_place();
         self.begin(rt, alloc, pass, journal)?;
         self.finish(alloc, pass, journal)
     }
@@ -284,11 +287,13 @@ impl<'h, H: Hash32, D: Disk, C: Clock, L: Law, N: TipName> Store<'h, H, D, C, L,
     }
 }
 
-// Lets other threads run before a batch is begun: those that the batch before has just set free place their next transactions
-// meanwhile, and these go with it.
-fn let_others_place() {
-    for _turn in 0..TURNS {
-        yield_now();
+// Lets other threads run before a batch is begun for the first `n`, where there are such: who begins it has waited for the journal's lock, or
+// the batch before had several transactions. Those that it has just set free place their next ones meanwhile, and these go with it.
+fn let_others_place<D: Disk>(journal: &Journal<D>, n: u64, waited: bool) {
+    if journal.durable() < n && (waited || journal.batch_count() > 1) {
+        for _turn in 0..TURNS {
+            yield_now();
+        }
     }
 }
 
