@@ -11,8 +11,8 @@ struct SoFar {
     ended: bool,
 }
 
-// Of how many durable transactions who waits is told at a time: it is waked where the number passes a multiple of this one. To wake a thread
-// takes longer than to place a transaction, so it isn't done for each.
+// Who waits is waked where the number of durable transactions passes a multiple of this one: to wake a thread is a call of the system, and the
+// session that makes it has a next line.
 const TOLD_AT_ONCE: u64 = 16;
 
 /// How far a phase has come: what the linker and the indexer wait for, so that they take no processor time where there is little to do.
