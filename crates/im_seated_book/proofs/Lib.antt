@@ -1,2 +1,3 @@
 pub mod RecordLemmas
+pub mod RootLemmas
 pub mod SeatLemmas

@@ -4,4 +4,5 @@
 
 mod copies;
 mod judging;
+mod roots;
 pub mod seated;

@@ -17,11 +17,11 @@ ghost use Rattle.im_seated_book.specs.Seats.{HasTimed, HaveReferences, HoldsItem
 
 use crate::copies::{part, records_of};
 use crate::judging::judge_over;
+use crate::roots::entry_root_over;
 use im_book::book::Book;
 use im_digest::{D32, Hash32};
 use im_draft::preconditions::Pres;
 use im_edge::clock::Clock;
-use im_entry::digests::entry_root;
 use im_format::records::Record;
 use im_format::references::Refs;
 use im_header::alh;
@@ -195,7 +195,7 @@ impl<C: Clock, N: TipName> SeatedBook<C, N> {
     /// Places what was prepared behind all that is placed, where the limit isn't reached and the preconditions hold, and
     /// answers its number. It stands over the tree of this moment, whose lock is held too, and its time is the clock's,
     /// which is asked only where it is placed. Whatever the answer is, the pass has then seen the whole list, behind which
-    /// the preconditions were judged; it loads the word placed once. It hashes each value twice, and each entry, the header
+    /// the preconditions were judged; it loads the word placed once. It hashes each value, each entry, the header
     /// and the nodes of the tree's root once. Where there are preconditions, the index of keys is brought up first: each
     /// key that was placed since the last such call is copied, once in all; with b the number of binary digits of the
     /// number of versions, each precondition then costs at most b * (b + 1) comparisons of keys.
@@ -279,7 +279,7 @@ impl<C: Clock, N: TipName> SeatedBook<C, N> {
             &mut ends,
             entries.as_slice(),
         )?;
-        let eh = entry_root(alloc, hash, entries.as_slice())?;
+        let eh = entry_root_over(hash, entries.as_slice(), refs.as_slice());
         self.book.reserve()?;
         self.refs.reserve(1)?;
         tip.fetch(&mut self.pass, pass);

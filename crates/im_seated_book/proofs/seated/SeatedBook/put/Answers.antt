@@ -1,8 +1,9 @@
-use Rattle.std.proofs.Common.{rules, ◌≡◌, ◌≤◌, ◌<◌, ◌+◌, ◌∙◌, ℕ, ℤ, Option, List, [], ◌∷◌, ◌++◌, false, refl, length, ap, sym, subst, arith}
+use Rattle.std.proofs.Common.{rules, ◌≡◌, ◌≤◌, ◌<◌, ◌+◌, ◌∙◌, ℕ, ℤ, Option, List, [], ◌∷◌, ◌++◌, false, refl, length, map, ap, sym, subst, arith}
 use Rattle.std.specs.Prelude.{IfSome}
 use Rattle.im_digest.specs.Digests.{Hash}
 use Rattle.im_format.specs.Places.{AreAppended}
 use Rattle.im_format.specs.Records.{AreReferences}
+use Rattle.im_format.specs.declared.references.ValueRef.{ValueRef}
 use Rattle.im_model.specs.History.{alhs_of, bl_root_of, IsTransaction}
 use Rattle.im_model.specs.declared.entries.Entry.{Entry}
 use Rattle.im_model.specs.declared.transactions.Transaction.{Transaction}
@@ -14,6 +15,7 @@ use Rattle.im_vlog.specs.Ends.{HaveRoom}
 use Rattle.im_book.specs.Booked.{Booked, IsBook, last_bl}
 use Rattle.im_seated_book.specs.Seats.{HasTimed, HoldsItems}
 use Rattle.im_book.proofs.BookLemmas.{book-same, last-bl-behind}
+use Rattle.im_seated_book.proofs.RootLemmas.{values_told}
 use Rattle.im_seated_book.proofs.SeatLemmas.{asked_is, found_within, lengths_fit, holds_more, holds_same, timed_more}
 use Rattle.im_seated_book.proofs.seated.SeatedBook.put.Goals as goal
 
@@ -26,9 +28,21 @@ append_values-requires-clause-room g c =
     let number : length c.self.inside.pass.view.seen + 1 ≡ c.len-number.result + 1 = ap (λ (n : ℕ). n + 1) (ap (λ (l : List LogItem). length l) c.self.view_is ∙ sym c.len-number.ensures) in
     subst (λ (n : ℕ). HaveRoom n c.self.inside.ends) number c.self.invariant.1.room
 
-pub entry_root-requires : goal.entry_root-requires
-entry_root-requires g c =
+pub entry_root_over-eh-requires-clause-some : goal.entry_root_over-eh-requires-clause-some
+entry_root_over-eh-requires-clause-some g c =
     omega (arith, ap (λ l. length l) c.as_slice-2.ensures, ap (λ l. length l) c.requires.asked.2, c.requires.asked.1.some)
+
+pub entry_root_over-eh-requires-clause-count : goal.entry_root_over-eh-requires-clause-count
+entry_root_over-eh-requires-clause-count g c =
+    let told = values_told (g.H.Hash32.digest c.args.hash.now) (c.len-number.result + 1) c.as_slice.result.now c.in_ok-refs.refs c.in_ok-refs.ensures.references in
+    omega (arith, told.0, ap (λ l. length l) c.as_slice.ensures, ap (λ l. length l) c.as_slice-2.ensures, ap (λ l. length l) c.as_slice-3.ensures)
+
+pub entry_root_over-eh-requires-clause-values : goal.entry_root_over-eh-requires-clause-values
+entry_root_over-eh-requires-clause-values g c =
+    let hash = g.H.Hash32.digest c.args.hash.now in
+    let told = values_told hash (c.len-number.result + 1) c.as_slice.result.now c.in_ok-refs.refs c.in_ok-refs.ensures.references in
+    ap (λ (l : List ValueRef). map (λ (r : ValueRef). r.hval) l) c.as_slice-3.ensures ∙ told.1
+    ∙ ap (λ (l : List Entry). map (λ (e : Entry). hash e.value) l) (c.as_slice.ensures ∙ sym c.as_slice-2.ensures)
 
 pub header_for-header-requires-clause-book : goal.header_for-header-requires-clause-book
 header_for-header-requires-clause-book g c =
