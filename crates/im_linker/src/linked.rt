@@ -1,8 +1,8 @@
-ghost use Rattle.std.specs.Prelude.{◌≡◌, ℕ, ◌≤◌, ◌+◌, List, length, take, drop, IfOk, OnErr};
+ghost use Rattle.std.specs.Prelude.{◌≡◌, ℕ, ◌≤◌, ◌+◌, List, length, take, drop, IfOk, IfSome, OnErr};
 ghost use Rattle.im_levels.specs.Leveled.{IsLeveled};
 ghost use Rattle.im_model.specs.History.{bl_root_of};
 ghost use Rattle.im_table.specs.Passes.{IsPassOf, IsPlacer, IsKeeper, Later, AddsNothing, AddsLeaves, tree_role};
-ghost use Rattle.im_linker.specs.Trees.{alhs_in, IsTreeOf};
+ghost use Rattle.im_linker.specs.Trees.{alhs_in, IsRootOf, IsTreeOf};
 
 use im_atree::trees::Tree;
 use im_digest::{D32, Hash32};
@@ -25,25 +25,28 @@ use std::marker::{Model, PhantomData};
 /// # Invariants
 ///
 /// Its size is the word linked, which is at most what the pass knows to be durable, and its leaves are the Alh of the
-/// first transactions of the pass's list, under the hash that the store was opened with (`IsTreeOf`).
+/// first transactions of the pass's list, under the hash that the store was opened with (`IsTreeOf`). Where its root is kept beside it,
+/// that is the root of this tree (`IsRootOf`).
 #[derive(Drop)]
 pub struct Linked<N: TipName> {
     tree: Tree,
+    root: Option<D32>,
     pass: Pass,
     of: PhantomData<N>,
 }
 
 impl<N: TipName> Model for Linked<N> {
-    ghost use Rattle.std.specs.Prelude.{◌≡◌, ◌≤◌};
+    ghost use Rattle.std.specs.Prelude.{◌≡◌, ◌≤◌, IfSome};
     ghost use Rattle.im_levels.specs.Leveled.{Stored};
     ghost use Rattle.im_table.specs.Passes.{IsKeeper, tree_role};
-    ghost use Rattle.im_linker.specs.Trees.{IsTreeOf};
+    ghost use Rattle.im_linker.specs.Trees.{IsRootOf, IsTreeOf};
 
     ghost Value = { Stored };
 
     ghost view = { λ l. l.tree };
 
-    ghost invariant = { λ l. IsKeeper N.table tree_role l.pass × (l.pass.view.least.linked ≡ l.tree.size) × (l.tree.size ≤ l.pass.view.least.durable) × IsTreeOf N.digest l.pass.view.seen l.tree };
+    ghost invariant = { λ l. IsKeeper N.table tree_role l.pass × (l.pass.view.least.linked ≡ l.tree.size) × (l.tree.size ≤ l.pass.view.least.durable) × IsTreeOf N.digest l.pass.view.seen l.tree
+        × IfSome l.root (IsRootOf N.digest l.tree) };
 }
 
 impl<N: TipName> Linked<N> {
@@ -56,6 +59,7 @@ impl<N: TipName> Linked<N> {
     {
         Linked {
             tree,
+            root: None,
             pass,
             of: PhantomData,
         }
@@ -68,7 +72,12 @@ impl<N: TipName> Linked<N> {
         ensures size { (result.1.view.least.linked ≡ self.size) × (self.size ≤ result.1.view.least.durable) }
         ensures leaves { IsTreeOf N.digest result.1.view.seen self }
     {
-        let Linked { tree, pass, of: _ } = self;
+        let Linked {
+            tree,
+            root: _,
+            pass,
+            of: _,
+        } = self;
         (tree, pass)
     }
 
@@ -98,7 +107,7 @@ impl<N: TipName> Linked<N> {
 
     /// The size of the tree and its root, for a transaction that is placed now, by a pass that has the book's role and so
     /// has seen the whole list. The root is 32 zeros where the tree has no leaf; else it takes a few digests for each
-    /// binary digit of the size. It takes no memory.
+    /// binary digit of the size, once behind each `link`. It takes no memory.
     pub fn under<H: Hash32, L: Law>(
         &mut self,
         hash: &H,
@@ -119,7 +128,9 @@ impl<N: TipName> Linked<N> {
     {
         tip.fetch(&mut self.pass, pass);
         self.pass = tip.split(pass, tree_role(), 0);
-        (self.tree.size(), root_of(hash, &self.tree))
+        let root = kept_root(hash, &self.tree, self.root);
+        self.root = Some(root);
+        (self.tree.size(), root)
     }
 
     /// Links the Alh of the transactions behind those that are linked, all or none, and answers the tree's size. They
@@ -146,11 +157,23 @@ impl<N: TipName> Linked<N> {
         ensures err { OnErr result ((self.new ≡ self.old) × (pass.new ≡ pass.old)) }
     {
         self.tree.extend(hash, alhs)?;
+        self.root = None;
         tip.fetch(&mut self.pass, pass);
         let size = self.tree.size();
         tip.store_linked(pass, size);
         self.pass = tip.split(pass, tree_role(), 0);
         Ok(size)
+    }
+}
+
+// The root of a tree: the one that is kept, where one is.
+fn kept_root<H: Hash32>(hash: &H, tree: &Tree, kept: Option<D32>) -> D32
+    requires { IfSome kept (IsRootOf (H.digest hash.now) tree.now) }
+    ensures { IsRootOf (H.digest hash.now) tree.now result }
+{
+    match kept {
+        Some(root) => root,
+        None => root_of(hash, tree),
     }
 }
 

@@ -195,10 +195,11 @@ impl<C: Clock, N: TipName> SeatedBook<C, N> {
     /// Places what was prepared behind all that is placed, where the limit isn't reached and the preconditions hold, and
     /// answers its number. It stands over the tree of this moment, whose lock is held too, and its time is the clock's,
     /// which is asked only where it is placed. Whatever the answer is, the pass has then seen the whole list, behind which
-    /// the preconditions were judged; it loads the word placed once. It hashes each value, each entry, the header
-    /// and the nodes of the tree's root once. Where there are preconditions, the index of keys is brought up first: each
-    /// key that was placed since the last such call is copied, once in all; with b the number of binary digits of the
-    /// number of versions, each precondition then costs at most b * (b + 1) comparisons of keys.
+    /// the preconditions were judged; it loads the word placed once. It hashes each value, each entry and the header
+    /// once, and the nodes of the tree's root where something was linked since it was made. Where there are preconditions,
+    /// the index of keys is brought up first: each key that was placed since the last such call is copied, once in all;
+    /// with b the number of binary digits of the number of versions, each precondition then costs at most b * (b + 1)
+    /// comparisons of keys.
     ///
     /// # Errors
     ///

@@ -134,7 +134,7 @@
 //! | `open` | nobody | what `im_opening::open` costs: all files read and checked, and one sync, or two and a write; and the index of all that was found |
 //! | `Opened::keys` | nobody | the index's runs are shared, none is copied |
 //! | `named`, `hash`, `pass`, `end`, `tip` | nobody | a few steps on words; no memory |
-//! | `commit` | book and tree; then the journal, unless another thread makes it durable | each value and the root of its entries hashed once, its header by two hashes, a few nodes of the tree; two copies of keys and values; where it has preconditions, a copy of each key that was placed since the last commit with some (once in all, merged into sorted runs), and b * (b + 1) comparisons of keys for each, with b binary digits in the number of versions; its share of a batch: 2 syncs, 3 writes and one for each value log |
+//! | `commit` | book and tree; then the journal, unless another thread makes it durable | each value and the root of its entries hashed once, its header by two hashes, a few nodes of the tree where it has grown; two copies of keys and values; where it has preconditions, a copy of each key that was placed since the last commit with some (once in all, merged into sorted runs), and b * (b + 1) comparisons of keys for each, with b binary digits in the number of versions; its share of a batch: 2 syncs, 3 writes and one for each value log |
 //! | `settle` | book; then as `commit` | nothing where it is durable, else its share of a batch |
 //! | `link` | book, tree | a copy of 32 octets, one leaf and about one node hashed for each transaction |
 //! | `index` | index; book, for 64 transactions at a time | what `Index::take` costs: keys and values copied, runs merged |

@@ -33,8 +33,8 @@ impl<'h, H: Hash32, D: Disk, C: Clock, L: Law, N: TipName> Store<'h, H, D, C, L,
     ///
     /// It is the event Place; then, where no other thread makes it durable, Stage, Seal, Gate and Settle, or Fault; then
     /// Ack. It waits for the journal's lock, unless another thread makes it durable before it sleeps, and a batch that it writes has all that
-    /// was placed by then, as far as memory goes. It hashes each value, the root of its entries and a few nodes of the tree once, its
-    /// header by two hashes, and copies the header.
+    /// was placed by then, as far as memory goes. It hashes each value and the root of its entries once, a few nodes of the tree where it
+    /// has grown since the last one was placed, its header by two hashes, and copies the header.
     ///
     /// # Errors
     ///

@@ -1,9 +1,10 @@
 use Rattle.std.proofs.Common.{rules, ◌≡◌, ◌≤◌, ◌+◌, ◌++◌, ◌∙◌, List, ℕ, length, take, drop, ap, sym, subst}
+use Rattle.std.specs.Prelude.{IfSome}
 use Rattle.im_digest.specs.Digests.{Hash}
 use Rattle.im_levels.specs.Leveled.{IsLeveled, Stored}
 use Rattle.im_table.specs.declared.items.LogItem.{LogItem}
 use Rattle.im_table.specs.declared.view.View.{View}
-use Rattle.im_linker.specs.Trees.{alhs_in, IsTreeOf}
+use Rattle.im_linker.specs.Trees.{alhs_in, IsRootOf, IsTreeOf}
 use Rattle.im_linker.proofs.TreeLemmas.{tree_linked}
 use Rattle.im_linker.proofs.linked.Linked.link.Goals as goal
 
@@ -13,6 +14,7 @@ invariant_of-self g c = (
   search rules,
   search rules,
   subst (λ (t : Stored). IsTreeOf g.N.TipName.digest c.self.inside.pass.view.seen t) (sym c.in_err-extend.ensures.err) c.self.invariant.3,
+  subst (λ (t : Stored). IfSome c.self.inside.root (IsRootOf g.N.TipName.digest t)) (sym c.in_err-extend.ensures.err) c.self.invariant.4,
 )
 
 pub invariant_of-self-2 : goal.invariant_of-self-2
@@ -34,6 +36,7 @@ invariant_of-self-2 g c =
       search rules,
       search rules,
       subst (λ (l : List LogItem). IsTreeOf hash l new) (sym (ap seen c.split.ensures.right.1 ∙ ap seen c.store_linked.ensures.view)) tree,
+      tt,
     )
 
 pub returns-clause-leaves : goal.returns-clause-leaves

@@ -15,6 +15,7 @@ invariant_of-self g c =
       search rules,
       search rules,
       subst (λ (l : List LogItem). IsTreeOf hash l c.self.inside.tree) (sym (ap seen c.split.ensures.right.1)) tree,
+      c.self.invariant.4,
     )
 
 pub returns-clause-leaves : goal.returns-clause-leaves
