@@ -1,1 +1,2 @@
+mod Clearing
 mod Silent
