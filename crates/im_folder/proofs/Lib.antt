@@ -1,2 +1,3 @@
 mod Clearing
+mod Refused
 mod Silent

@@ -372,7 +372,12 @@ pub(crate) fn counted<T>(failures: &mut u64, answer: Result<T, DiskError>) -> Re
 // Opens a file to be read and written, or where that isn't allowed to be read.
 fn open_to_write<R: Files>(rt: &R, path: &str) -> io::Result<R::File> {
     match OpenOptions::new().read(true).write(true).open(rt, path) {
-        Err(error) if error.kind() == ErrorKind::PermissionDenied => fs::open(rt, path),
+        Err(error) if is_only_to_read(error.kind()) => fs::open(rt, path),
         answer => answer,
     }
+}
+
+// Whether a file wasn't opened since it can't be written.
+fn is_only_to_read(why: ErrorKind) -> bool {
+    matches!(why, ErrorKind::PermissionDenied | ErrorKind::ReadOnlyFilesystem)
 }

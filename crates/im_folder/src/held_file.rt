@@ -1,4 +1,3 @@
-// An open file whose length is known.
 ghost use Rattle.std.specs.Prelude.{◌≡◌, ◌≤◌, ◌+◌, ◌↔◌, IsOk, IfErr};
 ghost use Rattle.im_disk.specs.declared.disk.DiskError.TheVariants.{Failed};
 

@@ -1,4 +1,3 @@
-// The files of a disk that are open.
 ghost use Rattle.std.specs.Prelude.{◌<◌};
 
 use crate::held_file::HeldFile;
