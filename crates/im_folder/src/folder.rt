@@ -379,5 +379,8 @@ fn open_to_write<R: Files>(rt: &R, path: &str) -> io::Result<R::File> {
 
 // Whether a file wasn't opened since it can't be written.
 fn is_only_to_read(why: ErrorKind) -> bool {
-    matches!(why, ErrorKind::PermissionDenied | ErrorKind::ReadOnlyFilesystem)
+    matches!(
+        why,
+        ErrorKind::PermissionDenied | ErrorKind::ReadOnlyFilesystem
+    )
 }
