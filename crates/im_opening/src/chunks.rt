@@ -11,24 +11,26 @@ use im_digest::{D32, Hash32};
 use std::alloc::{AllocError, Global};
 use std::thread::{Threads, available_parallelism, map_chunks};
 
-// So many items are worth threads of their own.
-const WORTH: usize = 1024;
+// So many items are worth a thread of their own.
+const WORTH: usize = 128;
 
-// How many threads share what is hashed ahead: one for each processor but the one that reads.
-fn hands<R: Threads>(rt: &R) -> usize
-    ensures { 0 < result }
-{
+// How many chunks there are for each processor, which the thread that reads shares: so none waits long for the last.
+const SHARES: usize = 4;
+
+// How many processors there are.
+fn hands<R: Threads>(rt: &R) -> usize {
     match available_parallelism(rt) {
-        Ok(hands) => hands.get().saturating_sub(1).max(1),
+        Ok(hands) => hands.get(),
         Err(_) => 1,
     }
 }
 
-/// The size of chunks of so many items, an even number, so that each thread has one; all are in one where they are few.
+/// The size of chunks of so many items, an even number, so that all processors have some; all are in one where they are few.
 pub(crate) fn chunk_of<R: Threads>(rt: &R, count: usize) -> usize
     ensures { 0 < result }
 {
-    let parts = if count < WORTH { 1 } else { hands(rt) };
+    let most = hands(rt).saturating_mul(SHARES);
+    let parts = most.min(count / WORTH).max(1);
     (count / parts / 2).saturating_mul(2).saturating_add(2)
 }
 

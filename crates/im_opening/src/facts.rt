@@ -9,9 +9,9 @@ use im_octet::buffers::append;
 use std::alloc::{AllocError, Global};
 use std::marker::Model;
 
-// The octets of the longest string that is kept: of those that are hashed of a record, only a long value and an entry with
-// a long key have more.
-const MOST_OCTETS: usize = 160;
+/// The octets of the longest string that is kept: of those that are hashed of a record, only a long value and an entry with
+/// a long key have more.
+pub(crate) const MOST_OCTETS: usize = 160;
 
 // The places that are looked at for a fact.
 const PROBES: usize = 64;
@@ -113,7 +113,7 @@ fn is_alike(word: u64, mark: u64) -> bool {
     (word ^ mark) & UPPER == 0
 }
 
-/// Facts, each found by its parts in a few steps. It takes memory for 208 octets a fact and 16 octets more. A clause sees
+/// Facts, most found by their parts in a few steps. It takes memory for 208 octets a fact and 16 octets more. A clause sees
 /// the list of them.
 #[derive(Drop)]
 pub(crate) struct Facts {
@@ -238,10 +238,11 @@ impl Facts {
         self.facts.get((word & LOWER) as usize)
     }
 
-    // Where the fact of a mark is looked for first; there is one place at least.
+    // Where the fact of a mark is looked for first: as far on among the places as the lower half of the mark is among its
+    // numbers.
     fn place_of(&self, mark: u64) -> usize {
-        let places = (self.places.len() as u64).max(1);
-        (mark % places) as usize
+        let places = self.places.len() as u64;
+        ((mark & LOWER).wrapping_mul(places) >> 32) as usize
     }
 
     // The place that is looked at behind this one.

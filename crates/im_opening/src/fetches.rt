@@ -3,6 +3,7 @@ ghost use Rattle.im_disk.specs.Causes.{HasCause};
 ghost use Rattle.im_disk.specs.Disk.{seen};
 ghost use Rattle.im_opening.specs.Parts.{Shows};
 
+use crate::facts::MOST_OCTETS;
 use crate::leads::{Fields, Lead, fields_at};
 use crate::source::RecordSource;
 use im_disk::disk::{Disk, DiskError};
@@ -10,8 +11,8 @@ use im_format::files::{FIRST_VALUE_LOG, LAST_VALUE_LOG};
 use im_model::limits::MOST_VALUE_OCTETS;
 use std::alloc::{AllocError, Global};
 
-/// The values of records that are looked ahead at, one behind the other, and where each ends. Nothing rests on them, as on
-/// `Lead`.
+/// The values of records that are looked ahead at, one behind the other, and where each ends; of a value of more than 160
+/// octets none. Nothing rests on them, as nothing rests on `Lead`.
 #[derive(Drop)]
 pub(crate) struct Values {
     octets: Vec<u8>,
@@ -48,7 +49,8 @@ impl Values {
     }
 }
 
-/// Reads the values of records, up to the first that doesn't lie within its log.
+/// Reads the values of records, up to the first that doesn't lie within its log. One of more than 160 octets isn't read: it
+/// wouldn't be hashed.
 pub(crate) fn fetch<D: Disk>(
     alloc: Global,
     disk: &mut D,
@@ -93,7 +95,7 @@ fn fetch_record<D: Disk>(
     Ok(true)
 }
 
-// Reads a value, where it lies within its log.
+// Reads a value, where it lies within its log and isn't long.
 fn fetch_value<D: Disk>(
     alloc: Global,
     disk: &mut D,
@@ -112,12 +114,13 @@ fn fetch_value<D: Disk>(
     if end < fields.place || end - fields.place < fields.len {
         return Ok(false);
     }
-    let mut octets = vec![in alloc; 0u8; fields.len as usize]?;
-    disk.read(
-        FIRST_VALUE_LOG + fields.log as u8,
-        fields.place,
-        &mut octets,
-    )?;
-    values.add(octets.as_slice())?;
+    if fields.len > MOST_OCTETS as u64 {
+        values.add(&[])?;
+        return Ok(true);
+    }
+    let mut octets = [0u8; MOST_OCTETS];
+    let (octets, _) = octets.split_at_mut(fields.len as usize);
+    disk.read(FIRST_VALUE_LOG + fields.log as u8, fields.place, octets)?;
+    values.add(octets)?;
     Ok(true)
 }

@@ -3,55 +3,33 @@ ghost use Rattle.im_opening.specs.Facts.{AreFacts, IsKnown};
 
 use crate::chunks::{chunk_of, near_facts};
 use crate::facts::Facts;
-use crate::leads::survey_behind;
-use crate::plans::{Outlook, Plan};
+use crate::plans::Plan;
 use crate::rows::Rows;
 use crate::windows::Window;
 use im_digest::{D32, Hash32};
 use std::alloc::{AllocError, Global};
-use std::mem;
 use std::thread::Threads;
 
 // The most leaves that join the tree at once: what is hashed of them is held, two facts a leaf.
 const MOST_LEAVES: usize = 32_768;
 
-/// A window, and what is hashed behind it.
-#[derive(Drop)]
-pub(crate) struct Filled {
-    pub window: Window,
-    pub outlook: Outlook,
-}
-
-/// A window with what is hashed, by several threads, of the records of a plan, and of the tree over all Alh before the last; and
-/// the records behind them. The plan is empty then. Its only error is want of memory.
+/// A window with what is hashed, by several threads, of the records of a plan, and of the tree, which its leaves join. Its only
+/// error is want of memory.
 pub(crate) fn fill<R: Threads + Sync, H: Hash32 + Sync>(
     rt: &R,
     alloc: Global,
     hash: &H,
     log: &[u8],
-    plan: &mut Plan,
-) -> Result<Filled, AllocError>
-    ensures { IfOk result (λ filled. IsKnown (H.digest hash.now) filled.window) }
+    plan: &Plan,
+    rows: &mut Rows,
+) -> Result<Window, AllocError>
+    ensures { IfOk result (λ window. IsKnown (H.digest hash.now) window) }
 {
-    let Plan {
-        leads,
-        leaves,
-        values,
-        mut rows,
-    } = mem::replace(plan, Plan::empty(alloc));
-    let far = raised(rt, alloc, hash, leaves.as_slice(), &mut rows)?;
-    drop(leaves);
+    let far = raised(rt, alloc, hash, plan.leaves.as_slice(), rows)?;
+    let leads = plan.leads.as_slice();
     let size = chunk_of(rt, leads.len());
-    let near = near_facts(rt, alloc, hash, log, &values, &rows, leads.as_slice(), size)?;
-    drop(values);
-    let behind = survey_behind(alloc, log, leads.as_slice())?;
-    Ok(Filled {
-        window: Window::of(leads, size, near, far),
-        outlook: Outlook {
-            leads: behind,
-            rows,
-        },
-    })
+    let near = near_facts(rt, alloc, hash, log, &plan.values, rows, leads, size)?;
+    Ok(Window::of(leads, size, near, far))
 }
 
 // Raises a tree by these leaves, and gives what is hashed of it. Where they are more than many, that is of the last of them

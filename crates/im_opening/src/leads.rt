@@ -4,10 +4,10 @@ use im_digest::{D32, Hash32};
 use im_model::limits::{MOST_ENTRIES, MOST_KEY_OCTETS};
 use std::alloc::{AllocError, Global};
 
-/// The most records that are looked ahead at.
-pub(crate) const MOST_LEADS: usize = 2048;
+// The most records that are looked ahead at.
+const MOST_LEADS: usize = 2048;
 
-// The most octets of the transaction log that are, but for the last record.
+// The most octets of the transaction log that are looked ahead at, but for the last record.
 const MOST_OCTETS: usize = 1_048_576;
 
 /// What a record says of itself, unchecked. Nothing rests on it: what is hashed by it is a digest of some string in any case.
@@ -84,23 +84,6 @@ pub(crate) fn survey(alloc: Global, log: &[u8], start: &Start) -> Result<Vec<Lea
         before = lead.alh;
     }
     Ok(leads)
-}
-
-/// The records behind these. Its only error is want of memory.
-pub(crate) fn survey_behind(
-    alloc: Global,
-    log: &[u8],
-    leads: &[Lead],
-) -> Result<Vec<Lead>, AllocError> {
-    let Some(last) = leads.last() else {
-        return Ok(Vec::new(alloc));
-    };
-    let start = Start {
-        count: last.id,
-        at: last.end,
-        before: last.alh,
-    };
-    survey(alloc, log, &start)
 }
 
 // The record at a place, where its fields are there, and its lengths within the limits.

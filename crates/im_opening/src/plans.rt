@@ -6,42 +6,20 @@ ghost use Rattle.im_opening.specs.Parts.{Shows};
 use crate::fetches::{Values, fetch};
 use crate::leads::{Lead, Start, survey};
 use crate::records::Progress;
-use crate::rows::Rows;
 use crate::source::RecordSource;
-use crate::windows::Window;
 use im_digest::{D32, Hash32};
 use im_disk::disk::{Disk, DiskError};
 use std::alloc::{AllocError, Global};
 
-/// What is hashed next: the records behind a window, and the tree over the Alh before, as far as it was raised. Nothing rests
-/// on it, as on `Lead`.
-#[derive(Drop)]
-pub(crate) struct Outlook {
-    pub leads: Vec<Lead>,
-    pub rows: Rows,
-}
-
-impl Outlook {
-    /// The first records. Its only error is want of memory.
-    pub(crate) fn of_all<H: Hash32>(
-        alloc: Global,
-        hash: &H,
-        log: &[u8],
-    ) -> Result<Self, AllocError> {
-        Ok(Outlook {
-            leads: survey(alloc, log, &Start::of_all(hash))?,
-            rows: Rows::new(alloc),
-        })
-    }
-}
-
-/// All that is needed to hash it: the Alh that join the tree, and the values of the records, too.
+/// All that is needed to hash records that follow each other: what they say of themselves, the Alh that join the tree up to
+/// the last of them, and the values. Nothing rests on it, as nothing rests on `Lead`.
 #[derive(Drop)]
 pub(crate) struct Plan {
     pub leads: Vec<Lead>,
     pub leaves: Vec<D32>,
+    /// The size of the tree with these leaves.
+    pub size: u64,
     pub values: Values,
-    pub rows: Rows,
 }
 
 impl Plan {
@@ -50,75 +28,101 @@ impl Plan {
         Plan {
             leads: Vec::new(alloc),
             leaves: Vec::new(alloc),
+            size: 0,
             values: Values::empty(alloc),
-            rows: Rows::new(alloc),
+        }
+    }
+
+    // That of these records, whose leaves join a tree of this size.
+    fn of(leads: Vec<Lead>, leaves: Vec<D32>, size: u64, values: Values) -> Self {
+        let size = size.saturating_add(leaves.len() as u64);
+        Plan {
+            leads,
+            leaves,
+            size,
+            values,
         }
     }
 }
 
-/// What is needed to hash the records behind a window, where so much was read and the window isn't read yet. Where the reading
-/// has come by the window already, those that were read last are behind it.
-pub(crate) fn plan_of<D: Disk>(
+/// What is needed to hash the first records, but for their values. Its only error is want of memory.
+pub(crate) fn first_plan<H: Hash32>(
+    alloc: Global,
+    hash: &H,
+    log: &[u8],
+    progress: &Progress,
+) -> Result<Plan, AllocError> {
+    let before = Plan::empty(alloc);
+    let leads = survey(alloc, log, &Start::of_all(hash))?;
+    let leaves = leaves_behind(alloc, progress, &before, leads.as_slice())?;
+    drop(before);
+    Ok(Plan::of(leads, leaves, 0, Values::empty(alloc)))
+}
+
+/// What is needed to hash the records behind those of a plan, where so much was read; where that has come by the plan already,
+/// those that were read last are behind it.
+pub(crate) fn plan_behind<D: Disk>(
     alloc: Global,
     disk: &mut D,
     source: &RecordSource,
     progress: &Progress,
-    window: &Window,
-    outlook: Outlook,
+    before: &Plan,
 ) -> Result<Plan, DiskError>
     requires shows { IfSome (D.told disk.old) (λ t. Shows (seen t) source.now.log.now source.now.lengths) }
     ensures told { D.told disk.new ≡ D.told disk.old }
     ensures cause { HasCause (D.faults disk.old) (D.faults disk.new) result }
 {
-    let Outlook { leads, rows } = outlook;
-    let leads = leads_ahead(alloc, source.log, progress, leads)?;
+    let leads = leads_behind(alloc, source.log, progress, before.leads.as_slice())?;
     let values = fetch(alloc, disk, source, leads.as_slice())?;
-    let leaves = leaves_before(alloc, progress, window, leads.as_slice(), rows.size())?;
-    Ok(Plan {
-        leads,
-        leaves,
-        values,
-        rows,
-    })
+    let leaves = leaves_behind(alloc, progress, before, leads.as_slice())?;
+    Ok(Plan::of(leads, leaves, before.size, values))
 }
 
-// These records, or those behind all that was read, where some of these were.
-fn leads_ahead(
+// The records behind these, or behind all that was read, where all of these were.
+fn leads_behind(
     alloc: Global,
     log: &[u8],
     progress: &Progress,
-    leads: Vec<Lead>,
+    leads: &[Lead],
 ) -> Result<Vec<Lead>, AllocError> {
-    let count = progress.alhs.len() as u64;
-    let (Some(lead), Some(alh)) = (leads.first(), progress.alhs.last()) else {
-        return Ok(leads);
+    let Some(last) = leads.last() else {
+        return Ok(Vec::new(alloc));
     };
-    if count < lead.id {
-        return Ok(leads);
-    }
-    let start = Start {
-        count,
-        at: progress.place as usize,
-        before: *alh,
-    };
+    let start = start_behind(progress, last);
     survey(alloc, log, &start)
 }
 
-// The Alh from one number on up to the size of the last record's tree, as they were read or as the records say.
-fn leaves_before(
+// Where the records behind one begin, or those behind all that was read, where that one was.
+fn start_behind(progress: &Progress, last: &Lead) -> Start {
+    let count = progress.alhs.len() as u64;
+    match progress.alhs.last() {
+        Some(alh) if last.id <= count => Start {
+            count,
+            at: progress.place as usize,
+            before: *alh,
+        },
+        _ => Start {
+            count: last.id,
+            at: last.end,
+            before: last.alh,
+        },
+    }
+}
+
+// The Alh that join the tree behind those of a plan, up to the size of the last record's tree, as they were read or as the
+// records say.
+fn leaves_behind(
     alloc: Global,
     progress: &Progress,
-    window: &Window,
+    before: &Plan,
     leads: &[Lead],
-    start: u64,
 ) -> Result<Vec<D32>, AllocError> {
     let mut leaves = Vec::new(alloc);
-    let (Some(first), Some(last)) = (leads.first(), leads.last()) else {
+    let Some(last) = leads.last() else {
         return Ok(leaves);
     };
-    let behind = first.id.saturating_sub(1);
-    for number in start..last.bl.min(last.id) {
-        let Some(alh) = alh_behind(progress, window, leads, behind, number) else {
+    for number in before.size..last.bl.min(last.id) {
+        let Some(alh) = alh_behind(progress, before, leads, number) else {
             break;
         };
         leaves.push(alh)?;
@@ -126,20 +130,20 @@ fn leaves_before(
     Ok(leaves)
 }
 
-// The Alh of the record behind so many: as it was read, or as it says in a window, or among the records behind so many.
-fn alh_behind(
-    progress: &Progress,
-    window: &Window,
-    leads: &[Lead],
-    behind: u64,
-    before: u64,
-) -> Option<D32> {
-    if let Some(alh) = progress.alhs.get(before as usize) {
+// The Alh of the record behind so many: as it was read, or as it says in a plan, or among the records behind that.
+fn alh_behind(progress: &Progress, before: &Plan, leads: &[Lead], number: u64) -> Option<D32> {
+    if let Some(alh) = progress.alhs.get(number as usize) {
         return Some(*alh);
     }
-    if let Some(alh) = window.alh_behind(before) {
-        return Some(alh);
+    match alh_among(before.leads.as_slice(), number) {
+        Some(alh) => Some(alh),
+        None => alh_among(leads, number),
     }
-    let index = before.checked_sub(behind)?;
+}
+
+// The Alh of the record behind so many, as it says itself, where it is one of these.
+fn alh_among(leads: &[Lead], number: u64) -> Option<D32> {
+    let first = leads.first()?;
+    let index = number.checked_sub(first.id.saturating_sub(1))?;
     Some(leads.get(index as usize)?.alh)
 }

@@ -154,7 +154,8 @@ pub fn read_files<D: Disk, H: Hash32>(
     read_logs(alloc, hash, disk, commits.as_slice(), log.as_slice())
 }
 
-/// Reads the files and checks them, as `read_files` does and with its answer, where several threads hash ahead of the reading.
+/// Reads the files and checks them, as `read_files` does, where several threads hash ahead of the reading. `DiskFault` comes too
+/// where the disk failed at a value that `read_files` doesn't read.
 pub(crate) fn read_files_on<R: Threads + Sync, D: Disk, H: Hash32 + Sync>(
     rt: &R,
     alloc: Global,

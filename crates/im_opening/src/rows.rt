@@ -34,11 +34,10 @@ impl Row {
 }
 
 /// Digests of the whole subtrees of some leaves beside each other, by their levels from the leaves up, and of those before
-/// that a root over the leaves up to one of these is made of. Nothing rests on it, as on `Lead`.
+/// that a root over the leaves up to one of these is made of. Nothing rests on them, as nothing rests on `Lead`.
 #[derive(Drop)]
 pub(crate) struct Rows {
     rows: Vec<Row>,
-    size: u64,
 }
 
 impl Rows {
@@ -50,13 +49,7 @@ impl Rows {
     pub(crate) fn new(alloc: Global) -> Self {
         Rows {
             rows: Vec::new(alloc),
-            size: 0,
         }
-    }
-
-    /// The number of leaves.
-    pub(crate) fn size(&self) -> u64 {
-        self.size
     }
 
     /// The number of levels.
@@ -100,7 +93,6 @@ impl Rows {
             let parts = pair_facts(rt, alloc, hash, row.digests.as_slice())?;
             self.add(alloc, level + 1, parts, far)?;
         }
-        self.size = self.size.saturating_add(leaves.len() as u64);
         Ok(())
     }
 

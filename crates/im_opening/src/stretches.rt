@@ -11,9 +11,10 @@ ghost use Rattle.im_opening.specs.Stretches.{AreAllRead, IsLeft, IsReadTo, all_o
 
 use crate::batches::read_batch;
 use crate::errors::OpenError;
-use crate::filling::{Filled, fill};
-use crate::plans::{Outlook, Plan, plan_of};
+use crate::filling::fill;
+use crate::plans::{Plan, first_plan, plan_behind};
 use crate::records::Progress;
+use crate::rows::Rows;
 use crate::source::RecordSource;
 use crate::windows::Window;
 use im_atree::trees::Tree;
@@ -25,12 +26,13 @@ use std::alloc::{AllocError, Global};
 use std::mem;
 use std::thread::{Threads, join_mut};
 
-/// How far the batches were read: their records, the gate behind them, and how many they are.
+/// How far the batches were read: their records, the gate behind them, and how many they are; and the plan that was made last.
 #[derive(Drop)]
 pub(crate) struct Reading {
     pub progress: Progress,
     pub gate: usize,
     pub batches: u64,
+    pub next: Option<Plan>,
 }
 
 impl Reading {
@@ -56,6 +58,7 @@ impl Reading {
             },
             gate: 0,
             batches: 0,
+            next: None,
         }
     }
 }
@@ -77,7 +80,9 @@ fn all_read(reading: Reading, behind: Uncounted) -> BatchesRead
         progress,
         gate,
         batches,
+        next,
     } = reading;
+    drop(next);
     BatchesRead {
         progress,
         gate,
@@ -177,11 +182,11 @@ pub(crate) fn read_batches_on<R: Threads + Sync, D: Disk, H: Hash32 + Sync>(
     ensures cause { HasOpenCause (D.faults disk.old) (D.faults disk.new) result }
 {
     let mut window = Window::empty(alloc);
-    let mut outlook = Outlook::of_all(alloc, hash, source.log)?;
+    let mut rows = Rows::new(alloc);
     let mut reading = Reading::new(alloc);
+    let mut plan = first_plan(alloc, hash, source.log, &reading.progress)?;
     'stretches: loop {
-        let mut plan = plan_of(alloc, disk, source, &reading.progress, &window, outlook)?;
-        let (next, behind) = read_beside(
+        let (filled, behind) = read_beside(
             rt,
             alloc,
             hash,
@@ -189,25 +194,30 @@ pub(crate) fn read_batches_on<R: Threads + Sync, D: Disk, H: Hash32 + Sync>(
             commits,
             source,
             &window,
+            &plan,
+            &mut rows,
             &mut reading,
-            &mut plan,
         );
-        drop(plan);
         if let Some(behind) = behind? {
-            drop(next);
+            drop(filled);
             drop(window);
+            drop(plan);
             return Ok(all_read(reading, behind));
         }
-        let Filled {
-            window: filled,
-            outlook: rest,
-        } = next?;
+        let filled = filled?;
         drop(mem::replace(&mut window, filled));
-        outlook = rest;
+        take_over(&mut plan, &mut reading.next);
     }
 }
 
-// Reads batches up to the end of a window, as `read_stretch` does, while the next is filled.
+// Puts a plan in the place of one before it, where there is one.
+fn take_over(plan: &mut Plan, next: &mut Option<Plan>) {
+    if let Some(next) = next.take() {
+        drop(mem::replace(plan, next));
+    }
+}
+
+// Reads batches up to the end of a window, and plans behind a plan, as `read_and_plan` does, while that plan's window is filled.
 fn read_beside<R: Threads + Sync, D: Disk, H: Hash32 + Sync>(
     rt: &R,
     alloc: Global,
@@ -216,10 +226,11 @@ fn read_beside<R: Threads + Sync, D: Disk, H: Hash32 + Sync>(
     commits: &[u8],
     source: &RecordSource,
     window: &Window,
+    plan: &Plan,
+    rows: &mut Rows,
     reading: &mut Reading,
-    plan: &mut Plan,
 ) -> (
-    Result<Filled, AllocError>,
+    Result<Window, AllocError>,
     Result<Option<Uncounted>, OpenError>,
 )
     requires shows { IfSome (D.told disk.old) (λ t. Shows (seen t) source.now.log.now source.now.lengths) }
@@ -227,7 +238,7 @@ fn read_beside<R: Threads + Sync, D: Disk, H: Hash32 + Sync>(
     requires known { IsKnown (H.digest hash.now) window.now }
     requires reached { IsReadTo (H.digest hash.now) commits.now source.now.log.now reading.old }
     requires left { IsLeft (H.digest hash.now) (D.told disk.old) reading.old }
-    ensures known { IfOk result.0 (λ filled. IsKnown (H.digest hash.now) filled.window) }
+    ensures known { IfOk result.0 (λ filled. IsKnown (H.digest hash.now) filled) }
     ensures reached { OnOk result.1 (IsReadTo (H.digest hash.now) commits.now source.now.log.now reading.new) }
     ensures left { OnOk result.1 (IsLeft (H.digest hash.now) (D.told disk.old) reading.new) }
     ensures on { IfOk result.1 (λ behind. IfNone behind (reading.old.gate < reading.new.gate)) }
@@ -238,7 +249,41 @@ fn read_beside<R: Threads + Sync, D: Disk, H: Hash32 + Sync>(
     ensures cause { HasOpenCause (D.faults disk.old) (D.faults disk.new) result.1 }
 {
     let log = source.log;
-    let mut hashes = || fill(rt, alloc, hash, log, plan);
-    let mut reads = || read_stretch(alloc, hash, disk, commits, source, window, reading);
+    let mut hashes = || fill(rt, alloc, hash, log, plan, rows);
+    let mut reads = || { read_and_plan(alloc, hash, disk, commits, source, window, plan, reading) };
     join_mut(rt, &mut hashes, &mut reads)
+}
+
+// Reads batches up to the end of a window, as `read_stretch` does, and, where some may count behind them, plans what is hashed
+// behind a plan.
+fn read_and_plan<D: Disk, H: Hash32>(
+    alloc: Global,
+    hash: &H,
+    disk: &mut D,
+    commits: &[u8],
+    source: &RecordSource,
+    window: &Window,
+    plan: &Plan,
+    reading: &mut Reading,
+) -> Result<Option<Uncounted>, OpenError>
+    requires shows { IfSome (D.told disk.old) (λ t. Shows (seen t) source.now.log.now source.now.lengths) }
+    requires commits { IfSome (D.told disk.old) (λ t. commits.now ≡ seen t 1) }
+    requires known { IsKnown (H.digest hash.now) window.now }
+    requires reached { IsReadTo (H.digest hash.now) commits.now source.now.log.now reading.old }
+    requires left { IsLeft (H.digest hash.now) (D.told disk.old) reading.old }
+    ensures reached { OnOk result (IsReadTo (H.digest hash.now) commits.now source.now.log.now reading.new) }
+    ensures left { OnOk result (IsLeft (H.digest hash.now) (D.told disk.old) reading.new) }
+    ensures on { IfOk result (λ behind. IfNone behind (reading.old.gate < reading.new.gate)) }
+    ensures behind { IfOk result (λ behind. IfSome behind (λ why. IsUncounted commits.now reading.new.gate why)) }
+    ensures last { IfOk result (λ behind. IfSome behind (λ why. Counts commits.now reading.new.gate → ⊥)) }
+    ensures unfit { (t : Told) → D.told disk.old ≡ Some t → IfErr result (Tells (image_checks (H.digest hash.now) (seen t))) }
+    ensures told { D.told disk.new ≡ D.told disk.old }
+    ensures cause { HasOpenCause (D.faults disk.old) (D.faults disk.new) result }
+{
+    if let Some(behind) = read_stretch(alloc, hash, disk, commits, source, window, reading)? {
+        return Ok(Some(behind));
+    }
+    let planned = plan_behind(alloc, disk, source, &reading.progress, plan)?;
+    drop(mem::replace(&mut reading.next, Some(planned)));
+    Ok(None)
 }

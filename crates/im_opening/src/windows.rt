@@ -3,14 +3,11 @@ ghost use Rattle.im_opening.specs.Facts.{AreFacts, IsKnown};
 
 use crate::facts::Facts;
 use crate::leads::Lead;
-use im_digest::D32;
 use std::alloc::Global;
 
 /// What was hashed ahead, of records that follow each other and of the tree over them.
 #[derive(Drop)]
 pub(crate) struct Window {
-    /// What they say of themselves.
-    pub leads: Vec<Lead>,
     /// How many records are before the first.
     pub first: u64,
     /// How many records are before the first behind them; all, where nothing is hashed ahead any more.
@@ -33,7 +30,6 @@ impl Window {
         ensures { (hash : Hash) → IsKnown hash result }
     {
         Window {
-            leads: Vec::new(alloc),
             first: 0,
             until: 0,
             size: 1,
@@ -43,7 +39,7 @@ impl Window {
     }
 
     /// One that has this of these records, in chunks of this size.
-    pub(crate) fn of(leads: Vec<Lead>, size: usize, near: Vec<Facts>, far: Facts) -> Self
+    pub(crate) fn of(leads: &[Lead], size: usize, near: Vec<Facts>, far: Facts) -> Self
         ensures { (hash : Hash) → All (λ facts. AreFacts hash facts) near.items → AreFacts hash far → IsKnown hash result }
     {
         let first = match leads.first() {
@@ -55,7 +51,6 @@ impl Window {
             None => u64::MAX,
         };
         Window {
-            leads,
             first,
             until,
             size: size as u64,
@@ -73,11 +68,5 @@ impl Window {
             Some(facts) => facts,
             None => &self.far,
         }
-    }
-
-    /// The Alh that the record behind so many says that it has, where it is one of these.
-    pub(crate) fn alh_behind(&self, before: u64) -> Option<D32> {
-        let index = before.checked_sub(self.first)?;
-        Some(self.leads.get(index as usize)?.alh)
     }
 }

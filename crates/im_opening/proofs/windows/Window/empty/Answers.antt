@@ -7,5 +7,5 @@ use Rattle.im_opening.proofs.windows.Window.empty.Goals as goal
 pub returns : goal.returns
 returns c hash = record {
   far = subst (AreFacts hash) (sym c.with_room.ensures) (All-nil (IsFact hash));
-  near = subst (λ (l : List (List Fact)). All (AreFacts hash) l) (sym c.new-2.ensures.items) (All-nil (AreFacts hash));
+  near = subst (λ (l : List (List Fact)). All (AreFacts hash) l) (sym c.new.ensures.items) (All-nil (AreFacts hash));
 }
