@@ -10,7 +10,6 @@ use Rattle.im_format.specs.Damages.{batch_checks, image_checks}
 use Rattle.im_format.specs.Reading.{number_at}
 use Rattle.im_format.specs.declared.records.Record.{Record}
 use Rattle.im_mtree.specs.Checks.{first_fail}
-use Rattle.im_opening.specs.Opening.{AreBatches}
 use Rattle.im_opening.specs.Reach.{AreMore, Fits, IsWholeProgress, reached_of}
 use Rattle.im_opening.specs.Stretches.{AreAllRead, BatchesLeft, IsLeft, IsReadTo, all_of}
 use Rattle.im_opening.specs.declared.stretches.Reading.{Reading}

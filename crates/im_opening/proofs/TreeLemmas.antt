@@ -1,5 +1,5 @@
 -- The tree of a history's Alh, while it grows.
-use Rattle.std.proofs.Common.{◌≡◌, ◌<◌, ◌≤◌, ℕ, List, length, take, sym, ◌∙◌, subst, arith, if◌then◌else◌}
+use Rattle.std.proofs.Common.{◌≡◌, ◌≤◌, ℕ, List, length, take, sym, ◌∙◌, subst}
 use Rattle.std.proofs.lemmas.List.{length-take-le}
 use Rattle.im_digest.specs.Digests.{Hash}
 use Rattle.im_levels.specs.Leveled.{Stored, IsLeveled}

@@ -1,6 +1,6 @@
-use Rattle.std.proofs.Common.{◌≡◌, sym, subst}
+use Rattle.std.proofs.Common.{sym, subst}
 use Rattle.std.specs.Prelude.{OnOk}
-use Rattle.im_disk.specs.Disk.{Told, seen}
+use Rattle.im_disk.specs.Disk.{seen}
 use Rattle.im_format.specs.Damages.{record_checks}
 use Rattle.im_opening.specs.Answers.{Judges}
 use Rattle.im_opening.specs.Reach.{Fits, IsOneMore, IsWholeProgress, reached_of}

@@ -2,7 +2,7 @@ use Rattle.std.proofs.Common.{◌≡◌, refl, sym, ◌∙◌, subst, Ok, Result
 use Rattle.std.specs.Prelude.{IfOk, IfSome, OnOk}
 use Rattle.im_clog.specs.Marks.{IsUncounted}
 use Rattle.im_clog.specs.declared.marks.Uncounted.{Uncounted}
-use Rattle.im_disk.specs.Disk.{Told, seen}
+use Rattle.im_disk.specs.Disk.{seen}
 use Rattle.im_format.specs.Batches.{Counts}
 use Rattle.im_opening.specs.Answers.{HasOpenCause}
 use Rattle.im_opening.specs.Facts.{IsKnown}

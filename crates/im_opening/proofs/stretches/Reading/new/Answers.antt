@@ -1,4 +1,4 @@
-use Rattle.std.proofs.Common.{arith, ◌≡◌, [], ℕ, List, length, sym, ◌∙◌, ap, subst}
+use Rattle.std.proofs.Common.{arith, [], ℕ, List, length, sym, ◌∙◌, ap, subst}
 use Rattle.im_disk.specs.Disk.{seen}
 use Rattle.im_format.specs.Records.{records_octets}
 use Rattle.im_format.specs.declared.records.Record.{Record}
