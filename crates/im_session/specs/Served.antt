@@ -68,7 +68,7 @@ FailsIn history low [] = ⊥
 FailsIn history low (outcomes ∷ []) = FailsAt history low outcomes
 FailsIn history low (outcomes ∷ next ∷ phases) = FailsIn history (next_low low outcomes) (next ∷ phases)
 
--- What a pass knows of faults behind phases, by how the script ended there: of one where the disk failed at the line that stopped it, and that line had to reach the disk. It told none where all lines were
+-- What a pass knows of faults behind phases, by how the script ended there: of one where the disk failed at the line that stopped it, and that line asked for something to be written. It told none where all lines were
 -- answered; nor where all are of one session, and it wasn't the disk that stopped it.
 pub record TellsFaults (old new : KnownPass) (phases : List (List Outcome)) (end : Result Unit Stopped) : Type 0 where
   pub knows : end ≡ Err (stops.Line line.DiskFault) → 1 ≤ new.view.least.failed
