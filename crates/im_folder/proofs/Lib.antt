@@ -1,3 +1,1 @@
-mod Clearing
-mod Refused
 mod Silent

@@ -1,36 +1,32 @@
-ghost use Rattle.std.specs.Prelude.{◌≡◌, ◌<◌, ◌+◌, ◌-◌, ◌^◌, ◌⊎◌, min, true, IsTrue, IsErr, IsErrOf, OnErr, OnOk, IsFalse, slice_set, slice_index_or, replicate, false};
+ghost use Rattle.std.specs.Prelude.{◌≡◌, ◌<◌, ◌≤◌, ◌+◌, ◌-◌, ◌^◌, ◌↔◌, ◌⊎◌, min, true, IsTrue, IsOk, IsErr, IsErrOf, IfErr, OnErr, OnOk, IsFalse, slice_set, slice_index_or, replicate, false};
 ghost use Rattle.im_disk.specs.declared.disk.DiskError.TheVariants.{Failed};
 ghost use Rattle.im_disk.specs.Causes.{HasCause};
 ghost use Rattle.im_folder.specs.Brought.{AllBrought, KeepsRest, Stays};
 
-use crate::held_file::{HeldFile, brought, lies_within};
-use crate::held_files::HeldFiles;
 use im_disk::disk::{Disk, DiskError};
 use im_edge::file_lock::folder_of;
+use im_edge::sink::{Writing, write_all};
 use std::alloc::Global;
 use std::fs::{Files, OpenFile, OpenOptions};
-use std::io::ErrorKind;
+use std::io::{ErrorKind, Read, Seek, SeekFrom};
 use std::{fs, io};
 
 /// A disk over the files of a folder, which are named by their numbers: `0`, `1` and so on. It opens
-/// a file at the first call that needs it, and holds it open from then on. It makes files and the
-/// folder only to write; what isn't there is empty. A read past a file's end fails, and so does a
-/// write behind it. Nothing is tried again: once a sync failed, no later one succeeds. It tells no
-/// content, and no clause says what the files hold.
+/// a file at each call that needs it, and makes files and the folder only to write; what isn't there
+/// is empty. A read past a file's end fails, and so does a write behind it. Nothing is tried again:
+/// once a sync failed, no later one succeeds. It tells no content, and no clause says what the files
+/// hold.
 ///
-/// A file is opened to be read and written, or where that isn't allowed to be read, and its length is
-/// asked for; from then on the disk knows the length by its own writes. `read` and `write_at` go to
-/// the place and read or write until all octets are through. A call that fails closes its file, and
-/// the next one opens it anew. A write to a file that isn't there looks for the folder, and makes what
-/// is missing. `sync` calls `sync_data` of each file that was written since it was last brought to the
-/// disk; it opens the folder and calls `sync_all` where files were made in it, and does the same with
-/// the one that names the folder where that was made. The first `sync` does so with all of them that
-/// are there. Opening a file takes memory for its path.
+/// `len`, `read` and `write_at` open their file and ask for its length, and then `read` and `write_at`
+/// go to the place and read or write until all octets are through. A write to a file that isn't there
+/// looks for the folder, and makes what is missing. `sync` opens each file that was written since it
+/// was last brought to the disk, and calls `sync_data`; it does the same by `sync_all` with the folder
+/// where files were made in it, and with the one that names the folder where that was made. The first
+/// `sync` does so with all of them that are there. Opening a file takes memory for its path.
 ///
 /// # Thread safety
 ///
-/// None: one owner holds it. Nothing keeps another disk or process from the folder's files, and what
-/// those do to a file that is held open isn't looked for.
+/// None: one owner holds it. Nothing keeps another disk or process from the folder's files.
 ///
 /// # Invariants
 ///
@@ -44,13 +40,12 @@ use std::{fs, io};
 ///   (`count`).
 /// - The folder stays the same (`path`).
 #[derive(Drop)]
-pub struct FolderDisk<'a, R: Files> {
+pub struct FolderDisk<'a, R> {
     rt: &'a R,
     alloc: Global,
     folder: &'a str,
     failures: u64,
     unsynced: Unsynced,
-    held: HeldFiles<R::File>,
 }
 
 // What a sync still has to bring to the disk: at first all that is there, since nobody knows whether
@@ -88,7 +83,6 @@ impl<'a, R: Files> FolderDisk<'a, R> {
                 folder: true,
                 lost: false,
             },
-            held: HeldFiles::none(),
         }
     }
 
@@ -99,24 +93,11 @@ impl<'a, R: Files> FolderDisk<'a, R> {
         self.failures
     }
 
-    // Takes a file that is held, or else opens it, where it's there.
-    fn take(&mut self, file: u8) -> Result<Option<HeldFile<R::File>>, DiskError>
-        requires { file < 16 }
-        ensures failures { self.new.failures ≡ self.old.failures }
-        ensures path { self.new.folder ≡ self.old.folder }
-        ensures unsynced { self.new.unsynced ≡ self.old.unsynced }
-    {
-        match self.held.take(file) {
-            Some(held) => Ok(Some(held)),
-            None => self.opened(file),
-        }
-    }
-
     // Opens a file, where it's there.
-    fn opened(&self, file: u8) -> Result<Option<HeldFile<R::File>>, DiskError> {
+    fn opened(&self, how: &OpenOptions, file: u8) -> Result<Option<R::File>, DiskError> {
         let path = self.path_of(file)?;
-        match open_to_write(self.rt, path.as_str()) {
-            Ok(opened) => Ok(Some(HeldFile::of(opened)?)),
+        match how.open(self.rt, path.as_str()) {
+            Ok(opened) => Ok(Some(opened)),
             Err(error) if error.kind() == ErrorKind::NotFound => Ok(None),
             Err(error) => Err(DiskError::from(error)),
         }
@@ -128,32 +109,20 @@ impl<'a, R: Files> FolderDisk<'a, R> {
         Ok(format!(in self.alloc; "{folder}/{file}")?)
     }
 
-    fn length_of(&mut self, file: u8) -> Result<u64, DiskError>
-        requires { file < 16 }
-        ensures failures { self.new.failures ≡ self.old.failures }
-        ensures path { self.new.folder ≡ self.old.folder }
-        ensures unsynced { self.new.unsynced ≡ self.old.unsynced }
-    {
-        let Some(held) = self.take(file)? else {
-            return Ok(0);
-        };
-        let length = held.len();
-        self.held.hold(file, held);
-        Ok(length)
+    fn length_of(&self, file: u8) -> Result<u64, DiskError> {
+        match self.opened(OpenOptions::new().read(true), file)? {
+            Some(opened) => octets_in(&opened),
+            None => Ok(0),
+        }
     }
 
-    fn fill_from(&mut self, file: u8, at: u64, buffer: &mut [u8]) -> Result<(), DiskError>
-        requires { file < 16 }
-        ensures failures { self.new.failures ≡ self.old.failures }
-        ensures path { self.new.folder ≡ self.old.folder }
-        ensures unsynced { self.new.unsynced ≡ self.old.unsynced }
-    {
-        let Some(mut held) = self.take(file)? else {
+    fn fill_from(&self, file: u8, at: u64, buffer: &mut [u8]) -> Result<(), DiskError> {
+        let Some(mut opened) = self.opened(OpenOptions::new().read(true), file)? else {
             return lies_within(at, buffer.len() as u64, 0);
         };
-        held.read(at, buffer)?;
-        self.held.hold(file, held);
-        Ok(())
+        lies_within(at, buffer.len() as u64, octets_in(&opened)?)?;
+        opened.seek(SeekFrom::Start(at))?;
+        fill(&mut opened, buffer)
     }
 
     fn put(&mut self, file: u8, at: u64, piece: &[u8]) -> Result<(), DiskError>
@@ -164,20 +133,20 @@ impl<'a, R: Files> FolderDisk<'a, R> {
         ensures stays { Stays self.old.unsynced self.new.unsynced }
     {
         self.unsynced.files[file as usize] = true;
-        let held = match self.take(file)? {
-            Some(held) => held,
+        let mut opened = match self.opened(OpenOptions::new().write(true), file)? {
+            Some(opened) => opened,
             None => {
                 lies_within(at, 0, 0)?;
                 self.made(file)?
             }
         };
-        let written = held.written(at, piece)?;
-        self.held.hold(file, written);
-        Ok(())
+        lies_within(at, 0, octets_in(&opened)?)?;
+        opened.seek(SeekFrom::Start(at))?;
+        write_all(&mut Writing::new(opened), piece).map_err(|_| DiskError::Failed)
     }
 
     // Makes a file, and the folder where it isn't there.
-    fn made(&mut self, file: u8) -> Result<HeldFile<R::File>, DiskError>
+    fn made(&mut self, file: u8) -> Result<R::File, DiskError>
         ensures failures { self.new.failures ≡ self.old.failures }
         ensures path { self.new.folder ≡ self.old.folder }
         ensures files { self.new.unsynced.files ≡ self.old.unsynced.files }
@@ -191,29 +160,8 @@ impl<'a, R: Files> FolderDisk<'a, R> {
         }
         self.unsynced.names = true;
         let mut how = OpenOptions::new();
-        how.read(true).write(true).create(true);
-        HeldFile::of(how.open(self.rt, path.as_str())?)
-    }
-
-    // Brings all that is left to be brought. Where that fails it is lost.
-    fn bring_or_lose(&mut self) -> Result<(), DiskError>
-        ensures failures { self.new.failures ≡ self.old.failures }
-        ensures path { self.new.folder ≡ self.old.folder }
-        ensures lost { IsTrue self.old.unsynced.lost → IsErr result }
-        ensures all { OnOk result (AllBrought self.new.unsynced) }
-        ensures left { OnErr result
-            (IsFalse self.old.unsynced.lost → AllBrought self.new.unsynced → ⊥) }
-        ensures kept { OnErr result (KeepsRest self.old.unsynced self.new.unsynced) }
-        ensures failed { IsErrOf result Failed → IsTrue self.new.unsynced.lost }
-        ensures still { IsTrue self.old.unsynced.lost → IsTrue self.new.unsynced.lost }
-    {
-        match self.bring_all() {
-            Err(DiskError::Failed) => {
-                self.unsynced.lost = true;
-                Err(DiskError::Failed)
-            }
-            answer => answer,
-        }
+        how.write(true).create(true);
+        Ok(how.open(self.rt, path.as_str())?)
     }
 
     // Each file before the folder that names it.
@@ -251,9 +199,8 @@ impl<'a, R: Files> FolderDisk<'a, R> {
         ensures still { self.new.unsynced.lost ≡ self.old.unsynced.lost }
     {
         if self.unsynced.files[file as usize] {
-            if let Some(held) = self.take(file)? {
-                held.bring()?;
-                self.held.hold(file, held);
+            if let Some(opened) = self.opened(OpenOptions::new().read(true), file)? {
+                brought(opened.sync_data())?;
             }
         }
         self.unsynced.files[file as usize] = false;
@@ -351,7 +298,10 @@ impl<R: Files> Disk for FolderDisk<'_, R> {
             self.new.failures ≡ min (self.old.failures + 1) (2 ^ 64 - 1) }
         ensures path { self.new.folder ≡ self.old.folder }
     {
-        let answer = self.bring_or_lose();
+        let answer = self.bring_all();
+        if matches!(answer, Err(DiskError::Failed)) {
+            self.unsynced.lost = true;
+        }
         counted(&mut self.failures, answer)
     }
 }
@@ -369,18 +319,44 @@ pub(crate) fn counted<T>(failures: &mut u64, answer: Result<T, DiskError>) -> Re
     answer
 }
 
-// Opens a file to be read and written, or where that isn't allowed to be read.
-fn open_to_write<R: Files>(rt: &R, path: &str) -> io::Result<R::File> {
-    match OpenOptions::new().read(true).write(true).open(rt, path) {
-        Err(error) if is_only_to_read(error.kind()) => fs::open(rt, path),
-        answer => answer,
+// Whether the system brought something to the disk. Where it couldn't, it may have dropped what it was
+// to bring, so that is a failure also where it wanted memory.
+fn brought(answer: io::Result<()>) -> Result<(), DiskError>
+    ensures ok { IsOk result ↔ IsOk answer }
+    ensures failed { IfErr result (λ error. error ≡ Failed) }
+{
+    answer.map_err(|_| DiskError::Failed)
+}
+
+// Fails unless `n` octets from `at` on are among the first `length`.
+fn lies_within(at: u64, n: u64, length: u64) -> Result<(), DiskError>
+    ensures ok { IsOk result ↔ (at + n ≤ length) }
+    ensures failed { IfErr result (λ error. error ≡ Failed) }
+{
+    match at.checked_add(n) {
+        Some(end) if end <= length => Ok(()),
+        _ => Err(DiskError::Failed),
     }
 }
 
-// Whether a file wasn't opened since it can't be written.
-fn is_only_to_read(why: ErrorKind) -> bool {
-    matches!(
-        why,
-        ErrorKind::PermissionDenied | ErrorKind::ReadOnlyFilesystem
-    )
+// The length of a file. What is no file, as a folder, fails.
+fn octets_in<F: OpenFile>(opened: &F) -> Result<u64, DiskError> {
+    let data = opened.metadata()?;
+    if data.is_file() {
+        Ok(data.len())
+    } else {
+        Err(DiskError::Failed)
+    }
+}
+
+// Fills a buffer with what a reader gives.
+fn fill<S: Read>(reader: &mut S, buffer: &mut [u8]) -> Result<(), DiskError> {
+    let mut filled = 0;
+    while filled < buffer.len() {
+        match reader.read(&mut buffer[filled..]) {
+            Ok(n) if n > 0 => filled += n,
+            _ => return Err(DiskError::Failed),
+        }
+    }
+    Ok(())
 }

@@ -2,6 +2,4 @@
 #![tactic(auto)]
 
 pub mod folder;
-mod held_file;
-mod held_files;
 pub mod locked_folder;

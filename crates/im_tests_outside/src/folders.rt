@@ -23,8 +23,6 @@ enum Act {
     Failures(u64),
     // The syncs that the files were asked for since this was last seen.
     Synced(&'static str),
-    // How many files and folders were opened since this was last seen.
-    Opened(u64),
     // Whether writes and syncs of the files fail from here on.
     Failing(bool),
     // What the system itself does with a path, and sees there.
@@ -37,7 +35,7 @@ enum Act {
 
 use Act::{
     Failing, Failures, Holds, Len, MakeFile, MakeFolder, Missing, NoLen, NoRead, NoSync, NoWrite,
-    Opened, Read, Remove, Sync, Synced, Write,
+    Read, Remove, Sync, Synced, Write,
 };
 
 const FAILED: DiskError = DiskError::Failed;
@@ -78,7 +76,6 @@ fn fits<R: Files + Alloc>(
 fn fits_below<R: Files + Alloc>(files: &WatchedFiles<'_, R>, act: Act) -> bool {
     match act {
         Synced(want) => files.asked.synced(want),
-        Opened(want) => files.asked.opened(want),
         Failing(failing) => {
             files.asked.fail(failing);
             true
@@ -129,63 +126,6 @@ const WALKS: &[(&str, &str, &[Act])] = &[
             Read(1, 2, "XYe"),
             Len(2, 0),
             Failures(0),
-        ],
-    ),
-    (
-        "each file is opened once",
-        "im_disk_held",
-        &[
-            Remove("im_disk_held"),
-            Len(1, 0),
-            Opened(0),
-            Write(1, 0, "abc"),
-            Write(1, 3, "d"),
-            Read(1, 0, "abcd"),
-            Len(1, 4),
-            Opened(1),
-            Write(2, 0, "e"),
-            Opened(1),
-            // Both files are held; the folder and the one above aren't.
-            Sync,
-            Opened(2),
-            Write(1, 1, "x"),
-            Sync,
-            Opened(0),
-            Holds("im_disk_held/1", "axcd"),
-        ],
-    ),
-    (
-        "what lies there is opened once, too",
-        "im_disk_held",
-        &[
-            Read(1, 0, "axcd"),
-            Len(1, 4),
-            Write(1, 4, "y"),
-            Opened(1),
-            Len(1, 5),
-            Opened(0),
-        ],
-    ),
-    (
-        "a call that fails lets go of its file",
-        "im_disk_held",
-        &[
-            NoRead(1, 4, 2),
-            Opened(1),
-            Len(1, 5),
-            Opened(1),
-            Failing(true),
-            NoWrite(1, 5),
-            Failing(false),
-            Opened(0),
-            Len(1, 5),
-            Opened(1),
-            Write(1, 5, "z"),
-            Len(1, 6),
-            Opened(0),
-            Holds("im_disk_held/1", "axcdyz"),
-            Failures(2),
-            Remove("im_disk_held"),
         ],
     ),
     (

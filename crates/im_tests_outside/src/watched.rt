@@ -1,4 +1,4 @@
-//! The system's files, whose opens and syncs are noted, and which fail where a test wants it.
+//! The system's files, whose syncs are noted, and which fail where a test wants it.
 
 use std::alloc::Allocator;
 use std::cell::Cell;
@@ -14,8 +14,6 @@ pub struct Asked {
     syncs: Cell<u128>,
     // How many writes and syncs succeed before all others fail.
     left: Cell<u64>,
-    // How many files and folders were opened.
-    opens: Cell<u64>,
 }
 
 impl Asked {
@@ -23,7 +21,6 @@ impl Asked {
         Asked {
             syncs: Cell::new(0),
             left: Cell::new(u64::MAX),
-            opens: Cell::new(0),
         }
     }
 
@@ -34,11 +31,6 @@ impl Asked {
             octets = behind(octets, *octet);
         }
         self.syncs.replace(0) == octets
-    }
-
-    // Whether so many files and folders were opened since this was last asked.
-    pub fn opened(&self, want: u64) -> bool {
-        self.opens.replace(0) == want
     }
 
     // So many writes and syncs succeed from here on, and then none.
@@ -138,7 +130,6 @@ impl<'a, R: Files> Files for WatchedFiles<'a, R> {
 
     fn open_file(&self, how: &OpenOptions, path: &str) -> io::Result<WatchedFile<'a, R::File>> {
         let inner = self.inner.open_file(how, path)?;
-        self.asked.opens.set(self.asked.opens.get().wrapping_add(1));
         Ok(WatchedFile {
             inner,
             last: path.as_bytes().last().copied().unwrap_or(0),

@@ -1,5 +1,5 @@
 use Rattle.std.proofs.Common.{◌-◌, ◌≤◌, length}
-use Rattle.im_folder.proofs.held_file.fill.Given as goal
+use Rattle.im_folder.proofs.folder.fill.Given as goal
 
 abbrev pub invariant-loop-filled : goal.invariant-loop-filled
 invariant-loop-filled g l = l.filled ≤ length l.buffer
