@@ -107,7 +107,7 @@ impl<N: TipName> Linked<N> {
 
     /// The size of the tree and its root, for a transaction that is placed now, by a pass that has the book's role and so
     /// has seen the whole list. The root is 32 zeros where the tree has no leaf; else it takes a few digests for each
-    /// binary digit of the size, once behind each `link`. It takes no memory.
+    /// binary digit of the size, once behind opening and each `link`. It takes no memory.
     pub fn under<H: Hash32, L: Law>(
         &mut self,
         hash: &H,

@@ -5,10 +5,10 @@ use im_model::limits::{MOST_ENTRIES, MOST_KEY_OCTETS};
 use std::alloc::{AllocError, Global};
 
 // The most records that are looked ahead at.
-const MOST_LEADS: usize = 2048;
+const MOST_LEADS: usize = 4096;
 
 // The most octets of the transaction log that are looked ahead at, but for the last record.
-const MOST_OCTETS: usize = 1_048_576;
+const MOST_OCTETS: usize = 2_097_152;
 
 /// What a record says of itself, unchecked. Nothing rests on it: what is hashed by it is a digest of some string in any case.
 #[derive(Clone, Copy)]
@@ -62,7 +62,7 @@ impl Start {
     }
 }
 
-/// Looks at the records from a start on, as far as they can be told apart: up to 2,048 of them, or to 1 MiB. It hashes nothing.
+/// Looks at the records from a start on, as far as they can be told apart: up to 4,096 of them, or to 2 MiB. It hashes nothing.
 /// Its only error is want of memory.
 pub(crate) fn survey(alloc: Global, log: &[u8], start: &Start) -> Result<Vec<Lead>, AllocError> {
     let mut leads = Vec::with_capacity(alloc, MOST_LEADS)?;

@@ -102,7 +102,7 @@ fn note_header<H: Hash32>(
     Ok(())
 }
 
-// The values, those that are there.
+// The values, those that are there: of a long one there is nothing.
 fn note_values<H: Hash32>(
     hash: &H,
     values: &Values,
@@ -112,8 +112,9 @@ fn note_values<H: Hash32>(
     ensures { AreFacts (H.digest hash.now) facts.old → AreFacts (H.digest hash.now) facts.new }
 {
     for i in 0..lead.entries {
-        if let Some(value) = values.at(lead.values.saturating_add(i)) {
-            facts.note(hash, value)?;
+        match values.at(lead.values.saturating_add(i)) {
+            Some(value) if !value.is_empty() => facts.note(hash, value)?,
+            _ => {}
         }
     }
     Ok(())

@@ -90,7 +90,7 @@ impl<'h, H: Hash32, D: Disk, C: Clock, L: Law, N: TipName> Store<'h, H, D, C, L,
         self.flush_to(rt, alloc, pass, n, &mut journal)
     }
 
-    // The journal's lock, or `None` where the first `n` are durable before it is had. With the lock others have been let place theirs.
+    // The journal's lock, or `None` where the first `n` are durable before it is had. With the lock others have been let place theirs, where there are such.
     fn journal_for<R: Wait>(
         &self,
         rt: &R,
