@@ -1,11 +1,7 @@
 -- Crashes and openings.
-use Rattle.std.proofs.Common.{◌≡◌, ◌<◌, ◌≤◌, ◌+◌, ◌-◌, ◌∙◌, ℕ, List, [], ◌∷◌, length, map, Bool, true, false, refl, sym, ap, subst, arith, inl, inr, Option, Some, None, if◌then◌else◌, ◌&&◌, ◌||◌}
-use Rattle.std.proofs.lemmas.Bool.{and_right, eq-eqb, le-leb, lt-leb, ne_eqb, or_left, or_right, true≢false}
-use Rattle.std.specs.Prelude.{nat_eq, nat_le, slice_index_or}
+use Rattle.std.proofs.Common.{◌≡◌, ◌<◌, ◌≤◌, ◌+◌, ◌-◌, ◌∙◌, ℕ, List, [], ◌∷◌, length, map, true, false, refl, sym, ap, subst, arith, inl, inr, Option, Some, None}
+use Rattle.std.proofs.lemmas.Bool.{true≢false}
 use Rattle.im_octet.proofs.Common.{some-is}
-use Rattle.im_clog.specs.Marks.{IsUncounted}
-use Rattle.im_clog.specs.declared.marks.Uncounted.{Uncounted}
-use Rattle.im_clog.specs.declared.marks.Uncounted.TheVariants.{Missing, Closed, Short}
 use Rattle.im_core.specs.Cores.{Follows, IsCore, IsDown, MayCrash}
 use Rattle.im_core.specs.Opened.{IsOpened, IsOver, MayOpen, OpensTo}
 use Rattle.im_core.specs.Parts.{tells, IsUp}
@@ -22,17 +18,18 @@ use Rattle.im_format.specs.Standing.{HasBatches, Stands}
 use Rattle.im_format.specs.declared.records.Record.{Record}
 use Rattle.im_journal.specs.Kept.{IsAtRest, Kept}
 use Rattle.im_machine.specs.Allowed.{Allows}
-use Rattle.im_machine.specs.Machines.{blank, disk_opened, is_cut, opened, start, Machine}
+use Rattle.im_machine.specs.Machines.{blank, disk_opened, opened, start, Machine}
 use Rattle.im_machine.specs.Steps.{Steps}
 use Rattle.im_machine.specs.declared.events.Event.{Event}
 use Rattle.im_machine.specs.declared.events.Event.TheVariants as on
 use Rattle.im_machine.specs.declared.outputs.Output.{Output}
 use Rattle.im_machine.specs.declared.outputs.Output.TheVariants as says
+use Rattle.im_machine.proofs.CutLemmas.{disk_by}
 use Rattle.im_machine.proofs.StartLemmas.{stands-none}
 use Rattle.im_model.specs.History.{IsHistory}
 use Rattle.im_model.specs.declared.transactions.Transaction.{Transaction}
 use Rattle.im_model.proofs.HistoryLemmas.{linked-all}
-use Rattle.im_opening.specs.Cut.{repaired, shut_at, IsOpenedBy}
+use Rattle.im_opening.specs.Cut.{repaired, IsOpenedBy}
 
 -- where the store isn't open, no event but an opening is allowed
 pub down-no : (hash : Hash) (m : Machine) (event : Event) → m.up ≡ false → (event ≡ on.Open → ⊥) → Allows hash m event → ⊥
@@ -114,33 +111,6 @@ opens-down hash m files (Some store) d o =
       ),
     )
 
--- what opening leaves of a disk, by why no batch counts at its gate
-cut-if : (t : Told) (gate : ℕ) (cut : Bool) → is_cut (seen t 1) gate ≡ cut → disk_opened gate t ≡ (if cut then shut_at gate (after Synced t) else after Synced t)
-cut-if t gate cut is = ap (λ (b : Bool). if b then shut_at gate (after Synced t) else after Synced t) is
-
-disk-by : (t : Told) (gate : ℕ) (behind : Uncounted) → IsUncounted (seen t 1) gate behind → repaired behind gate (after Synced t) ≡ disk_opened gate t
-disk-by t gate Missing is =
-    let log : List ℕ = seen t 1 in
-    let low : nat_le (length log) (gate + 25) ≡ true = le-leb (length log) (gate + 25) (omega (arith, is)) in
-    let none : nat_le (length log) gate ≡ true = le-leb (length log) gate is in
-    let cut : is_cut log gate ≡ true =
-    ap (λ (b : Bool). b && (nat_le (length log) gate || nat_eq (slice_index_or log gate 0) 1)) low ∙ or_left (nat_le (length log) gate) (nat_eq (slice_index_or log gate 0) 1) none in
-    sym (cut-if t gate true cut)
-disk-by t gate (Closed octet) is =
-    let log : List ℕ = seen t 1 in
-    let there : nat_le (length log) gate ≡ false = lt-leb (length log) gate is.0 in
-    let shut : nat_eq (slice_index_or log gate 0) 1 ≡ false = ne_eqb (slice_index_or log gate 0) 1 (λ e. is.2 (is.1 ∙ e)) in
-    let neither : (nat_le (length log) gate || nat_eq (slice_index_or log gate 0) 1) ≡ false =
-    ap (λ (b : Bool). b || nat_eq (slice_index_or log gate 0) 1) there ∙ shut in
-    sym (cut-if t gate false (and_right (nat_le (length log) (gate + 25)) (nat_le (length log) gate || nat_eq (slice_index_or log gate 0) 1) neither))
-disk-by t gate (Short len) is =
-    let log : List ℕ = seen t 1 in
-    let low : nat_le (length log) (gate + 25) ≡ true = le-leb (length log) (gate + 25) is.2 in
-    let open_gate : nat_eq (slice_index_or log gate 0) 1 ≡ true = eq-eqb (slice_index_or log gate 0) 1 is.0 in
-    let cut : is_cut log gate ≡ true =
-    ap (λ (b : Bool). b && (nat_le (length log) gate || nat_eq (slice_index_or log gate 0) 1)) low ∙ or_right (nat_le (length log) gate) (nat_eq (slice_index_or log gate 0) 1) open_gate in
-    sym (cut-if t gate true cut)
-
 -- a store over the journal of a disk that was opened
 pub opens-to : (hash : Hash) (disk : Recorded) (journal : Kept Recorded) (history : List Transaction) (gate : ℕ) (store : Option OpenStore) → IsOver hash journal history store
     → (stands : Stands hash (seen (told_by disk)) history) → IsAtRest tells hash history stands.batches journal → gate ≡ gate_of (length stands.batches)
@@ -151,7 +121,7 @@ opens-to hash disk journal history gate (Some store) over stands rests gate_is c
     let same = over.journal_is in
     let now : told_by journal.disk ≡ repaired calls.0 gate (after Synced t) = some-is (told_by journal.disk) (repaired calls.0 gate (after Synced t)) calls.2 in
     let opened_disk : told_by journal.disk ≡ disk_opened (gate_of (length stands.batches)) t =
-    now ∙ disk-by t gate calls.0 calls.1 ∙ ap (λ (g : ℕ). disk_opened g t) gate_is in (
+    now ∙ disk_by t gate calls.0 calls.1 ∙ ap (λ (g : ℕ). disk_opened g t) gate_is in (
       history,
       stands,
       record {

@@ -130,7 +130,7 @@ values_below hash history bound id (r ∷ rs) are le =
     (entries_below hash bound id r.tx.entries r.refs are.0.refs (all-left (EndsIn bound) r.refs (refs_of rs) le))
     (values_below hash history bound (id + 1) rs are.1 (all-right (EndsIn bound) r.refs (refs_of rs) le))
 
-records_apart : (hash : Hash) (history : List Transaction) (id : ℕ) (a b : List Record) → AreRecords hash history id (a ++ b) → AreRecords hash history id a × AreRecords hash history (id + length a) b
+pub records_apart : (hash : Hash) (history : List Transaction) (id : ℕ) (a b : List Record) → AreRecords hash history id (a ++ b) → AreRecords hash history id a × AreRecords hash history (id + length a) b
 records_apart hash history id [] b are = (tt, subst (λ (k : ℕ). AreRecords hash history k b) (omega arith) are)
 records_apart hash history id (r ∷ a) b are =
     let rest = records_apart hash history (id + 1) a b are.1 in

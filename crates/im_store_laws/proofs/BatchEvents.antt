@@ -21,6 +21,7 @@ use Rattle.im_format.specs.declared.spans.Span.{Span}
 use Rattle.im_journal.specs.Holding.{ends_of}
 use Rattle.im_journal.specs.Made.{failed_call, writes_of}
 use Rattle.im_journal.specs.Pieces.{pieces_of}
+use Rattle.im_journal.proofs.Clear.{records_apart}
 use Rattle.im_journal.proofs.Longer.{joined_both, records_longer}
 use Rattle.im_journal.proofs.Prefixes.{joined_more, records_front, refs_more}
 use Rattle.im_journal.proofs.Single.{has_piece}
@@ -279,12 +280,6 @@ txs_before [] ys zs n is = refl
 txs_before (x ∷ xs) ys zs zero is = absurd (cc is)
 txs_before (x ∷ xs) ys [] (suc n) is = absurd (cc is)
 txs_before (x ∷ xs) ys (z ∷ zs) (suc n) is = let rest : map (λ r. r.tx) xs ≡ take (length xs) zs = txs_before xs ys zs n (cc is) in cc (is, rest)
-
-pub records_apart : (hash : Hash) (history : List Transaction) (id : ℕ) (a b : List Record) → AreRecords hash history id (a ++ b) → AreRecords hash history id a × AreRecords hash history (id + length a) b
-records_apart hash history id [] b are = (tt, subst (λ (k : ℕ). AreRecords hash history k b) (omega arith) are)
-records_apart hash history id (r ∷ a) b are =
-    let rest = records_apart hash history (id + 1) a b are.1 in
-    ((are.0, rest.0), subst (λ (k : ℕ). AreRecords hash history k b) (omega arith) rest.1)
 
 put_apart : (w id : ℕ) (before : List ValueRef) (a b : List Record) → ArePut w id before (a ++ b) → ArePut w id before a × ArePut w (id + length a) (before ++ refs_of a) b
 put_apart w id before [] b put =

@@ -20,7 +20,8 @@ use Rattle.im_opening.proofs.BatchesSame.{batches-read}
 use Rattle.im_seated_journal.specs.Calls.{MakesBatches}
 use Rattle.im_store_laws.specs.DiskEvents.{RestsOn}
 use Rattle.im_store_laws.specs.Events.{HoldsFirst}
-use Rattle.im_store_laws.proofs.BatchEvents.{all_records, all_txs, records_apart, txs_before}
+use Rattle.im_store_laws.proofs.BatchEvents.{all_records, all_txs, txs_before}
+use Rattle.im_journal.proofs.Clear.{records_apart}
 
 -- while it may be called and no batch is in progress, it stands for what is durable, by the machine's own batches
 own_stands : (hash : Hash) (m : Machine) → Gives32 hash → IsReached hash m → m.up ≡ true → m.stopped ≡ false → m.progress ≡ None
