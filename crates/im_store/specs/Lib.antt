@@ -11,3 +11,4 @@ pub mod Growth
 pub mod Proving
 pub mod Reading
 pub mod Closing
+pub mod Seats

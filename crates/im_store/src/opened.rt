@@ -23,6 +23,7 @@ use std::thread::Threads;
 mod found;
 mod naming;
 mod parts;
+mod seats;
 
 /// A store that isn't opened, with the reason, and the disk and the clock, which come back.
 #[derive(Drop)]

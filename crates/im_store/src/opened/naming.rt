@@ -4,6 +4,7 @@ ghost use Rattle.im_table.specs.Passes.{IsPassOf};
 
 use crate::opened::Opened;
 use crate::opened::parts::Parts;
+use crate::opened::seats::{Seats, seats_of};
 use crate::store::Store;
 use im_digest::Hash32;
 use im_disk::disk::Disk;
@@ -14,7 +15,6 @@ use im_seated_index::seated::SeatedIndex;
 use im_seated_journal::seated::SeatedJournal;
 use im_table::law::Law;
 use im_table::pass::Pass;
-use im_table::roles::{book_role, index_role, journal_role, tree_role};
 use im_table::tip_name::TipName;
 
 impl<'h, H: Hash32, D: Disk, C: Clock, L: Law> Opened<'h, H, D, C, L> {
@@ -46,10 +46,13 @@ impl<'h, H: Hash32, D: Disk, C: Clock, L: Law> Opened<'h, H, D, C, L> {
             tree,
         } = parts;
         let ends = journal.ends().values;
-        let writer = tip.split(&mut pass, journal_role(), 0);
-        let indexer = tip.split(&mut pass, index_role(), 0);
-        let keeper = tip.split(&mut pass, book_role(), 0);
-        let linker = tip.split(&mut pass, tree_role(), 0);
+        let seats = seats_of(&tip, &mut pass);
+        let Seats {
+            writer,
+            indexer,
+            keeper,
+            linker,
+        } = seats;
         let journal = SeatedJournal::new(journal, writer);
         let index = SeatedIndex::new(index, indexer);
         let book = SeatedBook::new(book, refs, ends, logs, clock, keeper);

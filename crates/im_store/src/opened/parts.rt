@@ -1,10 +1,11 @@
 // What a store is made of, from what was found.
 ghost use Rattle.std.specs.Prelude.{◌≡◌, ◌≤◌, length, map, take, IfOk, OnOk};
+ghost use Rattle.im_index.specs.Indexed.{IsIndexOf};
 ghost use Rattle.im_levels.specs.Leveled.{IsLeveled};
 ghost use Rattle.im_opening.specs.Opening.{IsOneHistory};
 ghost use Rattle.im_table.specs.Histories.{history_of};
 ghost use Rattle.im_table.specs.Views.{opener};
-ghost use Rattle.im_store.specs.Found.{ArePartsOf, items_of};
+ghost use Rattle.im_store.specs.Found.{items_of, AreMadeOf, ArePartsOf};
 
 use im_atree::trees::Tree;
 use im_book::book::Book;
@@ -40,32 +41,109 @@ pub(crate) struct Parts {
 pub(crate) fn parts_of<H: Hash32, L: Law>(
     alloc: Global,
     hash: &H,
-    found: FoundHistory,
+    mut found: FoundHistory,
     logs: u8,
 ) -> Result<(Tip<L>, Parts), AllocError>
     requires found { IsOneHistory (H.digest hash.now) found }
     requires logs { (1 ≤ logs) × (logs ≤ 4) }
     ensures { IfOk result (λ r. ArePartsOf (H.digest hash.now) found.records.items logs r.0 r.1) }
 {
+    let count = found.alhs.len();
+    match raise(hash, &mut found.tree, found.alhs.as_slice(), count) {
+        Ok(()) => parts_over(alloc, found, logs),
+        Err(error) => {
+            drop(found);
+            Err(error)
+        }
+    }
+}
+
+// The words and the parts of what was found, with its tree.
+fn parts_over<L: Law>(
+    alloc: Global,
+    found: FoundHistory,
+    logs: u8,
+) -> Result<(Tip<L>, Parts), AllocError>
+    requires logs { (1 ≤ logs) × (logs ≤ 4) }
+    requires few { length found.records.items ≤ 1048576 }
+    ensures { IfOk result (λ r. AreMadeOf found logs r.0 r.1) }
+{
     let FoundHistory {
         records,
         headers,
         alhs,
-        mut tree,
-    } = found;
-    raise(hash, &mut tree, alhs.as_slice(), alhs.len())?;
-    let (tip, pass, items) = opened_with(alloc, records, logs)?;
-    let (transactions, refs) = columns_of(alloc, items)?;
-    let mut index = Index::new(alloc);
-    index.take_all(alloc, transactions.as_slice())?;
-    let parts = Parts {
-        pass,
-        index,
-        book: Book::of(alloc, transactions, headers, alhs),
-        refs,
         tree,
-    };
-    Ok((tip, parts))
+    } = found;
+    match words_of(alloc, records, logs) {
+        Ok((tip, words)) => {
+            let Words {
+                pass,
+                index,
+                transactions,
+                refs,
+            } = words;
+            let parts = Parts {
+                pass,
+                index,
+                book: Book::of(alloc, transactions, headers, alhs),
+                refs,
+                tree,
+            };
+            Ok((tip, parts))
+        }
+        Err(error) => {
+            drop(headers);
+            drop(alhs);
+            drop(tree);
+            Err(error)
+        }
+    }
+}
+
+// What is made of records alone.
+#[derive(Drop)]
+struct Words {
+    // The pass that has each role and the whole weight.
+    pass: Pass,
+    // The index of their transactions.
+    index: Index,
+    // These, in order.
+    transactions: Vec<Transaction>,
+    // The references of their values.
+    refs: Vec<Refs>,
+}
+
+// The words of a store in which these records were found, and what is made of them. Its only error is want of memory.
+fn words_of<L: Law>(
+    alloc: Global,
+    records: Vec<Record>,
+    logs: u8,
+) -> Result<(Tip<L>, Words), AllocError>
+    requires logs { (1 ≤ logs) × (logs ≤ 4) }
+    requires few { length records.items ≤ 1048576 }
+    ensures tip { IfOk result (λ r. (r.0.found ≡ items_of records.items) × (r.0.logs ≡ logs)) }
+    ensures pass { IfOk result (λ r. (r.1.pass.table ≡ r.0.table) × (r.1.pass.view ≡ opener (items_of records.items))) }
+    ensures index { IfOk result (λ r. IsIndexOf r.1.index (history_of (items_of records.items))) }
+    ensures transactions { IfOk result (λ r. r.1.transactions.items ≡ history_of (items_of records.items)) }
+    ensures refs { IfOk result (λ r. r.1.refs.items ≡ map (λ item. item.refs) (items_of records.items)) }
+{
+    let (tip, pass, items) = opened_with(alloc, records, logs)?;
+    match columns_of(alloc, items) {
+        Ok((transactions, refs, index)) => {
+            let words = Words {
+                pass,
+                index,
+                transactions,
+                refs,
+            };
+            Ok((tip, words))
+        }
+        Err(error) => {
+            drop(tip);
+            drop(pass);
+            Err(error)
+        }
+    }
 }
 
 // Adds leaves to a tree, so that it has these Alh up to an end, which is behind its own. Its only error is want of memory.
@@ -124,11 +202,39 @@ fn found_items(alloc: Global, records: Vec<Record>) -> Result<Vec<LogItem>, Allo
     Ok(items)
 }
 
-// The transactions of items, and their references.
+// The transactions of items, their references, and the index of the transactions.
 fn columns_of(
     alloc: Global,
     items: Vec<LogItem>,
-) -> Result<(Vec<Transaction>, Vec<Refs>), AllocError>
+) -> Result<(Vec<Transaction>, Vec<Refs>, Index), AllocError>
+    requires { length items.items ≤ 1048576 }
+    ensures transactions { IfOk result (λ r. r.0.items ≡ history_of items.items) }
+    ensures refs { IfOk result (λ r. r.1.items ≡ map (λ item. item.refs) items.items) }
+    ensures index { IfOk result (λ r. IsIndexOf r.2 (history_of items.items)) }
+{
+    let (transactions, refs) = parted(alloc, items)?;
+    match index_of(alloc, transactions.as_slice()) {
+        Ok(index) => Ok((transactions, refs, index)),
+        Err(error) => {
+            drop(transactions);
+            drop(refs);
+            Err(error)
+        }
+    }
+}
+
+// The index of transactions.
+fn index_of(alloc: Global, transactions: &[Transaction]) -> Result<Index, AllocError>
+    requires { length transactions.now ≤ 1048576 }
+    ensures { IfOk result (λ index. IsIndexOf index transactions.now) }
+{
+    let mut index = Index::new(alloc);
+    index.take_all(alloc, transactions)?;
+    Ok(index)
+}
+
+// The transactions of items, and their references.
+fn parted(alloc: Global, items: Vec<LogItem>) -> Result<(Vec<Transaction>, Vec<Refs>), AllocError>
     ensures transactions { IfOk result (λ r. r.0.items ≡ history_of items.items) }
     ensures refs { IfOk result (λ r. r.1.items ≡ map (λ item. item.refs) items.items) }
 {

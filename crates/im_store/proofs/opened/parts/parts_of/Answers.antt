@@ -1,14 +1,13 @@
-use Rattle.std.proofs.Common.{◌≡◌, [], ◌∙◌, ℕ, List, length, take, ap, subst, sym, arith}
+use Rattle.std.proofs.Common.{◌≡◌, ◌∙◌, ℕ, List, length, take, ap, subst, sym, arith}
 use Rattle.std.proofs.Math.Seq.{take-length}
+use Rattle.std.proofs.lemmas.Result.{IfOk-weaker}
 use Rattle.im_digest.specs.Digests.{Hash}
-use Rattle.im_index.specs.Indexed.{IsIndexOf}
-use Rattle.im_levels.specs.Leveled.{IsLeveled}
+use Rattle.im_levels.specs.Leveled.{IsLeveled, Stored}
+use Rattle.im_linker.specs.Trees.{IsTreeOf}
 use Rattle.im_model.specs.declared.transactions.Transaction.{Transaction}
-use Rattle.im_table.specs.Histories.{history_of}
-use Rattle.im_table.specs.declared.items.LogItem.{LogItem}
-use Rattle.im_seated_journal.specs.Seats.{refs_in}
 use Rattle.im_store.specs.Found.{items_of}
-use Rattle.im_store.proofs.OpenLemmas.{found_history, whole_book, whole_records, whole_tree}
+use Rattle.im_store.proofs.OpenLemmas.{found_history, found_count, whole_book, whole_records, whole_tree}
+use Rattle.im_table.proofs.HistoryLemmas.{history_length}
 use Rattle.im_store.proofs.opened.parts.parts_of.Goals as goal
 
 pub raise-requires-clause-tree : goal.raise-requires-clause-tree
@@ -21,48 +20,42 @@ raise-requires-clause-tree g c =
 pub raise-requires-clause-up : goal.raise-requires-clause-up
 raise-requires-clause-up g c =
     let found = c.args.found in
-    omega (arith, c.requires.found.linked, c.len.ensures, found.alhs.ok.0)
+    omega (arith, c.requires.found.linked, c.len-count.ensures, found.alhs.ok.0)
 
 pub raise-requires-clause-within : goal.raise-requires-clause-within
-raise-requires-clause-within g c = omega (arith, c.len.ensures, ap (λ (l : List (List ℕ)). length l) c.as_slice.ensures.value, c.args.found.alhs.ok.0)
+raise-requires-clause-within g c = omega (arith, c.len-count.ensures, ap (λ (l : List (List ℕ)). length l) c.as_slice.ensures.value, c.args.found.alhs.ok.0)
 
--- the index is empty, and the history is no longer than a store can be
-pub take_all-requires : goal.take_all-requires
-take_all-requires g c =
+-- the history is no longer than a store can be
+pub parts_over-requires-clause-few : goal.parts_over-requires-clause-few
+parts_over-requires-clause-few g c =
     let rs = c.args.found.records.items in
-    let some : c.as_slice-2.result.now ≡ history_of (items_of rs) =
-    c.as_slice-2.ensures.value ∙ c.in_ok-transactions.ensures.transactions ∙ ap (λ (l : List LogItem). history_of l) c.in_ok-tip.ensures.items in
-    let count = ap (λ (l : List Transaction). length l) (some ∙ found_history rs) in
-    omega (arith, c.new-index.ensures.taken, count, c.requires.found.history.few)
+    let count = ap (λ (l : List Transaction). length l) (found_history rs) in
+    omega (arith, count, found_count rs, history_length (items_of rs), c.requires.found.history.few)
 
-pub returns : goal.returns
-returns g c =
+pub returns-in-Ok : goal.returns-in-Ok
+returns-in-Ok g c =
     let hash : Hash = g.H.Hash32.digest c.args.hash.now in
     let found = c.args.found in
-    let rs = found.records.items in
+    let one = c.requires.found in
     let alhs : List (List ℕ) = found.alhs.items in
-    let slice : c.as_slice.result.now ≡ alhs = c.as_slice.ensures.value in
-    let all : c.len.result ≡ length alhs = omega (arith, c.len.ensures, found.alhs.ok.0) in
-    let history : c.in_ok-transactions.transactions.items ≡ history_of (items_of rs) =
-    c.in_ok-transactions.ensures.transactions ∙ ap (λ (l : List LogItem). history_of l) c.in_ok-tip.ensures.items in
+    let all : c.len-count.result ≡ length alhs = omega (arith, c.len-count.ensures, found.alhs.ok.0) in
     let N : ℕ → Type 0 = λ n. take n alhs ≡ alhs in
     let M : List (List ℕ) → Type 0 = λ l. IsLeveled hash l c.raise.new.tree in
     let leaves : IsLeveled hash alhs c.raise.new.tree =
-    subst M (ap (λ (l : List (List ℕ)). take c.len.result l) slice ∙ subst N (sym all) (take-length alhs)) c.in_ok-raise.ensures.leaves in
-    let tree = whole_tree hash found c.requires.found c.raise.new.tree leaves (c.in_ok-raise.ensures.size ∙ all) in
-    let transactions : c.of.result.transactions ≡ history_of (items_of rs) = c.of.ensures.0 ∙ history in
-    record {
-      found = c.in_ok-tip.ensures.tip.0;
-      logs_are = c.in_ok-tip.ensures.tip.1;
+    subst M (ap (λ (l : List (List ℕ)). take c.len-count.result l) c.as_slice.ensures.value ∙ subst N (sym all) (take-length alhs)) c.in-Ok.ensures.leaves in
+    let tree = whole_tree hash found one c.raise.new.tree leaves (c.in-Ok.ensures.size ∙ all) in
+    IfOk-weaker c.parts_over.result _ _ (λ r made. record {
+      found = made.found_is;
+      logs_are = made.logs_are;
       some = c.requires.logs.0;
       few = c.requires.logs.1;
-      table = c.in_ok-tip.ensures.pass.0;
-      view = c.in_ok-tip.ensures.pass.1;
-      records_are = whole_records hash found c.requires.found;
-      index_is = subst (λ (l : List Transaction). IsIndexOf c.take_all.new.self l) (c.as_slice-2.ensures.value ∙ history) (c.in_ok-take_all.ensures.taken [] c.new-index.ensures);
-      transactions_are = transactions;
-      book_is = whole_book hash found c.requires.found c.of.result transactions c.of.ensures.1 c.of.ensures.2;
-      refs_are = c.in_ok-transactions.ensures.refs ∙ ap (λ (l : List LogItem). refs_in l) c.in_ok-tip.ensures.items;
-      tree_is = tree.0;
-      whole = tree.1;
-    }
+      table = made.table;
+      view = made.view;
+      records_are = whole_records hash found one;
+      index_is = made.index_is;
+      transactions_are = made.transactions_are;
+      book_is = whole_book hash found one r.1.book made.transactions_are made.headers_are made.alhs_are;
+      refs_are = made.refs_are;
+      tree_is = subst (λ (s : Stored). IsTreeOf hash (items_of found.records.items) s) (sym made.tree_is) tree.0;
+      whole = ap (λ (s : Stored). s.size) made.tree_is ∙ tree.1;
+    }) c.parts_over.ensures
