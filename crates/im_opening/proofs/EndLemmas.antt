@@ -1,5 +1,6 @@
 -- Where value logs end.
-use Rattle.std.proofs.Common.{◌≡◌, ℕ, ◌+◌, ◌*◌, ◌^◌, ◌≤◌, List, [], ◌∷◌, length, sym, ◌∙◌, ap, arith}
+use Rattle.std.proofs.Common.{◌≡◌, ℕ, ◌+◌, ◌-◌, ◌*◌, ◌^◌, ◌≤◌, ◌<◌, suc, List, [], ◌∷◌, length, get_or, drop, drop-cons, max, min, sym, ◌∙◌, ap, arith}
+use Rattle.std.proofs.Math.ListN.{drop_of_length-le}
 use Rattle.std.proofs.lemmas.List.{length-map}
 use Rattle.im_digest.specs.Digests.{Hash}
 use Rattle.im_format.specs.Places.{log_end, refs_of}
@@ -23,3 +24,32 @@ low-ends hash number records alhs bl bl_root tree h =
     let many : length alhs ≡ length records = ap length (sym h.kept) ∙ length-map records (λ (x : Record). x.alh) in
     let few = h.few in
     low-records hash 1 number (2 ^ 43) records h.refer (omega arith)
+
+-- a log ends at a place behind the first i records, at most far out
+pub record EndsAt (log end i : ℕ) (records : List Record) : Type 0 where
+  pub is : min (max end (log_end log (refs_of (drop i records)))) (2 ^ 64 - 1) ≡ min (log_end log (refs_of records)) (2 ^ 64 - 1)
+  pub small : end ≤ 2 ^ 64 - 1
+
+-- behind none
+pub ends-first : (log : ℕ) (records : List Record) → EndsAt log 0 0 records
+ends-first log records = record { is = omega arith; small = omega arith }
+
+-- behind one more
+pub ends-next : (log end more i : ℕ) (records : List Record) (item : Record) → EndsAt log end i records → (lt : i < length records)
+    → item ≡ get_or records i item → more ≡ min (max end (log_end log item.refs)) (2 ^ 64 - 1) → EndsAt log more (i + 1) records
+ends-next log end more i records item at lt is more_is =
+    let f : List Record → ℕ = λ l. log_end log (refs_of l) in
+    let next : suc i ≡ i + 1 = omega arith in
+    let step : f (drop i records) ≡ max (log_end log item.refs) (f (drop (i + 1) records)) =
+    ap f (drop-cons records i item lt)
+    ∙ ap (λ (r : Record). f (r ∷ drop (suc i) records)) (sym is)
+    ∙ log_end_append log item.refs (refs_of (drop (suc i) records))
+    ∙ ap (λ (k : ℕ). max (log_end log item.refs) (f (drop k records))) next
+    in
+    record { is = omega (arith, at.is, step, more_is); small = omega (arith, more_is) }
+
+-- behind all of them
+pub ends-last : (log end i : ℕ) (records : List Record) → EndsAt log end i records → length records ≤ i → end ≡ min (log_end log (refs_of records)) (2 ^ 64 - 1)
+ends-last log end i records at le =
+    let none = ap (λ (l : List Record). log_end log (refs_of l)) (drop_of_length-le records {i = i} le) in
+    omega (arith, at.is, at.small, none)

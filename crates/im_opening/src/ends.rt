@@ -1,22 +1,29 @@
-ghost use Rattle.std.specs.Prelude.{◌≡◌, ◌-◌, ◌^◌, max, min};
+ghost use Rattle.std.specs.Prelude.{◌≡◌, ◌-◌, ◌^◌, ◌∷◌, [], map, max, min};
 ghost use Rattle.im_format.specs.Places.{log_end, refs_of};
 
 use im_format::records::Record;
 use im_format::references::ValueRef;
 
-/// Where a value log ends behind the references of records, at most `u64::MAX`. It takes no memory.
-#[tactic(auto, using(im_format::proofs::EndLemmas::log_end_append))]
-pub(crate) fn end_of(log: u8, records: &[Record]) -> u64
-    ensures { result ≡ min (log_end log (refs_of records.now)) (2 ^ 64 - 1) }
+/// Where each value log ends behind the references of records, at most `u64::MAX`. It goes over the records once, and takes no
+/// memory.
+pub(crate) fn ends_of(records: &[Record]) -> [u64; 4]
+    ensures { result ≡ map (λ log. min (log_end log (refs_of records.now)) (2 ^ 64 - 1)) (0 ∷ 1 ∷ 2 ∷ 3 ∷ []) }
 {
-    let mut end = 0;
+    let mut first = 0;
+    let mut second = 0;
+    let mut third = 0;
+    let mut fourth = 0;
     for record in records {
-        end = end_behind(end, log, record.refs.as_slice());
+        let refs = record.refs.as_slice();
+        first = end_behind(first, 0, refs);
+        second = end_behind(second, 1, refs);
+        third = end_behind(third, 2, refs);
+        fourth = end_behind(fourth, 3, refs);
     }
-    end
+    [first, second, third, fourth]
 }
 
-// The same behind references, where it ended at a place before them.
+// Where a value log ends behind references, where it ended at a place before them; at most `u64::MAX`.
 fn end_behind(start: u64, log: u8, refs: &[ValueRef]) -> u64
     ensures { result ≡ min (max start (log_end log refs.now)) (2 ^ 64 - 1) }
 {

@@ -7,6 +7,7 @@ use arrayvec::ArrayVec;
 use im_digest::{D32, Hash32};
 use im_octet::buffers::append;
 use std::alloc::{AllocError, Global};
+use std::cell::Cell;
 use std::marker::Model;
 
 /// The octets of the longest string that is kept: of those that are hashed of a record, only a long value and an entry with
@@ -113,11 +114,13 @@ fn is_alike(word: u64, mark: u64) -> bool {
     (word ^ mark) & UPPER == 0
 }
 
-/// Facts, most found by their parts in a few steps. It takes memory for 208 octets a fact and 16 octets more. A clause sees
-/// the list of them.
+/// Facts, most found by their parts in a few steps, and in one where they are looked for in the order in which they were added.
+/// It takes memory for 208 octets a fact and 16 octets more. A clause sees the list of them.
 #[derive(Drop)]
 pub(crate) struct Facts {
     facts: Vec<Fact>,
+    // The number of the fact behind the one that was found last. It is looked at first.
+    next: Cell<usize>,
     // For some places the number of a fact, behind the upper half of its mark: most facts that aren't looked for are passed
     // by without a look at them, which would be one into memory far away.
     places: Vec<u64>,
@@ -148,12 +151,35 @@ impl Facts {
         };
         Facts {
             facts: room_for(alloc, room),
+            next: Cell::new(0),
             places,
         }
     }
 
     /// The digest of three parts, one behind the other, where it is among them. It takes no memory.
     pub(crate) fn find(&self, a: &[u8], b: &[u8], c: &[u8]) -> Option<D32>
+        ensures { (hash : Hash) → AreFacts hash self.now → IfSome result (λ digest. digest ≡ hash (a.now ++ b.now ++ c.now)) }
+    {
+        match self.taken(self.next.get(), a, b, c) {
+            Some(digest) => Some(digest),
+            None => self.sought(a, b, c),
+        }
+    }
+
+    // The digest of three parts, where the fact of this number is that of them. The one behind it is looked at first then.
+    fn taken(&self, number: usize, a: &[u8], b: &[u8], c: &[u8]) -> Option<D32>
+        ensures { (hash : Hash) → AreFacts hash self.now → IfSome result (λ digest. digest ≡ hash (a.now ++ b.now ++ c.now)) }
+    {
+        let fact = self.facts.get(number)?;
+        if !fact.is_of(a, b, c) {
+            return None;
+        }
+        self.next.set(number.saturating_add(1));
+        Some(fact.digest)
+    }
+
+    // The same of the fact of any number, by the places.
+    fn sought(&self, a: &[u8], b: &[u8], c: &[u8]) -> Option<D32>
         ensures { (hash : Hash) → AreFacts hash self.now → IfSome result (λ digest. digest ≡ hash (a.now ++ b.now ++ c.now)) }
     {
         if self.facts.is_empty() {
@@ -167,12 +193,12 @@ impl Facts {
                 return None;
             }
             if is_alike(word, mark) {
-                let fact = self.fact_of(word)?;
-                if fact.is_of(a, b, c) {
-                    return Some(fact.digest);
+                let number = (word & LOWER) as usize;
+                if let Some(digest) = self.taken(number, a, b, c) {
+                    return Some(digest);
                 }
             }
-            place = self.next(place);
+            place = self.behind(place);
         }
         None
     }
@@ -231,13 +257,6 @@ impl Facts {
         }
     }
 
-    // The fact whose number stands in a place.
-    fn fact_of(&self, word: u64) -> Option<&Fact>
-        ensures { (hash : Hash) → AreFacts hash self.now → IfSome result (λ fact. IsFact hash fact.now) }
-    {
-        self.facts.get((word & LOWER) as usize)
-    }
-
     // Where the fact of a mark is looked for first: as far on among the places as the lower half of the mark is among its
     // numbers.
     fn place_of(&self, mark: u64) -> usize {
@@ -246,7 +265,7 @@ impl Facts {
     }
 
     // The place that is looked at behind this one.
-    fn next(&self, place: usize) -> usize {
+    fn behind(&self, place: usize) -> usize {
         let next = place.saturating_add(1);
         if next < self.places.len() { next } else { 0 }
     }
@@ -263,7 +282,7 @@ impl Facts {
             if is_alike(word, mark) {
                 break;
             }
-            place = self.next(place);
+            place = self.behind(place);
         }
         self.places.len()
     }

@@ -58,7 +58,7 @@ fn room_of(leads: &[Lead]) -> usize {
     room
 }
 
-// What is hashed of a record, as far as it can be told.
+// What is hashed of a record, as far as it can be told, in the order in which it is looked for.
 fn note<H: Hash32>(
     alloc: Global,
     hash: &H,
@@ -71,79 +71,77 @@ fn note<H: Hash32>(
 ) -> Result<(), AllocError>
     ensures { AreFacts (H.digest hash.now) facts.old → AreFacts (H.digest hash.now) facts.new }
 {
-    note_values(hash, values, lead, facts)?;
-    let Some(eh) = note_entries(alloc, hash, log, lead, facts)? else {
+    let digests = note_entries(alloc, hash, log, values, lead, facts)?;
+    if digests.is_empty() {
         return Ok(());
-    };
-    note_header(hash, log, rows, lead, &eh, last, facts)?;
-    Ok(())
+    }
+    note_header(hash, log, rows, lead, digests.as_slice(), last, facts)
 }
 
-// The root of the tree that the record was placed over, the inner digest and the Alh, as far as they can be told.
+// The root of the tree that the record was placed over, the tree over the entries with these digests, the inner digest and the
+// Alh, as far as they can be told.
 fn note_header<H: Hash32>(
     hash: &H,
     log: &[u8],
     rows: &Rows,
     lead: &Lead,
-    eh: &D32,
+    digests: &[D32],
     last: &mut LastRoot,
     facts: &mut Facts,
 ) -> Result<(), AllocError>
+    requires { 0 < length digests.now }
     ensures { AreFacts (H.digest hash.now) facts.old → AreFacts (H.digest hash.now) facts.new }
 {
-    let Some(root) = note_root(hash, rows, lead.bl, last, facts)? else {
+    let root = note_root(hash, rows, lead.bl, last, facts)?;
+    let eh = note_tree(hash, digests, facts)?;
+    let Some(root) = root else {
         return Ok(());
     };
     let Some(ts) = part_at(log, lead.at.saturating_add(8), 8) else {
         return Ok(());
     };
-    let inner = note_inner(hash, ts, lead, eh, &root, facts)?;
+    let inner = note_inner(hash, ts, lead, &eh, &root, facts)?;
     facts.hash(hash, &eight(lead.id), &lead.before, &inner)?;
     Ok(())
 }
 
-// The values, those that are there: of a long one there is nothing.
-fn note_values<H: Hash32>(
-    hash: &H,
-    values: &Values,
-    lead: &Lead,
-    facts: &mut Facts,
-) -> Result<(), AllocError>
-    ensures { AreFacts (H.digest hash.now) facts.old → AreFacts (H.digest hash.now) facts.new }
-{
-    for i in 0..lead.entries {
-        match values.at(lead.values.saturating_add(i)) {
-            Some(value) if !value.is_empty() => facts.note(hash, value)?,
-            _ => {}
-        }
-    }
-    Ok(())
-}
-
-// The entries, and the tree over them: its root.
+// The entries, each behind its value: their digests; none where they can't be told.
 fn note_entries<H: Hash32>(
     alloc: Global,
     hash: &H,
     log: &[u8],
+    values: &Values,
     lead: &Lead,
     facts: &mut Facts,
-) -> Result<Option<D32>, AllocError>
+) -> Result<Vec<D32>, AllocError>
     ensures { AreFacts (H.digest hash.now) facts.old → AreFacts (H.digest hash.now) facts.new }
 {
     let mut digests = Vec::with_capacity(alloc, lead.entries)?;
     let mut at = lead.at.saturating_add(28);
-    for _i in 0..lead.entries {
+    for i in 0..lead.entries {
         let Some(fields) = fields_at(log, at) else {
-            return Ok(None);
+            return Ok(Vec::new(alloc));
         };
+        note_value(hash, values, lead.values.saturating_add(i), facts)?;
         digests.push(note_entry(hash, &fields, facts)?)?;
         at = fields.end;
     }
-    if digests.is_empty() {
-        return Ok(None);
+    Ok(digests)
+}
+
+// The value of this number, where it is there: of a long one there is nothing.
+fn note_value<H: Hash32>(
+    hash: &H,
+    values: &Values,
+    number: usize,
+    facts: &mut Facts,
+) -> Result<(), AllocError>
+    ensures { AreFacts (H.digest hash.now) facts.old → AreFacts (H.digest hash.now) facts.new }
+{
+    match values.at(number) {
+        Some([]) | None => Ok(()),
+        Some(value) => facts.note(hash, value),
     }
-    let eh = note_tree(hash, digests.as_slice(), facts)?;
-    Ok(Some(eh))
 }
 
 // An entry: its digest, of `mdLen 2 | md | keyLen 2 | key | H(value) 32`.

@@ -9,7 +9,7 @@ ghost use Rattle.im_opening.specs.Reach.{Fits, IsWholeProgress};
 ghost use Rattle.im_opening.specs.Stretches.{opened_as};
 ghost use Rattle.im_record.specs.Slots.{HaveLengths};
 
-use crate::ends::end_of;
+use crate::ends::ends_of;
 use crate::errors::OpenError;
 use crate::found::FoundHistory;
 use crate::source::RecordSource;
@@ -64,12 +64,7 @@ fn opened_of(read: BatchesRead) -> Opened
     let ends = Ends {
         records: progress.place,
         commits: gate as u64,
-        values: [
-            end_of(0, records.as_slice()),
-            end_of(1, records.as_slice()),
-            end_of(2, records.as_slice()),
-            end_of(3, records.as_slice()),
-        ],
+        values: ends_of(records.as_slice()),
     };
     let found = FoundHistory {
         records,

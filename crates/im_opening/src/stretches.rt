@@ -182,6 +182,7 @@ pub(crate) fn read_batches_on<R: Threads + Sync, D: Disk, H: Hash32 + Sync>(
     ensures cause { HasOpenCause (D.faults disk.old) (D.faults disk.new) result }
 {
     let mut window = Window::empty(alloc);
+    let mut spent: Option<Window> = None;
     let mut rows = Rows::new(alloc);
     let mut reading = Reading::new(alloc);
     let mut plan = first_plan(alloc, hash, source.log, &reading.progress)?;
@@ -195,6 +196,7 @@ pub(crate) fn read_batches_on<R: Threads + Sync, D: Disk, H: Hash32 + Sync>(
             source,
             &window,
             &plan,
+            &mut spent,
             &mut rows,
             &mut reading,
         );
@@ -205,7 +207,7 @@ pub(crate) fn read_batches_on<R: Threads + Sync, D: Disk, H: Hash32 + Sync>(
             return Ok(all_read(reading, behind));
         }
         let filled = filled?;
-        drop(mem::replace(&mut window, filled));
+        spent = Some(mem::replace(&mut window, filled));
         take_over(&mut plan, &mut reading.next);
     }
 }
@@ -217,7 +219,8 @@ fn take_over(plan: &mut Plan, next: &mut Option<Plan>) {
     }
 }
 
-// Reads batches up to the end of a window, and plans behind a plan, as `read_and_plan` does, while that plan's window is filled.
+// Reads batches up to the end of a window, and plans behind a plan, as `read_and_plan` does, while the window that was read
+// before is let go, and that plan's window is filled.
 fn read_beside<R: Threads + Sync, D: Disk, H: Hash32 + Sync>(
     rt: &R,
     alloc: Global,
@@ -227,6 +230,7 @@ fn read_beside<R: Threads + Sync, D: Disk, H: Hash32 + Sync>(
     source: &RecordSource,
     window: &Window,
     plan: &Plan,
+    spent: &mut Option<Window>,
     rows: &mut Rows,
     reading: &mut Reading,
 ) -> (
@@ -249,7 +253,7 @@ fn read_beside<R: Threads + Sync, D: Disk, H: Hash32 + Sync>(
     ensures cause { HasOpenCause (D.faults disk.old) (D.faults disk.new) result.1 }
 {
     let log = source.log;
-    let mut hashes = || fill(rt, alloc, hash, log, plan, rows);
+    let mut hashes = || fill(rt, alloc, hash, log, plan, spent, rows);
     let mut reads = || { read_and_plan(alloc, hash, disk, commits, source, window, plan, reading) };
     join_mut(rt, &mut hashes, &mut reads)
 }

@@ -1,4 +1,4 @@
-use Rattle.std.proofs.Common.{◌≡◌, ◌<◌, length, ap, sym, ◌∙◌, arith, rules, All}
+use Rattle.std.proofs.Common.{◌≡◌, ◌<◌, length, ap, ◌∙◌, arith, rules, All}
 use Rattle.im_disk.specs.Disk.{seen}
 use Rattle.im_format.specs.Spans.{octets_at}
 use Rattle.im_opening.specs.Ahead.{IsPiece}
