@@ -1,6 +1,5 @@
 pub mod Finding
 pub mod AheadLemmas
-pub mod FactLemmas
 pub mod SlotFinds
 pub mod EntriesLeft
 pub mod RecordGrows

@@ -1,7 +1,6 @@
 pub mod Ahead
 pub mod Answers
 pub mod Cut
-pub mod Facts
 pub mod Found
 pub mod Opening
 pub mod Opens

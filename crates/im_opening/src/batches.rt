@@ -4,18 +4,18 @@ ghost use Rattle.im_disk.specs.Disk.{Told, seen};
 ghost use Rattle.im_format.specs.Damages.{batch_checks, numbers};
 ghost use Rattle.im_mtree.specs.Checks.{first_fail};
 ghost use Rattle.im_opening.specs.Answers.{HasOpenCause, Judges};
-ghost use Rattle.im_opening.specs.Facts.{IsKnown};
+ghost use Rattle.im_hash_ahead.specs.Facts.{IsKnown};
 ghost use Rattle.im_opening.specs.Parts.{Shows, mark_checks};
 ghost use Rattle.im_opening.specs.Reach.{AreMore, Fits, IsWholeProgress, reached_of};
 
 use crate::errors::OpenError;
 use crate::records::{Progress, read_records};
 use crate::source::RecordSource;
-use crate::windows::Window;
 use im_clog::marks::Mark;
 use im_digest::Hash32;
 use im_disk::disk::Disk;
 use im_format::damages::{Damage, Difference};
+use im_hash_ahead::windows::Window;
 use im_model::limits::MOST_TRANSACTIONS;
 use std::alloc::Global;
 

@@ -8,13 +8,13 @@ ghost use Rattle.im_opening.specs.Answers.{HasOpenCause, Judges};
 ghost use Rattle.im_opening.specs.Parts.{Shows, IsEntryAt, AreEntriesAt, entry_checks};
 
 use crate::errors::OpenError;
-use crate::room::room_for;
 use crate::source::RecordSource;
 use crate::values::read_value;
 use im_digest::{D32, Hash32};
 use im_disk::disk::Disk;
 use im_entry::digests::digest_over;
 use im_format::references::ValueRef;
+use im_hash_ahead::room::room_for;
 use im_model::entries::Entry;
 use im_model::limits::{EntryValue, Key, Metadata};
 use im_octet::octets::Octets;

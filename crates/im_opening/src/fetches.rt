@@ -3,51 +3,14 @@ ghost use Rattle.im_disk.specs.Causes.{HasCause};
 ghost use Rattle.im_disk.specs.Disk.{seen};
 ghost use Rattle.im_opening.specs.Parts.{Shows};
 
-use crate::facts::MOST_OCTETS;
-use crate::leads::{Fields, Lead, fields_at};
 use crate::source::RecordSource;
 use im_disk::disk::{Disk, DiskError};
 use im_format::files::{FIRST_VALUE_LOG, LAST_VALUE_LOG};
+use im_hash_ahead::facts::MOST_OCTETS;
+use im_hash_ahead::leads::{Fields, Lead, fields_at};
+use im_hash_ahead::values::Values;
 use im_model::limits::MOST_VALUE_OCTETS;
-use std::alloc::{AllocError, Global};
-
-/// The values of records that are looked ahead at, one behind the other, and where each ends; of a value of more than 160
-/// octets none. Nothing rests on them, as nothing rests on `Lead`.
-#[derive(Drop)]
-pub(crate) struct Values {
-    octets: Vec<u8>,
-    ends: Vec<usize>,
-}
-
-impl Values {
-    /// None. It takes no memory.
-    pub(crate) fn empty(alloc: Global) -> Self {
-        Values {
-            octets: Vec::new(alloc),
-            ends: Vec::new(alloc),
-        }
-    }
-
-    /// The value of this number, from 0, where it is there.
-    pub(crate) fn at(&self, number: usize) -> Option<&[u8]> {
-        let end = *self.ends.get(number)?;
-        let start = match number {
-            0 => 0,
-            _ => *self.ends.get(number - 1)?,
-        };
-        if end < start || self.octets.len() < end {
-            return None;
-        }
-        Some(&self.octets[start..end])
-    }
-
-    // Adds a value behind all others. Its only error is want of memory.
-    fn add(&mut self, octets: &[u8]) -> Result<(), AllocError> {
-        self.octets.extend_from_slice(octets)?;
-        self.ends.push(self.octets.len())?;
-        Ok(())
-    }
-}
+use std::alloc::Global;
 
 /// Reads the values of records, up to the first that doesn't lie within its log. One of more than 160 octets isn't read: it
 /// wouldn't be hashed.

@@ -3,47 +3,15 @@ ghost use Rattle.im_disk.specs.Causes.{HasCause};
 ghost use Rattle.im_disk.specs.Disk.{seen};
 ghost use Rattle.im_opening.specs.Parts.{Shows};
 
-use crate::fetches::{Values, fetch};
-use crate::leads::{Lead, Start, survey};
+use crate::fetches::fetch;
 use crate::records::Progress;
 use crate::source::RecordSource;
 use im_digest::{D32, Hash32};
 use im_disk::disk::{Disk, DiskError};
+use im_hash_ahead::leads::{Lead, Start, survey};
+use im_hash_ahead::plans::Plan;
+use im_hash_ahead::values::Values;
 use std::alloc::{AllocError, Global};
-
-/// All that is needed to hash records that follow each other: what they say of themselves, the Alh that join the tree up to
-/// the last of them, and the values. Nothing rests on it, as nothing rests on `Lead`.
-#[derive(Drop)]
-pub(crate) struct Plan {
-    pub leads: Vec<Lead>,
-    pub leaves: Vec<D32>,
-    /// The size of the tree with these leaves.
-    pub size: u64,
-    pub values: Values,
-}
-
-impl Plan {
-    /// One of nothing. It takes no memory.
-    pub(crate) fn empty(alloc: Global) -> Self {
-        Plan {
-            leads: Vec::new(alloc),
-            leaves: Vec::new(alloc),
-            size: 0,
-            values: Values::empty(alloc),
-        }
-    }
-
-    // That of these records, whose leaves join a tree of this size.
-    fn of(leads: Vec<Lead>, leaves: Vec<D32>, size: u64, values: Values) -> Self {
-        let size = size.saturating_add(leaves.len() as u64);
-        Plan {
-            leads,
-            leaves,
-            size,
-            values,
-        }
-    }
-}
 
 /// What is needed to hash the first records, but for their values. Its only error is want of memory.
 pub(crate) fn first_plan<H: Hash32>(

@@ -7,20 +7,20 @@ ghost use Rattle.im_model.specs.History.{IsTransaction, bl_root_of, next_header}
 ghost use Rattle.im_format.specs.declared.damages.Damage.{Damage};
 ghost use Rattle.im_mtree.specs.Checks.{Check};
 ghost use Rattle.im_opening.specs.Answers.{HasOpenCause, Judges};
-ghost use Rattle.im_opening.specs.Facts.{IsKnown};
+ghost use Rattle.im_hash_ahead.specs.Facts.{IsKnown};
 ghost use Rattle.im_opening.specs.Parts.{Shows};
 ghost use Rattle.im_opening.specs.Reach.{AreMore, Fits, IsOneMore, IsWholeProgress, reached_of};
 
 use crate::errors::OpenError;
-use crate::known::Known;
 use crate::source::RecordSource;
 use crate::transactions::{TransactionRead, read_transaction};
-use crate::windows::Window;
 use im_atree::trees::Tree;
 use im_digest::{D32, Hash32};
 use im_disk::disk::Disk;
 use im_format::records::Record;
 use im_format::references::Refs;
+use im_hash_ahead::known::Known;
+use im_hash_ahead::windows::Window;
 use im_header::alh;
 use im_header::next::next_header;
 use im_model::headers::Header;

@@ -5,11 +5,11 @@ use Rattle.im_clog.specs.declared.marks.Uncounted.{Uncounted}
 use Rattle.im_disk.specs.Disk.{seen}
 use Rattle.im_format.specs.Batches.{Counts}
 use Rattle.im_opening.specs.Answers.{HasOpenCause}
-use Rattle.im_opening.specs.Facts.{IsKnown}
+use Rattle.im_hash_ahead.specs.Facts.{IsKnown}
 use Rattle.im_opening.specs.Stretches.{AreAllRead, IsLeft, IsReadTo}
 use Rattle.im_opening.specs.declared.errors.OpenError.{OpenError}
 use Rattle.im_opening.specs.declared.stretches.BatchesRead.{BatchesRead}
-use Rattle.im_opening.specs.declared.windows.Window.{Window}
+use Rattle.im_hash_ahead.specs.declared.windows.Window.{Window}
 use Rattle.im_opening.proofs.Finding.{at-some, at-told, ok-leaves}
 use Rattle.im_opening.proofs.StretchLemmas.{all-fine, all-reached}
 use Rattle.im_opening.proofs.stretches.read_batches_on.Goals as goal

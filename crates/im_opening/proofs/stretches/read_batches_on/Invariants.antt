@@ -1,5 +1,5 @@
 use Rattle.std.proofs.Common.{◌≡◌, ◌-◌, length}
-use Rattle.im_opening.specs.Facts.{IsKnown}
+use Rattle.im_hash_ahead.specs.Facts.{IsKnown}
 use Rattle.im_opening.specs.Stretches.{IsLeft, IsReadTo}
 use Rattle.im_opening.proofs.stretches.read_batches_on.Given as goal
 

@@ -1,0 +1,126 @@
+ghost use Rattle.std.specs.Prelude.{◌≡◌, ◌≤◌, ◌<◌, length, IfOk, All};
+ghost use Rattle.im_hash_ahead.specs.Facts.{AreFacts};
+
+use crate::facts::{Fact, Facts};
+use crate::leads::Lead;
+use crate::notes::notes_of;
+use crate::room::room_for;
+use crate::rows::Rows;
+use crate::values::Values;
+use im_digest::{D32, Hash32};
+use std::alloc::{AllocError, Global};
+use std::thread::{Threads, available_parallelism, map_chunks};
+
+/// So many records are worth a thread of their own.
+pub(crate) const MANY_RECORDS: usize = 128;
+
+// And so many digests, each of which is hashed once.
+const MANY_DIGESTS: usize = 1024;
+
+// How many chunks there are for each processor, which the thread that reads shares: so none waits long for the last.
+const SHARES: usize = 4;
+
+// How many processors there are.
+fn hands<R: Threads>(rt: &R) -> usize {
+    match available_parallelism(rt) {
+        Ok(hands) => hands.get(),
+        Err(_) => 1,
+    }
+}
+
+/// The size of chunks of so many items, an even number, so that all processors have some; all are in one where they are fewer
+/// than many.
+pub(crate) fn chunk_of<R: Threads>(rt: &R, count: usize, many: usize) -> usize
+    ensures { 0 < result }
+{
+    let most = hands(rt).saturating_mul(SHARES);
+    let parts = most.min(count / many.max(1)).max(1);
+    (count / parts / 2).saturating_mul(2).saturating_add(2)
+}
+
+/// The leaf of each digest, hashed in chunks by several threads. Its only error is want of memory; where a chunk finds none,
+/// leaves are missing.
+pub(crate) fn leaf_facts<R: Threads + Sync, H: Hash32 + Sync>(
+    rt: &R,
+    alloc: Global,
+    hash: &H,
+    leaves: &[D32],
+) -> Result<Vec<Vec<Fact>>, AllocError>
+    ensures { IfOk result (λ parts. All (λ facts. AreFacts (H.digest hash.now) facts.items) parts.items) }
+{
+    let size = chunk_of(rt, leaves.len(), MANY_DIGESTS);
+    map_chunks(
+        rt,
+        alloc,
+        leaves,
+        size,
+        &|_, part| leaves_in(alloc, hash, part),
+    )
+}
+
+/// The node of each pair, of the first and the second, the third and the fourth, and so on, hashed in chunks by several
+/// threads. Its only error is want of memory; where a chunk finds none, nodes are missing.
+pub(crate) fn pair_facts<R: Threads + Sync, H: Hash32 + Sync>(
+    rt: &R,
+    alloc: Global,
+    hash: &H,
+    row: &[D32],
+) -> Result<Vec<Vec<Fact>>, AllocError>
+    ensures { IfOk result (λ parts. All (λ facts. AreFacts (H.digest hash.now) facts.items) parts.items) }
+{
+    let size = chunk_of(rt, row.len(), MANY_DIGESTS);
+    map_chunks(rt, alloc, row, size, &|_, part| pairs_in(alloc, hash, part))
+}
+
+/// What is hashed of records, in chunks of this size by several threads, by `notes_of` of each chunk. Its only error is want
+/// of memory.
+pub(crate) fn near_facts<R: Threads + Sync, H: Hash32 + Sync>(
+    rt: &R,
+    alloc: Global,
+    hash: &H,
+    log: &[u8],
+    values: &Values,
+    rows: &Rows,
+    leads: &[Lead],
+    size: usize,
+) -> Result<Vec<Facts>, AllocError>
+    requires { 0 < size }
+    ensures { IfOk result (λ near. All (λ facts. AreFacts (H.digest hash.now) facts) near.items) }
+{
+    map_chunks(
+        rt,
+        alloc,
+        leads,
+        size,
+        &|_, part| notes_of(alloc, hash, log, values, rows, part),
+    )
+}
+
+// The leaf of each digest of a chunk, as far as there is memory.
+fn leaves_in<H: Hash32>(alloc: Global, hash: &H, leaves: &[D32]) -> Vec<Fact>
+    ensures { AreFacts (H.digest hash.now) result.items }
+{
+    let mut facts = room_for(alloc, leaves.len());
+    for leaf in leaves {
+        if let Err(full) = facts.push(Fact::of(hash, &[0], leaf, &[])) {
+            drop(full);
+            break;
+        }
+    }
+    facts
+}
+
+// The node of each pair of a chunk, as far as there is memory.
+fn pairs_in<H: Hash32>(alloc: Global, hash: &H, row: &[D32]) -> Vec<Fact>
+    ensures { AreFacts (H.digest hash.now) result.items }
+{
+    let count = row.len() / 2;
+    let mut facts = room_for(alloc, count);
+    for k in 0..count {
+        if let Err(full) = facts.push(Fact::of(hash, &[1], &row[2 * k], &row[2 * k + 1])) {
+            drop(full);
+            break;
+        }
+    }
+    facts
+}

@@ -1,0 +1,55 @@
+ghost use Rattle.std.specs.Prelude.{IfOk};
+ghost use Rattle.im_hash_ahead.specs.Facts.{AreFacts, IsKnown};
+
+use crate::chunks::{MANY_RECORDS, chunk_of, near_facts};
+use crate::facts::Facts;
+use crate::plans::Plan;
+use crate::rows::Rows;
+use crate::windows::Window;
+use im_digest::{D32, Hash32};
+use std::alloc::{AllocError, Global};
+use std::thread::Threads;
+
+// The most leaves that join the tree at once: what is hashed of them is held, two facts a leaf.
+const MOST_LEAVES: usize = 32_768;
+
+/// A window with what is hashed, by several threads, of the records of a plan, and of the tree, which its leaves join. A spent
+/// one is let go first. Its only error is want of memory.
+pub fn fill<R: Threads + Sync, H: Hash32 + Sync>(
+    rt: &R,
+    alloc: Global,
+    hash: &H,
+    log: &[u8],
+    plan: &Plan,
+    spent: &mut Option<Window>,
+    rows: &mut Rows,
+) -> Result<Window, AllocError>
+    ensures { IfOk result (λ window. IsKnown (H.digest hash.now) window) }
+{
+    drop(spent.take());
+    let far = raised(rt, alloc, hash, plan.leaves.as_slice(), rows)?;
+    let leads = plan.leads.as_slice();
+    let size = chunk_of(rt, leads.len(), MANY_RECORDS);
+    let near = near_facts(rt, alloc, hash, log, &plan.values, rows, leads, size)?;
+    Ok(Window::of(leads, size, near, far))
+}
+
+// Raises a tree by these leaves, and gives what is hashed of it. Where they are more than many, that is of the last of them
+// alone.
+fn raised<R: Threads + Sync, H: Hash32 + Sync>(
+    rt: &R,
+    alloc: Global,
+    hash: &H,
+    leaves: &[D32],
+    rows: &mut Rows,
+) -> Result<Facts, AllocError>
+    ensures { IfOk result (λ far. AreFacts (H.digest hash.now) far) }
+{
+    let mut far = Facts::with_room(alloc, 0);
+    for part in leaves.chunks(MOST_LEAVES) {
+        far = Facts::with_room(alloc, part.len().saturating_mul(2));
+        rows.rest();
+        rows.raise(rt, alloc, hash, part, &mut far)?;
+    }
+    Ok(far)
+}

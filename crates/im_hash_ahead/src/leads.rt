@@ -1,0 +1,168 @@
+ghost use Rattle.std.specs.Prelude.{◌≡◌, ◌≤◌, length, IfSome};
+
+use im_digest::{D32, Hash32};
+use im_model::limits::{MOST_ENTRIES, MOST_KEY_OCTETS};
+use std::alloc::{AllocError, Global};
+
+// The most records that are looked ahead at.
+const MOST_LEADS: usize = 4096;
+
+// The most octets of the transaction log that are looked ahead at, but for the last record.
+const MOST_OCTETS: usize = 2_097_152;
+
+/// What a record says of itself, unchecked. Nothing rests on it: what is hashed by it is a digest of some string in any case.
+#[derive(Clone, Copy)]
+pub struct Lead {
+    /// The number that the transaction should have.
+    pub id: u64,
+    /// Where the record begins in the transaction log.
+    pub at: usize,
+    /// The number of its entries, 1 to 1024.
+    pub entries: usize,
+    /// The number of the entries of the records that are looked ahead at before it.
+    pub values: usize,
+    /// The size of its tree.
+    pub bl: u64,
+    /// The Alh of the record before.
+    pub before: D32,
+    /// Its own.
+    pub alh: D32,
+    /// Where it ends.
+    pub end: usize,
+}
+
+/// The fields of an entry that its digest is made of, where its value lies, and where the entry ends.
+#[derive(Clone, Copy)]
+pub struct Fields<'a> {
+    /// The octets of its metadata.
+    pub md: &'a [u8],
+    /// Those of its key.
+    pub key: &'a [u8],
+    /// The digest of its value.
+    pub hval: &'a [u8],
+    /// The value's length, in octets.
+    pub len: u64,
+    /// The number of its value log.
+    pub log: u64,
+    /// Where the value begins in that log.
+    pub place: u64,
+    /// Where the entry ends in the transaction log.
+    pub end: usize,
+}
+
+/// Where records begin: how many there are before, the place in the transaction log, and the Alh of the record before.
+#[derive(Clone, Copy)]
+pub struct Start {
+    /// How many records are before.
+    pub count: u64,
+    /// The place in the transaction log, in octets.
+    pub at: usize,
+    /// The Alh of the record before.
+    pub before: D32,
+}
+
+impl Start {
+    /// Where the first record begins.
+    pub fn of_all<H: Hash32>(hash: &H) -> Self {
+        Start {
+            count: 0,
+            at: 0,
+            before: hash.hash(&[], &[], &[]),
+        }
+    }
+}
+
+/// Looks at the records from a start on, as far as they can be told apart: up to 4,096 of them, or to 2 MiB. It hashes nothing.
+/// Its only error is want of memory.
+pub fn survey(alloc: Global, log: &[u8], start: &Start) -> Result<Vec<Lead>, AllocError> {
+    let mut leads = Vec::with_capacity(alloc, MOST_LEADS)?;
+    let mut id = start.count;
+    let mut at = start.at;
+    let mut values = 0usize;
+    let mut before = start.before;
+    for _i in 0..MOST_LEADS {
+        id = id.saturating_add(1);
+        if at.saturating_sub(start.at) > MOST_OCTETS {
+            break;
+        }
+        let Some(lead) = lead_at(log, id, at, values, before) else {
+            break;
+        };
+        leads.push(lead)?;
+        at = lead.end;
+        values = values.saturating_add(lead.entries);
+        before = lead.alh;
+    }
+    Ok(leads)
+}
+
+// The record at a place, where its fields are there, and its lengths within the limits.
+fn lead_at(log: &[u8], id: u64, at: usize, values: usize, before: D32) -> Option<Lead> {
+    let bl = number_at(log, at.saturating_add(16), 8)?;
+    let entries = number_at(log, at.saturating_add(24), 4)? as usize;
+    if entries == 0 || entries > MOST_ENTRIES as usize {
+        return None;
+    }
+    let mut end = at.saturating_add(28);
+    for _i in 0..entries {
+        end = fields_at(log, end)?.end;
+    }
+    let mut alh = [0; 32];
+    alh.copy_from_slice(part_at(log, end, 32)?);
+    Some(Lead {
+        id,
+        at,
+        entries,
+        values,
+        bl,
+        before,
+        alh,
+        end: end.saturating_add(32),
+    })
+}
+
+/// The entry at a place, where its fields are there, and its lengths within the limits.
+pub fn fields_at(log: &[u8], at: usize) -> Option<Fields<'_>>
+    ensures md { IfSome result (λ fields. length fields.md.now ≤ 2) }
+    ensures key { IfSome result (λ fields. length fields.key.now ≤ 1024) }
+{
+    let md_len = number_at(log, at, 2)? as usize;
+    let md = part_at(log, at.saturating_add(2), md_len)?;
+    let key_at = at.saturating_add(2).saturating_add(md_len);
+    let key_len = number_at(log, key_at, 2)? as usize;
+    let key = part_at(log, key_at.saturating_add(2), key_len)?;
+    if md_len > 2 || key_len > MOST_KEY_OCTETS {
+        return None;
+    }
+    let hval_at = key_at.saturating_add(2).saturating_add(key_len);
+    Some(Fields {
+        md,
+        key,
+        hval: part_at(log, hval_at, 32)?,
+        len: number_at(log, hval_at.saturating_add(32), 4)?,
+        log: number_at(log, hval_at.saturating_add(36), 1)?,
+        place: number_at(log, hval_at.saturating_add(37), 8)?,
+        end: hval_at.saturating_add(45),
+    })
+}
+
+/// So many octets of the log from a place on, where they are there.
+pub fn part_at(log: &[u8], at: usize, n: usize) -> Option<&[u8]>
+    ensures { IfSome result (λ part. length part.now ≡ n) }
+{
+    if log.len() < at || log.len() - at < n {
+        return None;
+    }
+    let (_, rest) = log.split_at(at);
+    let (part, _) = rest.split_at(n);
+    Some(part)
+}
+
+// The number of so many octets from a place on, the highest first; of more than eight the last eight.
+fn number_at(log: &[u8], at: usize, n: usize) -> Option<u64> {
+    let mut number = 0u64;
+    for octet in part_at(log, at, n)? {
+        number = number.wrapping_mul(256).wrapping_add(u64::from(*octet));
+    }
+    Some(number)
+}

@@ -1,0 +1,72 @@
+ghost use Rattle.im_digest.specs.Digests.{Hash};
+ghost use Rattle.im_hash_ahead.specs.Facts.{AreFacts, IsKnown};
+
+use crate::facts::Facts;
+use crate::leads::Lead;
+use std::alloc::Global;
+
+/// What was hashed ahead, of records that follow each other and of the tree over them.
+#[derive(Drop)]
+pub struct Window {
+    /// How many records are before the first.
+    pub first: u64,
+    /// How many records are before the first behind them; all, where nothing is hashed ahead any more.
+    pub until: u64,
+    /// How many of them are in a chunk.
+    pub size: u64,
+    /// What is hashed of the records of each chunk alone.
+    pub near: Vec<Facts>,
+    /// What is hashed of the tree over their Alh.
+    pub far: Facts,
+}
+
+impl Window {
+    ghost use Rattle.std.specs.Prelude.{All};
+    ghost use Rattle.im_digest.specs.Digests.{Hash};
+    ghost use Rattle.im_hash_ahead.specs.Facts.{AreFacts, IsKnown};
+
+    /// One that has nothing, before the first record.
+    pub fn empty(alloc: Global) -> Self
+        ensures { (hash : Hash) → IsKnown hash result }
+    {
+        Window {
+            first: 0,
+            until: 0,
+            size: 1,
+            near: Vec::new(alloc),
+            far: Facts::with_room(alloc, 0),
+        }
+    }
+
+    /// One that has this of these records, in chunks of this size.
+    pub fn of(leads: &[Lead], size: usize, near: Vec<Facts>, far: Facts) -> Self
+        ensures { (hash : Hash) → All (λ facts. AreFacts hash facts) near.items → AreFacts hash far → IsKnown hash result }
+    {
+        let first = match leads.first() {
+            Some(lead) => lead.id.saturating_sub(1),
+            None => 0,
+        };
+        let until = match leads.last() {
+            Some(lead) => lead.id,
+            None => u64::MAX,
+        };
+        Window {
+            first,
+            until,
+            size: size as u64,
+            near,
+            far,
+        }
+    }
+
+    /// What was hashed of the record behind so many.
+    pub fn near_of(&self, before: u64) -> &Facts
+        ensures { (hash : Hash) → IsKnown hash self.now → AreFacts hash result.now }
+    {
+        let chunk = before.saturating_sub(self.first) / self.size.max(1);
+        match self.near.get(chunk as usize) {
+            Some(facts) => facts,
+            None => &self.far,
+        }
+    }
+}

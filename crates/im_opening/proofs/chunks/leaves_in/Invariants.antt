@@ -1,5 +1,0 @@
-use Rattle.im_opening.specs.Facts.{AreFacts}
-use Rattle.im_opening.proofs.chunks.leaves_in.Given as goal
-
-abbrev pub invariant-loop-leaf : goal.invariant-loop-leaf
-invariant-loop-leaf g l = AreFacts (g.H.Hash32.digest l.hash) l.facts.items

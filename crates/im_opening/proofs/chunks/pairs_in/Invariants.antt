@@ -1,5 +1,0 @@
-use Rattle.im_opening.specs.Facts.{AreFacts}
-use Rattle.im_opening.proofs.chunks.pairs_in.Given as goal
-
-abbrev pub invariant-loop-k : goal.invariant-loop-k
-invariant-loop-k g l = AreFacts (g.H.Hash32.digest l.hash) l.facts.items

@@ -1,7 +1,0 @@
-use Rattle.std.proofs.Common.{All}
-use Rattle.im_digest.specs.Digests.{Hash}
-use Rattle.im_opening.specs.Facts.{AreFacts}
-use Rattle.im_opening.proofs.rows.Rows.add.Given as goal
-
-abbrev pub invariant-loop-part : goal.invariant-loop-part
-invariant-loop-part l = (hash : Hash) → All (λ facts. AreFacts hash facts.items) l.yielded → AreFacts hash l.initial.far → AreFacts hash l.far

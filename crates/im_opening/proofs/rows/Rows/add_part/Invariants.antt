@@ -1,6 +1,0 @@
-use Rattle.im_digest.specs.Digests.{Hash}
-use Rattle.im_opening.specs.Facts.{AreFacts}
-use Rattle.im_opening.proofs.rows.Rows.add_part.Given as goal
-
-abbrev pub invariant-loop-fact : goal.invariant-loop-fact
-invariant-loop-fact l = (hash : Hash) → AreFacts hash l.yielded → AreFacts hash l.initial.far → AreFacts hash l.far

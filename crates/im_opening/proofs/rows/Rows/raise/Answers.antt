@@ -1,5 +1,0 @@
-use Rattle.std.proofs.Common.{rules}
-use Rattle.im_opening.proofs.rows.Rows.raise.Goals as goal
-
-pub returns-after-loop-level : goal.returns-after-loop-level
-returns-after-loop-level g c made = let first = c.in_ok-add.ensures (g.H.Hash32.digest c.args.hash.now) c.in_ok-parts.ensures made in search rules
