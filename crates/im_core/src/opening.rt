@@ -165,26 +165,64 @@ fn not_opened(failed: OpenFailed<MemDisk>) -> Result<Option<OpenStore>, AllocErr
 
 // What a store has in memory whose history was found: all of it is linked and indexed. Of the tree the leaves are hashed that the
 // tree of the last transaction lacks. Its only error is want of memory.
-fn lists_of<H: Hash32>(alloc: Global, hash: &H, found: FoundHistory) -> Result<Lists, AllocError>
+fn lists_of<H: Hash32>(
+    alloc: Global,
+    hash: &H,
+    mut found: FoundHistory,
+) -> Result<Lists, AllocError>
     requires { IsOneHistory (H.digest hash.now) found }
     ensures { IfOk result (HasFound (H.digest hash.now) (txs_of found.records.items)) }
+{
+    match raise(hash, &mut found.tree, found.alhs.as_slice()) {
+        Ok(()) => lists_over(alloc, found),
+        Err(error) => {
+            drop(found);
+            Err(error)
+        }
+    }
+}
+
+// The same where the tree has all leaves.
+fn lists_over(alloc: Global, found: FoundHistory) -> Result<Lists, AllocError>
+    requires few { length found.records.items ≤ 1048576 }
+    ensures { IfOk result (λ lists. (lists.book.transactions ≡ txs_of found.records.items) × (lists.book.headers ≡ found.headers.items) × (lists.book.alhs ≡ found.alhs.items)
+        × (lists.tree ≡ found.tree) × IsIndexOf lists.index (txs_of found.records.items)) }
 {
     let FoundHistory {
         records,
         headers,
         alhs,
-        mut tree,
-    } = found;
-    let transactions = transactions_of(alloc, records)?;
-    let leaves = alhs.as_slice();
-    raise(hash, &mut tree, leaves)?;
-    let placed = transactions.as_slice();
-    let index = index_of(alloc, placed)?;
-    Ok(Lists {
-        book: Book::of(alloc, transactions, headers, alhs),
         tree,
-        index,
-    })
+    } = found;
+    match indexed(alloc, records) {
+        Ok((transactions, index)) => Ok(Lists {
+            book: Book::of(alloc, transactions, headers, alhs),
+            tree,
+            index,
+        }),
+        Err(error) => {
+            drop(headers);
+            drop(alhs);
+            drop(tree);
+            Err(error)
+        }
+    }
+}
+
+// The transactions of records, and their index.
+fn indexed(alloc: Global, records: Vec<Record>) -> Result<(Vec<Transaction>, Index), AllocError>
+    requires { length records.items ≤ 1048576 }
+    ensures transactions { IfOk result (λ both. both.0.items ≡ txs_of records.items) }
+    ensures index { IfOk result (λ both. IsIndexOf both.1 (txs_of records.items)) }
+{
+    let transactions = transactions_of(alloc, records)?;
+    match index_of(alloc, transactions.as_slice()) {
+        Ok(index) => Ok((transactions, index)),
+        Err(error) => {
+            drop(transactions);
+            Err(error)
+        }
+    }
 }
 
 // Raises a tree of the first of these Alh to all of them.

@@ -36,7 +36,7 @@ impl OpenStore {
             return Ok(Output::NotAllowed);
         }
         let snapshot = self.index.snapshot(alloc, number)?;
-        let versions = shown(alloc, &snapshot, number, question)?;
+        let versions = shown_by(alloc, snapshot, number, question)?;
         Ok(Output::Versions { versions })
     }
 }
@@ -44,6 +44,22 @@ impl OpenStore {
 // Want of memory is the only error of a view.
 fn in_memory(_: ViewError) -> AllocError {
     AllocError
+}
+
+// What a snapshot of its own shows behind the first `number` transactions.
+fn shown_by(
+    alloc: Global,
+    snapshot: Snapshot,
+    number: u64,
+    question: &KeyQuestion,
+) -> Result<Versions, AllocError>
+    requires { (history : List Transaction) × IsSnapshotOf snapshot history × (number ≤ length history) }
+    ensures { (history : List Transaction) → IsSnapshotOf snapshot history → number ≤ length history
+        → IfOk result (IsShown (take number history) question.now) }
+{
+    let answer = shown(alloc, &snapshot, number, question);
+    drop(snapshot);
+    answer
 }
 
 // What a snapshot shows behind the first `number` transactions.

@@ -26,8 +26,8 @@ returns-then-indexed-number c hash m session u =
     let indexed : c.taken-indexed.result ≡ m.indexed = c.taken-indexed.ensures ∙ index-size hash s m u in
     not-allowed hash s m (on.Snap session c.args.number c.args.question.now) u (λ a. let within : c.args.number ≤ m.indexed = a.1 in omega (arith, within, indexed, c.if-indexed-number.true))
 
-pub shown-requires : goal.shown-requires
-shown-requires c =
+pub shown_by-requires : goal.shown_by-requires
+shown_by-requires c =
     let s : OpenStore = c.args.self.now in
     let hash : Hash = c.requires.0 in
     let m : Machine = c.requires.1 in
