@@ -5,7 +5,7 @@ use Rattle.std.specs.Prelude.{IsErrOf, OnOk}
 use Rattle.std.specs.Option.{option_map}
 use Rattle.im_octet.proofs.Common.{ok-isnt, some-is}
 use Rattle.im_core.specs.Foretold.{IsForetold, IsTheSame}
-use Rattle.im_core.specs.Parts.{tells, Answers, IsAsFar, IsDone, IsGoing, IsUp}
+use Rattle.im_core.specs.Parts.{tells, Answers, IsAsFar, IsGoing, IsUp}
 use Rattle.im_core.specs.declared.store.OpenStore.{OpenStore}
 use Rattle.im_digest.specs.Digests.{Hash}
 use Rattle.im_disk.specs.Disk.{after, Told}
@@ -25,6 +25,7 @@ use Rattle.im_journal.specs.declared.batches.Step.TheVariants.{Idle, Staging, St
 use Rattle.im_journal.specs.declared.ends.Ends.{Ends}
 use Rattle.im_journal.specs.declared.errors.JournalError.{JournalError}
 use Rattle.im_journal.specs.declared.errors.JournalError.TheVariants.{DiskFault, Memory}
+use Rattle.im_machine.specs.Kept.{IsDone}
 use Rattle.im_machine.specs.Allowed.{Allows, MayCall, MayGate, MaySeal, MaySettle, MayStage}
 use Rattle.im_machine.specs.Machines.{further, gate_due, writes_due, Machine, Progress}
 use Rattle.im_machine.specs.Steps.{Gates, Seals, Settles}

@@ -1,5 +1,5 @@
 -- Placing, linking and indexing.
-use Rattle.std.proofs.Common.{◌≡◌, ◌<◌, ◌≤◌, ◌+◌, ◌-◌, ◌==◌, ◌∙◌, ℕ, suc, ℤ, List, [], ◌∷◌, ◌++◌, length, take, get_or, true, refl, sym, ap, subst, arith, inl, All, Option, Some, None, length-append, if◌then◌else◌}
+use Rattle.std.proofs.Common.{◌≡◌, ◌<◌, ◌≤◌, ◌+◌, ◌-◌, ◌∙◌, ℕ, suc, ℤ, List, [], ◌∷◌, ◌++◌, length, take, get_or, true, refl, sym, ap, subst, arith, inl, All, Option, Some, None, length-append}
 use Rattle.std.proofs.lemmas.List.{get_or-map, take-append-le, take_more}
 use Rattle.std.proofs.lemmas.List.Elements.{All-push, All-weaker}
 use Rattle.im_book.specs.Booked.{last_bl, last_bl_or, Booked, IsBook}
@@ -18,6 +18,7 @@ use Rattle.im_machine.specs.Machines.{Machine, Progress}
 use Rattle.im_machine.specs.Steps.{Places, Steps}
 use Rattle.im_machine.specs.declared.events.Event.TheVariants as on
 use Rattle.im_machine.specs.declared.outputs.Output.TheVariants as says
+use Rattle.im_machine.proofs.StepLemmas.{with_tx}
 use Rattle.im_model.specs.Headers.{alh}
 use Rattle.im_model.specs.History.{alhs_of, header_of, next_header, no_transaction, transaction_of, IsHistory}
 use Rattle.im_model.specs.declared.headers.Header.{Header}
@@ -42,10 +43,6 @@ far-longer : (hash : Hash) (placed more : List Transaction) (batches : List (Lis
     → IsAsFar hash placed batches progress k → IsAsFar hash (placed ++ more) batches progress k
 far-longer hash placed more batches None k is far = rest_longer tells hash placed more batches k is far
 far-longer hash placed more batches (Some p) k is far = (batch_longer tells hash placed more batches p.records k is far.0, far.1)
-
--- the machine with one transaction more
-abbrev pub with_tx : Machine → Transaction → Machine
-with_tx m tx = record m { placed = m.placed ++ tx ∷ [] }
 
 pub up-placed : (hash : Hash) (s : OpenStore) (m : Machine) (book : Booked) (tx : Transaction) → IsUp hash s m → IsBook hash book
     → book.transactions ≡ s.book.transactions ++ tx ∷ [] → tx.bl ≤ m.linked

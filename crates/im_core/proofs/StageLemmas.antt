@@ -1,12 +1,12 @@
 -- Staging a batch.
 use Rattle.std.proofs.Common.{◌≡◌, ◌<◌, ◌≤◌, ◌+◌, ◌-◌, ◌∙◌, ℕ, List, [], ◌∷◌, length, take, drop, get_or, Bool, true, false, refl, sym, ap, subst, arith, inl, Option, Some, None, Result, Ok, Err, length-drop}
-use Rattle.std.proofs.lemmas.Bool.{false≢true, ltb-false, ltb-true}
+use Rattle.std.proofs.lemmas.Bool.{false≢true}
 use Rattle.std.proofs.lemmas.List.{drop_more, length-map, length-take-le}
 use Rattle.std.proofs.lemmas.Option.{slice_get-get_or}
-use Rattle.std.specs.Prelude.{nat_lt, slice_get, if◌then◌else◌, IsErrOf, IsOk, OnOk}
+use Rattle.std.specs.Prelude.{slice_get, IsErrOf, IsOk, OnOk}
 use Rattle.im_octet.proofs.Common.{ok-isnt}
 use Rattle.im_core.specs.Foretold.{IsForetold, IsTheSame}
-use Rattle.im_core.specs.Parts.{tells, Answers, IsAsFar, IsDone, IsUp}
+use Rattle.im_core.specs.Parts.{tells, Answers, IsAsFar, IsUp}
 use Rattle.im_core.specs.Staged.{AreBehind, WritesNext}
 use Rattle.im_core.specs.declared.store.OpenStore.{OpenStore}
 use Rattle.im_core.proofs.CallLemmas.{fails-up, fallen, goes-up, gone_on, no-fault, ready-for, step-same, told-failed, told-ok, with_journal, IsReady}
@@ -21,15 +21,17 @@ use Rattle.im_journal.specs.Holding.{AreFirst, AreNext}
 use Rattle.im_journal.specs.Kept.{step_behind, IsAtRest, IsInBatch, Kept}
 use Rattle.im_journal.specs.Made.{call_to_put, failed_call, writes_of, Makes}
 use Rattle.im_journal.specs.declared.batches.Step.{Step}
-use Rattle.im_journal.specs.declared.batches.Step.TheVariants.{Idle, Staging, Staged}
+use Rattle.im_journal.specs.declared.batches.Step.TheVariants.{Idle, Staging}
 use Rattle.im_journal.specs.declared.ends.Ends.{Ends}
 use Rattle.im_journal.specs.declared.errors.JournalError.{JournalError}
 use Rattle.im_journal.specs.declared.errors.JournalError.TheVariants.{DiskFault, Memory}
 use Rattle.im_machine.specs.Allowed.{Allows, MayStage}
+use Rattle.im_machine.specs.Kept.{IsDone}
 use Rattle.im_machine.specs.Machines.{fresh, further, writes_due, Covers, Machine, Progress}
 use Rattle.im_machine.specs.Steps.{Stages}
 use Rattle.im_machine.specs.declared.events.Event.TheVariants as on
 use Rattle.im_machine.specs.declared.outputs.Output.{Output}
+use Rattle.im_machine.proofs.StepLemmas.{done-behind}
 use Rattle.im_model.specs.declared.transactions.Transaction.{Transaction}
 
 -- stands where a number is beyond the pieces
@@ -40,14 +42,6 @@ no_span = record { file = 0; at = 0; octets = [] }
 put-call : (k : Kept Recorded) → k.batch.written < length k.batch.pieces
     → call_to_put k ≡ (let piece = get_or k.batch.pieces k.batch.written no_span in Wrote piece.file piece.at piece.octets ∷ [])
 put-call k less = ap (λ (l : List Span). writes_of (take 1 l)) (drop_more k.batch.pieces k.batch.written no_span less)
-
--- how far a batch is with one piece more written
-done-behind : (writes written done : ℕ) → done ≡ written → written < writes → IsDone (step_behind (written + 1) writes) writes (written + 1) (done + 1)
-done-behind writes written done is less = go (nat_lt (written + 1) writes) refl
-  where
-    go : (b : Bool) → nat_lt (written + 1) writes ≡ b → IsDone (if b then Staging else Staged) writes (written + 1) (done + 1)
-    go true test = (ap (λ (n : ℕ). n + 1) is, ltb-true (written + 1) writes test)
-    go false test = let past : writes ≤ written + 1 = ltb-false (written + 1) writes test in omega (arith, past, is, less)
 
 -- the machine with the progress that it has
 with-progress : (hash : Hash) (s : OpenStore) (m : Machine) (p : Progress) → IsUp hash s m → m.progress ≡ Some p → IsUp hash s (record m { progress = Some p })

@@ -1,5 +1,5 @@
 -- The parts of an open store, and what they have to do with the machine.
-use Rattle.std.specs.Prelude.{◌≡◌, ◌≤◌, ◌<◌, ◌+◌, ℕ, List, length, take, All, false, true, Option, Some, None}
+use Rattle.std.specs.Prelude.{◌≡◌, ℕ, List, length, take, false, true, Option, Some, None}
 use Rattle.im_book.specs.Booked.{Booked, IsBook}
 use Rattle.im_core.specs.declared.store.OpenStore.{OpenStore}
 use Rattle.im_digest.specs.Digests.{Hash}
@@ -8,9 +8,8 @@ use Rattle.im_disk.specs.Recorded.{told_by, Recorded}
 use Rattle.im_format.specs.declared.records.Record.{Record}
 use Rattle.im_index.specs.Indexed.{Indexed, IsIndexOf}
 use Rattle.im_journal.specs.Kept.{IsAtRest, IsInBatch, Kept}
-use Rattle.im_journal.specs.declared.batches.Step.{Step}
-use Rattle.im_journal.specs.declared.batches.Step.TheVariants.{Idle, Staging, Staged, Sealed, Gated}
 use Rattle.im_levels.specs.Leveled.{IsLeveled, Stored}
+use Rattle.im_machine.specs.Kept.{AreInOrder, IsDone}
 use Rattle.im_machine.specs.Machines.{Machine, Progress}
 use Rattle.im_machine.specs.Steps.{Steps}
 use Rattle.im_machine.specs.declared.events.Event.{Event}
@@ -26,25 +25,9 @@ pub record HaveLists (hash : Hash) (book : Booked) (tree : Stored) (index : Inde
   pub tree_is : IsLeveled hash (take linked (alhs_of hash placed)) tree
   pub index_is : IsIndexOf index (take indexed placed)
 
--- what is linked and what is indexed is durable, what is durable is placed, and no transaction was placed over a larger tree than
--- that of what is linked
-pub record AreInOrder (placed : List Transaction) (durable linked indexed : ℕ) : Type 0 where
-  pub least : All (λ tx. tx.bl ≤ linked) placed
-  pub linked_durable : linked ≤ durable
-  pub indexed_durable : indexed ≤ durable
-  pub durable_placed : durable ≤ length placed
-
 -- what a disk in memory tells
 abbrev pub tells : Recorded → Option Told
 tells disk = Some (told_by disk)
-
--- so many steps are done of a batch of so many writes, whose journal is at this step of it and has made so many of its writes
-abbrev pub IsDone : Step → ℕ → ℕ → ℕ → Type 0
-IsDone Idle writes written done = ⊥
-IsDone Staging writes written done = (done ≡ written) × (written < writes)
-IsDone Staged writes written done = done ≡ writes
-IsDone Sealed writes written done = done ≡ writes + 1
-IsDone Gated writes written done = done ≡ writes + 2
 
 -- the journal is as far as the machine's batch in progress
 abbrev pub IsAsFar : Hash → List Transaction → List (List Record) → Option Progress → Kept Recorded → Type 0

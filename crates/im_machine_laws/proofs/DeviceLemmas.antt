@@ -1,9 +1,9 @@
 -- Events that call the disk.
 use Rattle.std.proofs.Common.{◌≡◌, ◌≤◌, ◌<◌, ◌+◌, ◌-◌, ◌++◌, ◌∷◌, ◌∙◌, [], ℕ, List, length, take, drop, get_or, true, false, Bool, refl, sym, ap, subst, arith, Option, Some, None, length-drop}
-use Rattle.std.proofs.lemmas.Bool.{ltb-false, ltb-true, true≢false}
+use Rattle.std.proofs.lemmas.Bool.{true≢false}
 use Rattle.std.proofs.lemmas.List.{length-map, length-take-le}
 use Rattle.std.proofs.lemmas.Option.{slice_get-get_or}
-use Rattle.std.specs.Prelude.{◌⊎◌, nat_lt, slice_get, if◌then◌else◌}
+use Rattle.std.specs.Prelude.{slice_get}
 use Rattle.im_octet.proofs.Common.{some-is}
 use Rattle.im_digest.specs.Digests.{Hash}
 use Rattle.im_disk.specs.Disk.{after, Files, Images, Told}
@@ -27,10 +27,12 @@ use Rattle.im_journal.proofs.Calls.{done_now, gated, next_left, next_taken, seal
 use Rattle.im_journal.proofs.Mids.{at_step, begun, done_first, done_rests, first_at, gated_at_last, leaves_either, mid_stands, rest_stands, safe_stands}
 use Rattle.im_journal.proofs.Single.{has_piece, put_at}
 use Rattle.im_machine.specs.Allowed.{MayGate, MaySeal, MaySettle, MayStage}
+use Rattle.im_machine.specs.Kept.{IsDone}
 use Rattle.im_machine.specs.Machines.{fresh, further, gate_due, writes_due, Covers, Machine, Progress}
 use Rattle.im_machine.specs.Steps.{Calls, Gates, Seals, Settles, Stages, Writes}
 use Rattle.im_machine.specs.declared.outputs.Output.{Output}
-use Rattle.im_machine_laws.proofs.Sound.{kept_as, telling, IsAsFar, IsDone, IsSound}
+use Rattle.im_machine.proofs.StepLemmas.{done-behind}
+use Rattle.im_machine_laws.proofs.Sound.{kept_as, telling, IsAsFar, IsSound}
 use Rattle.im_model.specs.declared.transactions.Transaction.{Transaction}
 use Rattle.im_journal.proofs.Held.{from_either}
 
@@ -113,13 +115,6 @@ is-gated Gated writes written done is all = refl
 abbrev put_on : Batch → Batch
 put_on b = record { step = step_behind (b.written + 1) (length b.pieces); pieces = b.pieces; written = b.written + 1; ends = b.ends; count = b.count }
 
-put-done : (writes written done : ℕ) → done ≡ written → written < writes → IsDone (step_behind (written + 1) writes) writes (written + 1) (done + 1)
-put-done writes written done is less = go (nat_lt (written + 1) writes) refl
-  where
-    go : (b : Bool) → nat_lt (written + 1) writes ≡ b → IsDone (if b then Staging else Staged) writes (written + 1) (done + 1)
-    go true test = (ap (λ (n : ℕ). n + 1) is, ltb-true (written + 1) writes test)
-    go false test = let past : writes ≤ written + 1 = ltb-false (written + 1) writes test in omega (arith, past, is, less)
-
 -- a batch that is being staged, and its next write
 module _ (hash : Hash) (m : Machine) (p : Progress) (b : Batch) (piece : Span) (s : IsSound hash m) (up : m.up ≡ true)
     (mid : IsInBatch telling hash m.placed m.batches p.records (kept_as m b)) (staging : b.step ≡ Staging) (done : p.done ≡ b.written) (less : b.written < length b.pieces)
@@ -174,7 +169,7 @@ module _ (hash : Hash) (m : Machine) (p : Progress) (b : Batch) (piece : Span) (
   written-sound true output next does = subst (IsSound hash) (sym does.1) (falls hash m (Some p) (after (failed_call write) m.disk) s up torn-images)
   written-sound false output next does =
       subst (IsSound hash) (sym does.1)
-      (goes-on hash m (further p) (after write m.disk) (put_on b) s up (put-batch, put-done (length b.pieces) b.written p.done done less))
+      (goes-on hash m (further p) (after write m.disk) (put_on b) s up (put-batch, done-behind (length b.pieces) b.written p.done done less))
 
 -- the next write of a batch in progress
 writes-sound : (hash : Hash) (m next : Machine) (p : Progress) (b : Batch) (fails : Bool) (output : Output) → IsSound hash m → m.up ≡ true → IsAsFar hash m (Some p) b

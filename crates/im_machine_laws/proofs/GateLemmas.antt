@@ -15,9 +15,10 @@ use Rattle.im_machine.specs.Machines.{writes_due, Machine, Progress}
 use Rattle.im_machine.specs.Steps.{Steps}
 use Rattle.im_machine.specs.declared.events.Event.TheVariants as on
 use Rattle.im_machine.specs.declared.outputs.Output.TheVariants as tells
+use Rattle.im_machine.specs.Kept.{IsDone}
 use Rattle.im_machine_laws.specs.Gates.{IsUngated}
 use Rattle.im_machine_laws.specs.Reached.{Gives32}
-use Rattle.im_machine_laws.proofs.Sound.{kept_as, telling, IsAsFar, IsDone, IsHeld, IsSound}
+use Rattle.im_machine_laws.proofs.Sound.{kept_as, telling, IsAsFar, IsHeld, IsSound}
 use Rattle.im_model.specs.declared.transactions.Transaction.{Transaction}
 
 stands-ungated : (step : Step) (hash : Hash) (history : List Transaction) (durable count : ℕ) (image : Files) (writes written done : ℕ) → StandsBy step hash history durable count image

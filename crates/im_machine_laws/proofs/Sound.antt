@@ -1,36 +1,18 @@
 -- What holds of every machine that events lead to.
-use Rattle.std.proofs.Common.{◌≡◌, ◌≤◌, ◌<◌, ◌+◌, [], ℕ, List, length, All, true, false, Option, Some, None}
+use Rattle.std.proofs.Common.{◌≡◌, ◌≤◌, [], ℕ, List, length, true, false, Option, Some, None}
 use Rattle.im_digest.specs.Digests.{Hash}
 use Rattle.im_disk.specs.Disk.{Files, Images, Told}
 use Rattle.im_disk.specs.Records.{told_of}
 use Rattle.im_format.specs.Standing.{StandsFrom}
 use Rattle.im_journal.specs.Holding.{ends_of}
 use Rattle.im_journal.specs.Kept.{Batch, IsAtRest, IsInBatch, Kept}
-use Rattle.im_journal.specs.declared.batches.Step.{Step}
-use Rattle.im_journal.specs.declared.batches.Step.TheVariants.{Idle, Staging, Staged, Sealed, Gated}
+use Rattle.im_machine.specs.Kept.{AreInOrder, IsDone}
 use Rattle.im_machine.specs.Machines.{Machine, Progress}
 use Rattle.im_model.specs.History.{IsHistory}
-use Rattle.im_model.specs.declared.transactions.Transaction.{Transaction}
-
--- what is linked and what is indexed is durable, what is durable is placed, and no transaction was placed over a larger tree than
--- that of what is linked
-pub record AreInOrder (placed : List Transaction) (durable linked indexed : ℕ) : Type 0 where
-  pub least : All (λ tx. tx.bl ≤ linked) placed
-  pub linked_durable : linked ≤ durable
-  pub indexed_durable : indexed ≤ durable
-  pub durable_placed : durable ≤ length placed
 
 -- the disk tells what it is
 abbrev pub telling : Told → Option Told
 telling t = Some t
-
--- so many steps are done of a batch of so many writes, whose journal is at this step of it and has made so many of its writes
-abbrev pub IsDone : Step → ℕ → ℕ → ℕ → Type 0
-IsDone Idle writes written done = ⊥
-IsDone Staging writes written done = (done ≡ written) × (written < writes)
-IsDone Staged writes written done = done ≡ writes
-IsDone Sealed writes written done = done ≡ writes + 1
-IsDone Gated writes written done = done ≡ writes + 2
 
 -- the machine's disk, as a journal that is at this step of a batch has it
 abbrev pub kept_as : Machine → Batch → Kept Told

@@ -12,13 +12,10 @@ use Rattle.im_machine.specs.Machines.{raised, Machine, Progress}
 use Rattle.im_machine.specs.Steps.{loaded}
 use Rattle.im_machine.specs.declared.words.Word.{Word}
 use Rattle.im_machine.specs.declared.words.Word.TheVariants.{Placed, Durable, Linked, Indexed, Failed}
+use Rattle.im_machine.proofs.StepLemmas.{with_tx}
 use Rattle.im_machine_laws.proofs.Sound.{kept_as, telling, IsAsFar, IsHeld, IsSound}
 use Rattle.im_model.specs.History.{IsHistory}
 use Rattle.im_model.specs.declared.transactions.Transaction.{Transaction}
-
--- the machine with one transaction more
-abbrev pub with_tx : Machine → Transaction → Machine
-with_tx m tx = record m { placed = m.placed ++ tx ∷ [] }
 
 -- what the disk has of the history stays as the history goes on
 far-longer : (hash : Hash) (m : Machine) (tx : Transaction) (progress : Option Progress) (b : Batch) → IsHistory (m.placed ++ tx ∷ [])

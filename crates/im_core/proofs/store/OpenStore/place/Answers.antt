@@ -3,7 +3,8 @@ use Rattle.std.proofs.lemmas.Int.{to_z-of_z}
 use Rattle.std.proofs.lemmas.Result.{IfOk-weaker}
 use Rattle.im_book.specs.Booked.{last_bl, Booked}
 use Rattle.im_core.specs.Parts.{Answers, IsUp}
-use Rattle.im_core.proofs.PlaceLemmas.{last-within, placed-step, refused-step, tx_of, up-placed, with_tx}
+use Rattle.im_core.proofs.PlaceLemmas.{last-within, placed-step, refused-step, tx_of, up-placed}
+use Rattle.im_machine.proofs.StepLemmas.{with_tx}
 use Rattle.im_core.proofs.UpLemmas.{alhs-count, placed-count, tree-size}
 use Rattle.im_core.specs.declared.store.OpenStore.{OpenStore}
 use Rattle.im_digest.specs.Digests.{Hash}

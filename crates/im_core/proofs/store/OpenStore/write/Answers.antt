@@ -1,5 +1,5 @@
 use Rattle.std.proofs.Common.{◌≡◌, ◌<◌, length, subst}
-use Rattle.im_core.specs.Parts.{IsDone}
+use Rattle.im_machine.specs.Kept.{IsDone}
 use Rattle.im_core.proofs.CallLemmas.{ready, step-same}
 use Rattle.im_core.proofs.StageLemmas.{written-step}
 use Rattle.im_journal.specs.declared.batches.Step.{Step}
