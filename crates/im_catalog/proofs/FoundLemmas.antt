@@ -158,7 +158,7 @@ index-said t v i iid text has told lent read =
 
 -- ---- the number in an index's key
 
-length-prefix : (tid : ℕ) → length (index_prefix tid) ≡ 6
+pub length-prefix : (tid : ℕ) → length (index_prefix tid) ≡ 6
 length-prefix tid = ap (λ n. suc (suc n)) (length-field4 tid)
 
 pub key-long : (key : List ℕ) (tid iid : ℕ) → key ≡ index_key tid iid → 6 ≤ length key

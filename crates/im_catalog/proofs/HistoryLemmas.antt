@@ -81,7 +81,7 @@ one-of (w ∷ ws) v apart m = elim (among-cons w ws v m) [
       ap (λ (b : Bool). cond b (w ∷ filter (is_of v.key) ws) (filter (is_of v.key) ws)) (bytes-other w.key v.key (λ same. other (sym same))) ∙ one-of ws v apart.1 rest)
 ]
 
-among-either : {A : Type 0} (xs ys : List A) (v : A) → IsAmong (xs ++ ys) v → IsAmong xs v ⊎ IsAmong ys v
+pub among-either : {A : Type 0} (xs ys : List A) (v : A) → IsAmong (xs ++ ys) v → IsAmong xs v ⊎ IsAmong ys v
 among-either [] ys v m = inr m
 among-either {A} (x ∷ xs) ys v m = elim (among-cons x (xs ++ ys) v m) [
   | inl same ↦ inl (subst (IsAmong (x ∷ xs)) (sym same) (among-first x xs))

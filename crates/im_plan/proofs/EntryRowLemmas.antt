@@ -259,7 +259,7 @@ module _ (history : List Transaction) (t : Table) (i : SqlIndex) (front : List �
 pub among-moved : {A : Type 0} (xs ys : List A) (x : A) → IsPermutation xs ys → IsAmong xs x → IsAmong ys x
 among-moved xs ys x moved m = All-among (IsAmong ys) xs x (All-permutation (IsAmong ys) ys xs (IsPermutation-sym xs ys moved) (among-itself ys)) m
 
-bytes-flip : (a b : List ℕ) → bytes_eq a b ≡ bytes_eq b a
+pub bytes-flip : (a b : List ℕ) → bytes_eq a b ≡ bytes_eq b a
 bytes-flip a b = elim (bytes_eq a b) as (λ (x : Bool). bytes_eq a b ≡ x → x ≡ bytes_eq b a) [
   | true ↦ λ e. sym ((bytes_eq-Decides b a).1 (sym ((bytes_eq-Decides a b).0 e)))
   | false ↦ λ e. elim (bytes_eq b a) as (λ (y : Bool). bytes_eq b a ≡ y → false ≡ y) [

@@ -1,5 +1,5 @@
 -- What stands in lists that are joined, mapped or sorted.
-use Rattle.std.proofs.Common.{◌≡◌, ◌≢◌, ◌≤◌, ◌<◌, ◌+◌, ◌-◌, ◌⊎◌, inl, inr, ℕ, zero, suc, Bool, true, false, not, if◌then◌else◌, List, [], ◌∷◌, ◌++◌, length, map, filter, flat_map, get_or, nat_eq, AllPairs, refl, sym, ap, ◌∙◌, subst, arith}
+use Rattle.std.proofs.Common.{◌≡◌, ◌≢◌, ◌≤◌, ◌<◌, ◌+◌, ◌-◌, inl, inr, ℕ, zero, suc, Bool, true, false, not, if◌then◌else◌, List, [], ◌∷◌, ◌++◌, length, map, filter, flat_map, get_or, nat_eq, AllPairs, refl, sym, ap, ◌∙◌, subst, arith}
 use Rattle.std.proofs.lemmas.Bool.{cases_order, eq-eqb, eqb-true, ne_eqb}
 use Rattle.std.proofs.lemmas.List.Elements.{All-from_recursion}
 use Rattle.std.specs.List.{AllByRecursion, IsAmong}
@@ -7,15 +7,16 @@ use Rattle.std.specs.Ordering.{is_lt}
 use Rattle.std.specs.declared.cmp.Ordering.{Ordering}
 use Rattle.std.specs.declared.cmp.Ordering.TheVariants.{Less, Equal, Greater}
 use Rattle.im_versions.proofs.ListLemmas.{All-among, among-cons, among-first, among-rest}
-use Rattle.im_versions.proofs.ScanLemmas.{below-trans, below-turned, same-key}
+use Rattle.im_versions.proofs.ScanLemmas.{below-turned, same-key}
 use Rattle.im_sqltype.specs.Orders.{octets_cmp}
 use Rattle.im_sqlmodel.specs.Sorts.{put_sorted, sorted}
 use Rattle.im_sqlmodel.specs.declared.written.Written.{Written}
 use Rattle.im_sqlmodel.proofs.SortLemmas.{sorted-all}
 use Rattle.im_catalog.proofs.FrontLemmas.{among-kept}
+use Rattle.im_catalog.proofs.HistoryLemmas.{among-either}
 use Rattle.im_sql.proofs.CountLemmas.{fewer, few-by}
 use Rattle.im_sql.proofs.NextLemmas.{Apart, all-put, all-of}
-use Rattle.im_sql.proofs.ShortLemmas.{Below}
+use Rattle.im_sql.proofs.ShortLemmas.{Below, below-all}
 
 pub among-nil : {A : Type 0} (v : A) → IsAmong [] v → ⊥
 among-nil v m = (let few : m.0 < 0 = m.1.0 in omega (arith, few))
@@ -32,16 +33,6 @@ among-left {A} (x ∷ xs) ys v m = elim (among-cons x xs v m) [
 pub among-right : {A : Type 0} (xs ys : List A) (v : A) → IsAmong ys v → IsAmong (xs ++ ys) v
 among-right [] ys v m = m
 among-right (x ∷ xs) ys v m = among-rest x (xs ++ ys) v (among-right xs ys v m)
-
-pub among-either : {A : Type 0} (xs ys : List A) (v : A) → IsAmong (xs ++ ys) v → IsAmong xs v ⊎ IsAmong ys v
-among-either [] ys v m = inr m
-among-either {A} (x ∷ xs) ys v m = elim (among-cons x (xs ++ ys) v m) [
-  | inl same ↦ inl (subst (IsAmong (x ∷ xs)) (sym same) (among-first x xs))
-  | inr rest ↦ elim (among-either xs ys v rest) [
-    | inl front ↦ inl (among-rest x xs v front)
-    | inr behind ↦ inr behind
-  ]
-]
 
 -- ---- what a function makes of each
 
@@ -107,16 +98,12 @@ by_key a b = octets_cmp a.key b.key
 abbrev pub Differ : Written → Written → Type 0
 Differ a b = a.key ≢ b.key
 
-below-each : (a b : Written) (ws : List Written) → Below a b → AllByRecursion (Below b) ws → AllByRecursion (Below a) ws
-below-each a b [] less all = tt
-below-each a b (w ∷ ws) less all = (below-trans a.key b.key w.key less all.0, below-each a b ws less all.1)
-
 put-rising : (x : Written) (ys : List Written) → AllByRecursion (Differ x) ys → Apart Below ys → Apart Below (put_sorted by_key x ys)
 put-rising x [] all h = (tt, tt)
 put-rising x (y ∷ ys) all h = elim (by_key y x) as (λ (o : Ordering). by_key y x ≡ o → Apart Below (if is_lt o then y ∷ put_sorted by_key x ys else x ∷ y ∷ ys)) [
   | Less ↦ λ e. (all-put by_key (Below y) x ys e h.0, put-rising x ys all.1 h.1)
   | Equal ↦ λ e. absurd (all.0 (sym (same-key y.key x.key (sym e))))
-  | Greater ↦ λ e. (let less : Below x y = below-turned y.key x.key (sym e) in ((less, below-each x y ys less h.0), h))
+  | Greater ↦ λ e. (let less : Below x y = below-turned y.key x.key (sym e) in ((less, below-all x y ys less h.0), h))
 ] refl
 
 pub sorted-rising : (ws : List Written) → Apart Differ ws → Apart Below (sorted by_key ws)

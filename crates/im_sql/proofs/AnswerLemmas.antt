@@ -154,10 +154,10 @@ module _ (history : List Transaction) (fresh : Bool) (s : Insertion) (t : Table)
       inr (e ∙ ap (λ (m : ℕ). ok_then all_rows (λ work. placed m t indexes work.written)) (sym counted)
       ∙ ap (λ (o : Option SqlError). by_option o (ok_then all_rows (λ work. placed (length history) t indexes work.written)) (λ f. Err f)) none)
 
-abbrev taken_all : List Written → Result (List Written) SqlError
+abbrev pub taken_all : List Written → Result (List Written) SqlError
 taken_all written = Ok written
 
-abbrev taken_fault : SqlError → Result (List Written) SqlError
+abbrev pub taken_fault : SqlError → Result (List Written) SqlError
 taken_fault fault = Err fault
 
 -- what the rows write is placed

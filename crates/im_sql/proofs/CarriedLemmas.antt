@@ -10,7 +10,7 @@ use Rattle.im_model.specs.declared.entries.Entry.{Entry}
 use Rattle.im_model.specs.declared.transactions.Transaction.{Transaction}
 use Rattle.im_versions.specs.Versions.{is_shown, version_of, versions_in, all_versions, versions_of, is_of, last_version, version_number, is_written, begins_with}
 use Rattle.im_versions.specs.declared.versions.Version.{Version}
-use Rattle.im_versions.proofs.ListLemmas.{filter-none, among-cons, among-first, among-rest}
+use Rattle.im_versions.proofs.ListLemmas.{filter-none}
 use Rattle.im_versions.proofs.VersionLemmas.{versions-push}
 use Rattle.im_sqltype.specs.declared.values.Value.{Value}
 use Rattle.im_sqlmodel.specs.Keys.{table_prefix, indexes_prefix, index_key, mark_key, plain_key, unique_key}
@@ -21,6 +21,7 @@ use Rattle.im_sqlmodel.specs.Kept.{IsTableOf, IsSqlIndexOf, IsRowOf, IsText, IsS
 use Rattle.im_sqlmodel.specs.declared.tables.SqlIndex.{SqlIndex}
 use Rattle.im_sqlmodel.specs.declared.tables.Table.{Table}
 use Rattle.im_sqlmodel.specs.declared.written.Written.{Written}
+use Rattle.im_sql.proofs.AmongLemmas.{among-left}
 
 -- two histories in which keys that begin with 00 have the same last versions
 abbrev pub SameLast : List Transaction → List Transaction → Type 0
@@ -55,7 +56,7 @@ zero-either : (b : Bool) (x y : Written) (r s : List ℕ) → x.key ≡ 0 ∷ r 
 zero-either true x y r s p q = (r, p)
 zero-either false x y r s p q = (s, q)
 
-entry-zero : (t : Table) (row : List Value) (i : SqlIndex) → (rest : List ℕ) × ((entry_written t row i).key ≡ 0 ∷ rest)
+pub entry-zero : (t : Table) (row : List Value) (i : SqlIndex) → (rest : List ℕ) × ((entry_written t row i).key ≡ 0 ∷ rest)
 entry-zero t row i = zero-either i.unique _ _ (drop 1 (unique_written t row i)) (drop 1 (plain_written t row i)) refl refl
 
 -- ---- texts
@@ -127,16 +128,9 @@ free-same history tx free rest =
     (versions-pushed history tx (0 ∷ rest) ∙ ap (λ (vs : List Version). versions_of history (0 ∷ rest) ++ vs) (no-version (length history + 1) tx rest free)
     ∙ append-nil (versions_of history (0 ∷ rest)))
 
-among-front : {A : Type 0} (xs ys : List A) (v : A) → IsAmong xs v → IsAmong (xs ++ ys) v
-among-front [] ys v m = absurd (let no : ⊥ = (let few : m.0 < 0 = m.1.0 in omega (arith, few)) in no)
-among-front {A} (x ∷ xs) ys v m = elim (among-cons x xs v m) [
-  | inl same ↦ subst (IsAmong (x ∷ (xs ++ ys))) (sym same) (among-first x (xs ++ ys))
-  | inr rest ↦ among-rest x (xs ++ ys) v (among-front xs ys v rest)
-]
-
 pub push-grows : (history : List Transaction) (tx : Transaction) (key : List ℕ) (v : Version) → IsAmong (versions_of history key) v → IsAmong (versions_of (history ++ tx ∷ []) key) v
 push-grows history tx key v m =
-    subst (λ (vs : List Version). IsAmong vs v) (sym (versions-pushed history tx key)) (among-front (versions_of history key) (filter (is_of key) (versions_in (length history + 1) tx.entries)) v m)
+    subst (λ (vs : List Version). IsAmong vs v) (sym (versions-pushed history tx key)) (among-left (versions_of history key) (filter (is_of key) (versions_in (length history + 1) tx.entries)) v m)
 
 -- the first ones of a longer history
 pub taken-front : (n : ℕ) (xs ys : List Transaction) → n ≤ length xs → take n (xs ++ ys) ≡ take n xs

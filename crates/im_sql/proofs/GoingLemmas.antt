@@ -1,5 +1,5 @@
 -- Rows are taken one by one: what is left of the definition's work is the whole of it.
-use Rattle.std.proofs.Common.{◌≡◌, ◌+◌, ℕ, Bool, true, false, List, [], ◌∷◌, Option, Some, None, Result, Err, refl, sym, ap, ◌∙◌, subst, if◌then◌else◌}
+use Rattle.std.proofs.Common.{◌≡◌, ◌+◌, ℕ, Bool, true, false, List, [], ◌∷◌, Option, Some, None, Err, refl, sym, ap, ◌∙◌, subst, if◌then◌else◌}
 use Rattle.std.specs.Option.{option_map, option_or}
 use Rattle.im_model.specs.declared.transactions.Transaction.{Transaction}
 use Rattle.im_sqltype.specs.Kinds.{AreOfKinds}
@@ -16,11 +16,9 @@ use Rattle.im_sqlmodel.specs.declared.tables.SqlIndex.{SqlIndex}
 use Rattle.im_sqlmodel.specs.declared.tables.Table.{Table}
 use Rattle.im_sqlmodel.specs.declared.written.Written.{Written}
 use Rattle.im_sql.specs.Working.{IsWorking, IsTaken, written_of}
+use Rattle.im_sql.proofs.AnswerLemmas.{taken_all, taken_fault}
 use Rattle.im_sql.proofs.NextLemmas.{numbered-of, free-from, working-next}
-use Rattle.im_sql.proofs.ShortLemmas.{faultless, all_taken}
-
-abbrev pub fault_taken : SqlError → Result (List Written) SqlError
-fault_taken fault = Err fault
+use Rattle.im_sql.proofs.ShortLemmas.{faultless}
 
 abbrev pub work_of : List StoredRow → List Written → Work
 work_of rows written = record { rows = rows; written = written }
@@ -44,12 +42,12 @@ module _ (history : List Transaction) (fresh : Bool) (t : Table) (indexes : List
       )
 
   pub going-fault : (i : ℕ) (row : List Value) (left : List (List Value)) (written after : List Written) (fault : SqlError) → (going : IsGoing history fresh t indexes all i (row ∷ left) stood written)
-      → IsTaken history fresh t indexes i row stood (work_of going.0 written) after (Some fault) → fault_taken fault ≡ written_of (write_rows history fresh t indexes 0 all (work_of stood []))
+      → IsTaken history fresh t indexes i row stood (work_of going.0 written) after (Some fault) → taken_fault fault ≡ written_of (write_rows history fresh t indexes 0 all (work_of stood []))
   going-fault i row left written after fault going taken =
       ap written_of
       (sym (ap (λ (o : Option SqlError). by_option o (write_rows history fresh t indexes (i + 1) left (write_row t indexes row (work_of going.0 written))) (λ f. Err f)) taken) ∙ going.2)
 
-  pub going-end : (i : ℕ) (written : List Written) → IsGoing history fresh t indexes all i [] stood written → all_taken written ≡ written_of (write_rows history fresh t indexes 0 all (work_of stood []))
+  pub going-end : (i : ℕ) (written : List Written) → IsGoing history fresh t indexes all i [] stood written → taken_all written ≡ written_of (write_rows history fresh t indexes 0 all (work_of stood []))
   going-end i written going = ap written_of going.2
 
 -- ---- one row

@@ -147,7 +147,7 @@ any-true {A} p (j ∷ js) i m e = elim (among-cons j js i m) [
     or-true true = refl
     or-true false = refl
 
-any-false : {A : Type 0} (p : A → Bool) (js : List A) → AllByRecursion (λ j. p j ≡ false) js → list_any p js ≡ false
+pub any-false : {A : Type 0} (p : A → Bool) (js : List A) → AllByRecursion (λ j. p j ≡ false) js → list_any p js ≡ false
 any-false p [] all = refl
 any-false p (j ∷ js) all = ap (λ (b : Bool). b || list_any p js) all.0 ∙ any-false p js all.1
 

@@ -1,5 +1,5 @@
 -- The keys of a table's indexes rise with the numbers of the indexes.
-use Rattle.std.proofs.Common.{◌≡◌, ◌≢◌, ◌≤◌, ◌<◌, ◌+◌, ◌^◌, ◌/◌, ◌%◌, inl, inr, ℕ, zero, suc, List, [], ◌∷◌, ◌++◌, length, get_or, refl, sym, ap, ◌∙◌, subst, arith}
+use Rattle.std.proofs.Common.{◌≡◌, ◌≤◌, ◌<◌, ◌+◌, ◌^◌, ◌/◌, ◌%◌, inl, inr, ℕ, zero, suc, List, [], ◌∷◌, ◌++◌, length, get_or, refl, sym, ap, ◌∙◌, subst, arith}
 use Rattle.std.proofs.lemmas.Bool.{cases_order}
 use Rattle.std.proofs.lemmas.List.{append-nil}
 use Rattle.std.specs.Cmp.{nat_cmp_is}
@@ -34,13 +34,10 @@ field4-order m n p q =
     longer : (k : ℕ) → k < 2 ^ 32 → 0 ∷ 0 ∷ 0 ∷ 0 ∷ field4 k ≡ field8 k ++ []
     longer k fits = sym (field-long k fits) ∙ sym (append-nil (field8 k))
 
-pub nat-self : (n : ℕ) → nat_cmp n n ≡ Equal
-nat-self n = sym (nat_cmp_is n n Equal refl)
-
 -- what two keys begin with alike says nothing of their order
 front-order : (front a b : List ℕ) → octets_cmp (front ++ a) (front ++ b) ≡ octets_cmp a b
 front-order [] a b = refl
-front-order (x ∷ xs) a b = ap (λ (o : Ordering). ordering_then o (octets_cmp (xs ++ a) (xs ++ b))) (nat-self x) ∙ front-order xs a b
+front-order (x ∷ xs) a b = ap (λ (o : Ordering). ordering_then o (octets_cmp (xs ++ a) (xs ++ b))) (sym (nat_cmp_is x x Equal refl)) ∙ front-order xs a b
 
 pub index-less : (tid m n : ℕ) → m < 2 ^ 32 → n < 2 ^ 32 → IsBelow (index_key tid m) (index_key tid n) → m < n
 index-less tid m n p q below = elim (cases_order m n) [

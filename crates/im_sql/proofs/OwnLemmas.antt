@@ -28,6 +28,7 @@ use Rattle.im_sqlmodel.specs.declared.written.Written.{Written}
 use Rattle.im_catalog.specs.Parts.{HasParts}
 use Rattle.im_catalog.proofs.FoundLemmas.{begins-is}
 use Rattle.im_catalog.proofs.FrontLemmas.{among-kept, begins-from}
+use Rattle.im_catalog.proofs.HistoryLemmas.{among-either}
 use Rattle.im_catalog.proofs.OneLemmas.{one-index-version}
 use Rattle.im_catalog.proofs.TableLemmas.{one-table, table-read}
 use Rattle.im_plan.proofs.EntryLemmas.{zip-among, zip-among-left}
@@ -35,8 +36,8 @@ use Rattle.im_plan.proofs.EntryRowLemmas.{one-index, text-same}
 use Rattle.im_sql.specs.Sounding.{said_by, entries_of, IsMarked, IsMarkShown, AreByNumber}
 use Rattle.im_sql.specs.Stepping.{live_last, live_of, live_own, own_entries, IsPartBy, AreParts, AreOwnEntries, IsKnownKey, AreMarked, StoodOf, StandsOf}
 use Rattle.im_sql.specs.declared.said.TableFound.{TableFound}
-use Rattle.im_sql.proofs.AmongLemmas.{among-nil, among-left, among-right, among-either, among-map, map-among, among-flat, flat-among, among-sorted, sorted-among, by_key}
-use Rattle.im_sql.proofs.CarriedLemmas.{versions-pushed}
+use Rattle.im_sql.proofs.AmongLemmas.{among-nil, among-left, among-right, among-map, map-among, among-flat, flat-among, among-sorted, sorted-among, by_key}
+use Rattle.im_sql.proofs.CarriedLemmas.{entry-zero, versions-pushed}
 use Rattle.im_sql.proofs.EntryLemmas.{same-numbers, row-alone}
 use Rattle.im_sql.proofs.StepLemmas.{IsLeft, IsNew, entry-told, last-new, either, table-still, table-back, index-still, index-back, step-sound}
 
@@ -205,12 +206,6 @@ entry-begins t row i = by-test i.unique _ _ refl refl
         → (begins_with (0 ∷ 5 ∷ []) (if b then x else y).key ≡ true) ⊎ (begins_with (0 ∷ 6 ∷ []) (if b then x else y).key ≡ true)
     by-test true x y p q = inr p
     by-test false x y p q = inl q
-
-entry-zero : (t : Table) (row : List Value) (i : SqlIndex) → (rest : List ℕ) × ((entry_written t row i).key ≡ 0 ∷ rest)
-entry-zero t row i = elim (entry-begins t row i) [
-  | inl five ↦ (5 ∷ drop 2 (entry_written t row i).key, begins-is (0 ∷ 5 ∷ []) (entry_written t row i).key five)
-  | inr six ↦ (6 ∷ drop 2 (entry_written t row i).key, begins-is (0 ∷ 6 ∷ []) (entry_written t row i).key six)
-]
 
 -- ---- keys that are known
 

@@ -1,5 +1,5 @@
 -- What one version, or a list of them, says.
-use Rattle.std.proofs.Common.{◌≡◌, ◌≢◌, ◌≤◌, ◌<◌, ◌+◌, ◌-◌, ◌^◌, ℕ, zero, suc, true, List, [], ◌∷◌, ◌++◌, length, take, drop, get_or, sym, ap, ◌∙◌, subst, length-append, arith}
+use Rattle.std.proofs.Common.{◌≡◌, ◌≤◌, ◌<◌, ◌+◌, ◌-◌, ◌^◌, ℕ, zero, suc, true, List, [], ◌∷◌, ◌++◌, length, take, drop, get_or, sym, ap, ◌∙◌, subst, length-append, arith}
 use Rattle.std.proofs.lemmas.List.{append-nil, length-drop, length-take-le, take-append-drop, take_all, take_at}
 use Rattle.std.proofs.Math.Seq.{drop-append_seam}
 use Rattle.std.specs.List.{AllZip}
@@ -9,7 +9,7 @@ use Rattle.im_octet.proofs.FieldLemmas.{length-field4, same-field4}
 use Rattle.im_versions.specs.Versions.{begins_with}
 use Rattle.im_versions.specs.declared.versions.Version.{Version}
 use Rattle.im_sqlmodel.specs.Keys.{index_prefix, index_key}
-use Rattle.im_catalog.proofs.FoundLemmas.{begins-is}
+use Rattle.im_catalog.proofs.FoundLemmas.{begins-is, length-prefix}
 
 -- ---- a number in four octets
 
@@ -46,9 +46,6 @@ pub iid-behind : (key : List ℕ) (iid : ℕ) → 6 ≤ length key → key ≡ t
 iid-behind key iid long e =
     let six : length (take 6 key) ≡ 6 = length-take-le 6 key long in
     ap (drop 6) e ∙ ap (λ (n : ℕ). drop n (take 6 key ++ field4 iid)) (sym six) ∙ drop-append_seam (take 6 key) (field4 iid)
-
-length-prefix : (tid : ℕ) → length (index_prefix tid) ≡ 6
-length-prefix tid = (let four : length (field4 tid) ≡ 4 = length-field4 tid in omega (arith, four))
 
 pub prefix-six : (tid : ℕ) (key : List ℕ) → begins_with (index_prefix tid) key ≡ true → (6 ≤ length key) × (take 6 key ≡ index_prefix tid)
 prefix-six tid key begins =

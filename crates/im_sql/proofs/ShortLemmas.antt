@@ -38,6 +38,7 @@ use Rattle.im_sqlmodel.specs.declared.written.Written.{Written}
 use Rattle.im_catalog.proofs.TableLemmas.{few-numbers}
 use Rattle.im_sql.specs.Writing.{table_entries, MayBePlaced, AreFine}
 use Rattle.im_sql.specs.Working.{written_of}
+use Rattle.im_sql.proofs.AnswerLemmas.{taken_all}
 use Rattle.im_sql.proofs.NextLemmas.{Apart, apart-from, pairs-from, all-put, all-kept, all-of, find-some, or-none}
 use Rattle.im_sql.proofs.RowsLemmas.{of_key}
 use Rattle.im_sql.proofs.WorkLemmas.{index-of, row-of}
@@ -88,7 +89,7 @@ put-each P w (x ∷ xs) p all = elim (octets_cmp w.key x.key) as (λ (o : Orderi
   | Greater ↦ (all.0, put-each P w xs p all.1)
 ]
 
-below-all : (a b : Written) (ws : List Written) → Below a b → AllByRecursion (Below b) ws → AllByRecursion (Below a) ws
+pub below-all : (a b : Written) (ws : List Written) → Below a b → AllByRecursion (Below b) ws → AllByRecursion (Below a) ws
 below-all a b [] less all = tt
 below-all a b (w ∷ ws) less all = (below-trans a.key b.key w.key less all.0, below-all a b ws less all.1)
 
@@ -257,10 +258,10 @@ faultless history fresh t indexes n row rows e =
     let fourth = or-none (duplicate_fault fresh t n row rows) (first_found (unique_fault history t n row rows) indexes) third.1 in
     record { cells = first.0; keys = second.0; text = third.0; duplicate = fourth.0; unique = fourth.1 }
 
-abbrev worked : Work → Result Work SqlError
+abbrev pub worked : Work → Result Work SqlError
 worked work = Ok work
 
-work-is : (a b : Work) → worked a ≡ worked b → a ≡ b
+pub work-is : (a b : Work) → worked a ≡ worked b → a ≡ b
 work-is a b e = cc
 
 -- what all rows write
@@ -278,15 +279,12 @@ rows-short history fresh t indexes n (row ∷ rows) work done e all are = elim (
       | Some fault ↦ λ is f. absurd (let no : ⊥ = cc in no)
     ] refl e
 
-abbrev pub all_taken : List Written → Result (List Written) SqlError
-all_taken written = Ok written
-
 pub inserted-fine : (history : List Transaction) (fresh : Bool) (t : Table) (indexes : List SqlIndex) (rows : List (List Value)) (stood : List StoredRow) (written : List Written) → IsHistory history
     → IsSqlSound history → IsTableOf history t → IndexesAre history t indexes → RowsAre history t stood
-    → all_taken written ≡ written_of (write_rows history fresh t indexes 0 rows (record { rows = stood; written = [] })) → AreFine written
+    → taken_all written ≡ written_of (write_rows history fresh t indexes 0 rows (record { rows = stood; written = [] })) → AreFine written
 inserted-fine history fresh t indexes rows stood written is sound of are all e = by-result (write_rows history fresh t indexes 0 rows (record { rows = stood; written = [] })) refl e
   where
-    by-result : (r : Result Work SqlError) → write_rows history fresh t indexes 0 rows (record { rows = stood; written = [] }) ≡ r → all_taken written ≡ written_of r → AreFine written
+    by-result : (r : Result Work SqlError) → write_rows history fresh t indexes 0 rows (record { rows = stood; written = [] }) ≡ r → taken_all written ≡ written_of r → AreFine written
     by-result (Ok work) told same =
         let short = rows-short history fresh t indexes 0 rows (record { rows = stood; written = [] }) work told
         (recursion_from_All (IsShortRow t indexes) stood (stood-short history t indexes stood is sound of are all)) (tt, tt) in

@@ -1,5 +1,5 @@
 -- Where live keys are judged to be SQL's, they are.
-use Rattle.std.proofs.Common.{◌≡◌, ◌≢◌, ◌≤◌, ◌<◌, ◌+◌, ◌-◌, ◌^◌, ◌||◌, ◌⊎◌, inl, inr, ℕ, true, false, List, [], ◌∷◌, ◌++◌, length, take, map, flat_map, filter, find, get_or, nat_eq, AllPairs, Option, Some, None, refl, sym, ap, ap₂, ◌∙◌, subst, arith}
+use Rattle.std.proofs.Common.{◌≡◌, ◌≢◌, ◌≤◌, ◌<◌, ◌+◌, ◌-◌, ◌^◌, ◌||◌, inl, inr, ℕ, true, false, List, [], ◌∷◌, ◌++◌, length, take, map, flat_map, filter, find, get_or, nat_eq, AllPairs, Option, Some, None, refl, sym, ap, ap₂, ◌∙◌, subst, arith}
 use Rattle.std.proofs.lemmas.Bool.{true≢false, not-true, eqb-true, false_from_ne_true, cases_lt, or_cases, eq-eqb}
 use Rattle.std.proofs.lemmas.List.{length-map, length-take-le, take-take, take_all}
 use Rattle.std.proofs.lemmas.List.Elements.{All-from_recursion}
@@ -23,11 +23,12 @@ use Rattle.im_sqlmodel.specs.declared.tables.SqlIndex.{SqlIndex}
 use Rattle.im_sqlmodel.specs.declared.tables.Table.{Table}
 use Rattle.im_sqlmodel.specs.declared.written.Written.{Written}
 use Rattle.im_catalog.proofs.FrontLemmas.{among-kept, begins-from, begins-shorter}
+use Rattle.im_catalog.proofs.HistoryLemmas.{among-either}
 use Rattle.im_plan.proofs.BestLemmas.{at-any}
 use Rattle.im_plan.proofs.EntryLemmas.{zip-among-left}
 use Rattle.im_sql.specs.Sounding.{kind_shown, under, said_by, entries_of, IsTableVersion, IsFound, AreFound, IsCountShown, IsMarked, IsSoundAlone, IsMarkShown, AreSettled, Hang, AreByNumber}
 use Rattle.im_sql.specs.declared.said.TableFound.{TableFound}
-use Rattle.im_sql.proofs.AmongLemmas.{among-nil, among-left, among-right, among-either, among-map, map-among, among-flat, flat-among, among-sorted, sorted-among, by_key, none-out, one-of}
+use Rattle.im_sql.proofs.AmongLemmas.{among-nil, among-left, among-right, among-map, map-among, among-flat, flat-among, among-sorted, sorted-among, by_key, none-out, one-of}
 use Rattle.im_sql.proofs.GroupLemmas.{AreTold, InGroup, groups, sizes-one, groups-few, groups-hit}
 use Rattle.im_sql.proofs.NextLemmas.{Apart, apart-from, pairs-from, all-of, find-none, find-some}
 use Rattle.im_sql.proofs.ShownLemmas.{shown-live, live-shown, live-under, under-shown, table-live, table-found, index-live, index-found, row-live, row-found, sum-groups}

@@ -117,7 +117,7 @@ quiet-sound history k m up within quiet sound =
 abbrev pub by_tx : Version → Version → Ordering
 by_tx a b = nat_cmp a.tx b.tx
 
-abbrev Rises : Version → Version → Type 0
+abbrev pub Rises : Version → Version → Type 0
 Rises a b = a.tx ≤ b.tx
 
 rises-each : (a b : Version) (vs : List Version) → Rises a b → AllByRecursion (Rises b) vs → AllByRecursion (Rises a) vs
@@ -198,7 +198,7 @@ in-rises k (v ∷ vs) all = (each vs all.1, in-rises k vs all.1)
     each [] same = tt
     each (w ∷ ws) same = (let own : v.tx ≡ k = all.0 in let other : w.tx ≡ k = same.0 in (omega (arith, own, other), each ws same.1))
 
-from-rises : (k : ℕ) (txs : List Transaction) → Apart Rises (versions_from k txs)
+pub from-rises : (k : ℕ) (txs : List Transaction) → Apart Rises (versions_from k txs)
 from-rises k [] = tt
 from-rises k (tx ∷ txs) =
     let own : List Version = versions_in k tx.entries in

@@ -3,7 +3,7 @@ use Rattle.std.proofs.Common.{◌≡◌, ◌≤◌, ◌<◌, ◌+◌, ◌-◌, m
 use Rattle.std.proofs.lemmas.Bool.{true≢false, cases_eq, false_from_ne_true}
 use Rattle.std.proofs.lemmas.List.{get_or-take, get_or-drop, length-take, length-drop, take-append-drop}
 use Rattle.std.proofs.lemmas.List.Elements.{filter-append}
-use Rattle.std.specs.Cmp.{ranks}
+use Rattle.std.specs.Cmp.{nat_cmp_is, ranks}
 use Rattle.std.specs.List.Sorted.{IsPartitionPoint, IsPartitionedBy}
 use Rattle.std.specs.Ordering.{is_lt, nat_cmp, ordering_then, MatchOrdering}
 use Rattle.std.specs.declared.cmp.Ordering.{Ordering}
@@ -16,7 +16,6 @@ use Rattle.im_sqltype.specs.Orders.{octets_cmp}
 use Rattle.im_catalog.proofs.FoundLemmas.{begins-is}
 use Rattle.im_catalog.proofs.FrontLemmas.{begins-from}
 use Rattle.im_sql.specs.Sounding.{under}
-use Rattle.im_sql.proofs.NumberLemmas.{nat-self}
 use Rattle.im_sql.proofs.TurnLemmas.{take-filter}
 
 pub is-less : (o : Ordering) → is_lt o ≡ true → o ≡ Less
@@ -28,7 +27,7 @@ is-less Greater e = absurd (true≢false (sym e))
 beyond-front : (front rest : List ℕ) → IsBelow (front ++ rest) front → ⊥
 beyond-front [] [] e = (let no : ⊥ = cc in no)
 beyond-front [] (x ∷ xs) e = (let no : ⊥ = cc in no)
-beyond-front (f ∷ fs) rest e = beyond-front fs rest (sym (ap (λ (o : Ordering). ordering_then o (octets_cmp (fs ++ rest) fs)) (nat-self f)) ∙ e)
+beyond-front (f ∷ fs) rest e = beyond-front fs rest (sym (ap (λ (o : Ordering). ordering_then o (octets_cmp (fs ++ rest) fs)) (sym (nat_cmp_is f f Equal refl))) ∙ e)
 
 -- a key that is not below a front, and below a longer one, begins with it
 between : (front a rest : List ℕ) → (IsBelow a front → ⊥) → IsBelow a (front ++ rest) → (more : List ℕ) × (a ≡ front ++ more)

@@ -1,17 +1,17 @@
 -- The rows and the indexes that a statement's table has where it is judged.
-use Rattle.std.proofs.Common.{◌≡◌, ◌≤◌, ◌<◌, ◌+◌, ◌||◌, inl, inr, ℕ, Bool, true, false, List, [], ◌∷◌, ◌++◌, find, bytes_eq, length, get_or, is_some, Option, Some, None, refl, sym, ap, ◌∙◌, subst, arith}
+use Rattle.std.proofs.Common.{◌≡◌, ◌≤◌, ◌<◌, ◌+◌, ◌||◌, inl, inr, ℕ, Bool, true, false, List, [], ◌∷◌, find, bytes_eq, length, get_or, is_some, Option, Some, None, refl, sym, ap, ◌∙◌, subst, arith}
 use Rattle.std.proofs.lemmas.Bool.{true≢false, cases_Bool}
-use Rattle.std.proofs.lemmas.List.Elements.{All-from_recursion, recursion_from_All}
+use Rattle.std.proofs.lemmas.List.Elements.{All-from_recursion}
 use Rattle.std.proofs.lemmas.Slice.Eq.{bytes_eq-Decides}
-use Rattle.std.specs.List.{AllByRecursion, IsAmong, last_or}
+use Rattle.std.specs.List.{IsAmong, last_or}
 use Rattle.std.specs.Option.{option_map}
 use Rattle.im_octet.specs.Fields.{field4}
 use Rattle.im_octet.proofs.Common.{some-is}
 use Rattle.im_model.specs.declared.transactions.Transaction.{Transaction}
-use Rattle.im_versions.specs.Versions.{last_version, last_number, version_number, versions_in, versions_from, versions_of, is_of, begins_with, IsBelow}
+use Rattle.im_versions.specs.Versions.{last_version, last_number, version_number, versions_from, versions_of, is_of, begins_with, IsBelow}
 use Rattle.im_versions.specs.declared.versions.Version.{Version}
 use Rattle.im_versions.proofs.ListLemmas.{All-among, among-cons, last-among-or}
-use Rattle.im_versions.proofs.VersionLemmas.{last-of-key, versions_in-number, versions_from-within}
+use Rattle.im_versions.proofs.VersionLemmas.{last-of-key}
 use Rattle.im_sqltype.specs.Texts.{row_text}
 use Rattle.im_sqltype.specs.declared.values.Value.{Value}
 use Rattle.im_sqlmodel.specs.Keys.{table_prefix, indexes_prefix, index_prefix, index_key, rows_prefix}
@@ -28,10 +28,10 @@ use Rattle.im_plan.proofs.BestLemmas.{at-any}
 use Rattle.im_plan.proofs.EntryLemmas.{no_version, zip-at, zip-length, zip-among, zip-among-left}
 use Rattle.im_plan.proofs.EntryRowLemmas.{text-same}
 use Rattle.im_sql.specs.Writing.{written_at}
-use Rattle.im_sql.proofs.GroupLemmas.{apart-both}
 use Rattle.im_sql.proofs.LookLemmas.{number-some}
 use Rattle.im_sql.proofs.NextLemmas.{Apart, kept-apart, find-none, find-some}
 use Rattle.im_sql.proofs.NumberLemmas.{index-less, at-place}
+use Rattle.im_sql.proofs.TurnLemmas.{Rises, from-rises}
 use Rattle.im_sql.proofs.WorkLemmas.{index-of, row-of}
 
 -- ---- what is found in a list
@@ -65,35 +65,6 @@ none-some x e = true≢false (ap (λ o. is_some o) e)
 
 -- ---- no version of a key is behind its last
 
-abbrev Rises : Version → Version → Type 0
-Rises a b = a.tx ≤ b.tx
-
-same-apart : (k : ℕ) (vs : List Version) → AllByRecursion (λ (v : Version). v.tx ≡ k) vs → Apart Rises vs
-same-apart k [] all = tt
-same-apart k (v ∷ vs) all = (each vs all.1, same-apart k vs all.1)
-  where
-    each : (ws : List Version) → AllByRecursion (λ (w : Version). w.tx ≡ k) ws → AllByRecursion (Rises v) ws
-    each [] rest = tt
-    each (w ∷ ws) rest = ((let own : v.tx ≡ k = all.0 in let other : w.tx ≡ k = rest.0 in omega (arith, own, other)), each ws rest.1)
-
-rise-from : (k : ℕ) (txs : List Transaction) → Apart Rises (versions_from k txs)
-rise-from k [] = tt
-rise-from k (tx ∷ txs) =
-    apart-both Rises (versions_in k tx.entries) (versions_from (k + 1) txs)
-    (same-apart k (versions_in k tx.entries) (recursion_from_All (λ (v : Version). v.tx ≡ k) (versions_in k tx.entries) (versions_in-number k tx.entries))) (rise-from (k + 1) txs)
-    (cross (versions_in k tx.entries) (recursion_from_All (λ (v : Version). v.tx ≡ k) (versions_in k tx.entries) (versions_in-number k tx.entries)))
-  where
-    later : (v : Version) → v.tx ≡ k → (ws : List Version) → AllByRecursion (λ (w : Version). (k + 1 ≤ w.tx) × (w.tx < k + 1 + length txs)) ws → AllByRecursion (Rises v) ws
-    later v own [] all = tt
-    later v own (w ∷ ws) all = ((let high : k + 1 ≤ w.tx = all.0.0 in omega (arith, high, own)), later v own ws all.1)
-
-    cross : (vs : List Version) → AllByRecursion (λ (v : Version). v.tx ≡ k) vs → AllByRecursion (λ v. AllByRecursion (Rises v) (versions_from (k + 1) txs)) vs
-    cross [] all = tt
-    cross (v ∷ vs) all = (
-      later v all.0 (versions_from (k + 1) txs) (recursion_from_All (λ (w : Version). (k + 1 ≤ w.tx) × (w.tx < k + 1 + length txs)) (versions_from (k + 1) txs) (versions_from-within (k + 1) txs)),
-      cross vs all.1,
-    )
-
 last-high : (o : Option Version) (vs : List Version) (v w : Version) → Apart Rises vs → IsAmong vs v → last_or o vs ≡ Some w → v.tx ≤ w.tx
 last-high o [] v w apart m e = absurd (let no : ⊥ = (let few : m.0 < 0 = m.1.0 in omega (arith, few)) in no)
 last-high o (x ∷ xs) v w apart m e = elim (among-cons x xs v m) [
@@ -122,7 +93,7 @@ among-low history key v m = by-last (last_version history key) refl
     by-last None e = absurd (none-last (versions_of history key) v m e)
     by-last (Some w) e =
         subst (λ (o : Option Version). v.tx ≤ version_number o) (sym e)
-        (last-high None (versions_of history key) v w (kept-apart Rises (is_of key) (versions_from 1 history) (rise-from 1 history)) m e)
+        (last-high None (versions_of history key) v w (kept-apart Rises (is_of key) (versions_from 1 history) (from-rises 1 history)) m e)
 
 -- a key of a table or an index, by its second octet
 pub second-of : (key : List ℕ) → (begins_with table_prefix key || begins_with indexes_prefix key) ≡ true → (m : ℕ) × (m < 3) × (get_or key 1 0 ≡ m)

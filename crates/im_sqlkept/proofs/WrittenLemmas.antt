@@ -1,11 +1,10 @@
 -- What INSERT, UPSERT and DELETE write: keys of rows and of entries, each once, over the rows that stood.
-use Rattle.std.proofs.Common.{position, ◌≡◌, ◌≢◌, ◌<◌, ◌+◌, ◌⊎◌, ◌||◌, ◌&&◌, inl, inr, ℕ, zero, suc, Bool, true, false, not, cond, if◌then◌else◌, List, [], ◌∷◌, ◌++◌, map, flat_map, filter, find, bytes_eq, length, get_or, is_some, Option, Some, None, Result, Ok, Err, MatchOption, refl, sym, ap, ◌∙◌, subst, arith}
+use Rattle.std.proofs.Common.{position, ◌≡◌, ◌≢◌, ◌<◌, ◌+◌, ◌⊎◌, ◌||◌, ◌&&◌, inl, inr, ℕ, zero, suc, Bool, true, false, not, cond, if◌then◌else◌, List, [], ◌∷◌, ◌++◌, map, flat_map, filter, find, bytes_eq, length, get_or, is_some, Option, Some, None, Ok, Err, MatchOption, refl, sym, ap, ◌∙◌, subst, arith}
 use Rattle.std.proofs.lemmas.Bool.{true≢false, cases_Bool}
 use Rattle.std.proofs.lemmas.List.Elements.{All-from_recursion, recursion_from_All}
 use Rattle.std.proofs.lemmas.List.{length-map}
 use Rattle.std.proofs.lemmas.Slice.Eq.{bytes_eq-Decides}
 use Rattle.std.specs.List.{AllByRecursion, IsAmong, list_any}
-use Rattle.im_octet.proofs.Common.{bytes-other}
 use Rattle.im_model.specs.declared.transactions.Transaction.{Transaction}
 use Rattle.im_versions.proofs.ListLemmas.{All-among, among-first, among-rest}
 use Rattle.im_sqltype.specs.Kinds.{IsOfKind, AreOfKinds, kind_of}
@@ -30,12 +29,13 @@ use Rattle.im_sqlmodel.specs.declared.written.Written.{Written}
 use Rattle.im_sql.specs.Ranges.{IsInRange}
 use Rattle.im_sql.specs.Working.{holder, IsWrittenRow}
 use Rattle.im_sql.specs.Writing.{written_at}
+use Rattle.im_plan.proofs.EntryRowLemmas.{bytes-flip}
 use Rattle.im_sql.proofs.EntryLemmas.{plain-alone}
 use Rattle.im_sql.proofs.GroupLemmas.{all-both}
-use Rattle.im_sql.proofs.NextLemmas.{Apart, apart-from, pairs-from, all-kept, kept-apart, none-found, find-some, AreNumbered, key_in, any-own, entry-no-row, or-none, map-none, free-from}
+use Rattle.im_sql.proofs.NextLemmas.{Apart, apart-from, pairs-from, all-kept, kept-apart, none-found, find-some, AreNumbered, key_in, any-false, any-own, entry-no-row, or-none, map-none, free-from}
 use Rattle.im_sql.proofs.PutLemmas.{either, put-at}
 use Rattle.im_sql.proofs.RowsLemmas.{Over as RowOver}
-use Rattle.im_sql.proofs.ShortLemmas.{Below, faultless, put-each, put-rises}
+use Rattle.im_sql.proofs.ShortLemmas.{Below, faultless, put-each, put-rises, work-is}
 use Rattle.im_sqlkept.proofs.HeldLemmas.{HeldOver, IsHeld, KeysApart, EntriesApart, IsRewritten, IsRowOfKinds, plain-free, rewritten-next}
 
 -- ---- keys, in rising order
@@ -144,12 +144,6 @@ rows-given t names (row ∷ rows) all = (
 
 -- ---- INSERT and UPSERT
 
-abbrev worked : Work → Result Work SqlError
-worked work = Ok work
-
-work-is : (a b : Work) → worked a ≡ worked b → a ≡ b
-work-is a b e = cc
-
 abbrev pub AreTaken : Table → List SqlIndex → List StoredRow → List Written → List StoredRow → Type 0
 AreTaken t indexes stood written rows = IsRewritten t indexes stood written rows × AreKeyed t indexes written
 
@@ -223,16 +217,6 @@ any-weaker p q (x ∷ xs) all e = elim (cases_Bool (p x)) [
     or-true true = refl
     or-true false = refl
 
-any-none : {A : Type 0} (p : A → Bool) (xs : List A) → AllByRecursion (λ x. p x ≡ false) xs → list_any p xs ≡ false
-any-none p [] all = refl
-any-none p (x ∷ xs) all = ap (λ (b : Bool). b || list_any p xs) all.0 ∙ any-none p xs all.1
-
-bytes-turn : (a b : List ℕ) → bytes_eq a b ≡ bytes_eq b a
-bytes-turn a b = elim (cases_Bool (bytes_eq b a)) [
-  | inl same ↦ (bytes_eq-Decides a b).1 (sym ((bytes_eq-Decides b a).0 same)) ∙ sym same
-  | inr differs ↦ bytes-other a b (λ same. true≢false (sym ((bytes_eq-Decides b a).1 (sym same)) ∙ differs)) ∙ sym differs
-]
-
 -- the one item that passes a test, of a list without those that a second test takes
 abbrev Clash : (StoredRow → Bool) → StoredRow → StoredRow → Type 0
 Clash h a b = h a ≡ true → h b ≡ true → ⊥
@@ -258,7 +242,7 @@ find-left h q (x ∷ xs) apart = elim (cases_Bool (h x)) [
             ∙ sym (ap (λ (b : Bool). cond (b || list_any h (filter q xs)) None (find h (x ∷ xs))) passes)
         | false ↦
             ap (λ (b : Bool). cond b (Some x) (find h (filter (λ s. not (q s)) xs))) passes
-            ∙ sym (ap (λ (b : Bool). cond b None (find h (x ∷ xs))) (any-none h (filter q xs) (all-kept (λ y. h y ≡ false) q xs rest))
+            ∙ sym (ap (λ (b : Bool). cond b None (find h (x ∷ xs))) (any-false h (filter q xs) (all-kept (λ y. h y ≡ false) q xs rest))
             ∙ ap (λ (b : Bool). cond b (Some x) (find h xs)) passes)
       ])
   | inr fails ↦
@@ -308,7 +292,7 @@ module _ (t : Table) (indexes : List SqlIndex) (q : StoredRow → Bool) (stood :
 
   no-entry : (other : List Value) (row : List Value) (js : List SqlIndex) → AllByRecursion (λ j. bytes_eq (key_of t other) (key_in t j row) ≡ false) js
   no-entry other row [] = tt
-  no-entry other row (j ∷ js) = (bytes-turn (key_of t other) (key_in t j row) ∙ entry-no-row t j other row, no-entry other row js)
+  no-entry other row (j ∷ js) = (bytes-flip (key_of t other) (key_in t j row) ∙ entry-no-row t j other row, no-entry other row js)
 
   or-none-right : (a b : Bool) → b ≡ false → (a || b) ≡ a
   or-none-right true b e = refl
@@ -319,8 +303,8 @@ module _ (t : Table) (indexes : List SqlIndex) (q : StoredRow → Bool) (stood :
   row-gone key s =
       any-dead (key_of t key) (all_written t indexes s.row)
       ∙ or-none-right (bytes_eq (key_of t key) (key_of t s.row)) (list_any (λ (w : Written). bytes_eq (key_of t key) w.key) (map (entry_written t s.row) indexes))
-      (any-entries (key_of t key) s.row indexes ∙ any-none (λ j. bytes_eq (key_of t key) (key_in t j s.row)) indexes (no-entry key s.row indexes))
-      ∙ bytes-turn (key_of t key) (key_of t s.row)
+      (any-entries (key_of t key) s.row indexes ∙ any-false (λ j. bytes_eq (key_of t key) (key_in t j s.row)) indexes (no-entry key s.row indexes))
+      ∙ bytes-flip (key_of t key) (key_of t s.row)
 
   -- an entry's
   entry-gone : (i : SqlIndex) (row : List Value) (s : StoredRow) → AreNumbered t indexes → IsAmong indexes i
@@ -329,7 +313,7 @@ module _ (t : Table) (indexes : List SqlIndex) (q : StoredRow → Bool) (stood :
       any-dead (key_in t i row) (all_written t indexes s.row)
       ∙ (λ j. entry-no-row t i s.row row j || any-entries (key_in t i row) s.row indexes j)
       ∙ any-own t indexes i s.row row numbered m
-      ∙ bytes-turn (key_in t i row) (key_in t i s.row)
+      ∙ bytes-flip (key_in t i row) (key_in t i s.row)
 
   over-gone : (b : Bool) (found whole : Option StoredRow) (P : List ℕ → Type 0) → found ≡ cond b None whole → MatchOption (either b None None) (found ≡ whole) (λ value. MatchOption value (found ≡ None) P)
   over-gone true found whole P e = e
