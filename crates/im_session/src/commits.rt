@@ -103,6 +103,8 @@ pub(crate) fn answer_set<H: Hash32, D: Disk, C: Clock, N: TipName, R: Wait>(
     ensures err { IfErr result (λ why. IsUnanswered pass.old pass.new (Set pres drafts.items) why) }
 {
     if let Some(i) = first_reserved(&drafts) {
+        drop(pres);
+        drop(drafts);
         let number = store.tip(pass);
         let reply = reserved_text(alloc, i as u64)?;
         return Ok(Answer { number, reply });

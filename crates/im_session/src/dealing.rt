@@ -59,8 +59,8 @@ fn deal_out(
 {
     for line in lines {
         let number = number_of(names, line.session.as_slice());
-        order.push(number as u8).map_err(AllocError::from)?;
         hands[number].push(line).map_err(AllocError::from)?;
+        order.push(number as u8).map_err(AllocError::from)?;
     }
     Ok(())
 }

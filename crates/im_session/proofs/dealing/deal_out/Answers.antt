@@ -41,16 +41,16 @@ loop-line-preserved c =
     let number : ℕ = c.number_of-number.result in
     let held : Vec Line Global → List Line = λ hand. hand.items in
     let before : List (Vec Line Global) = c.loop-line.hands in
-    let hand : Vec Line Global = c.push-in-loop-line.new.self in
+    let hand : Vec Line Global = c.push.new.self in
     let order : List ℕ = c.loop-line.order.items in
     let lines : List Line = c.loop-line.yielded ++ line ∷ [] in
     let within = slice_get_within names number c.as_slice.result.now c.number_of-number.ensures.is in
     let few : number < length before = omega (arith, within, c.loop-line.auto.hands, c.requires.hands.0) in
-    let numbered : c.push.new.self.items ≡ order ++ number ∷ [] = search rules in
+    let numbered : c.push-in-loop-line.new.self.items ≡ order ++ number ∷ [] = search rules in
     let taken : held hand ≡ held c.index-hands-number.result ++ line ∷ [] = search rules in
     let put : map held (slice_set before number hand) ≡ put_hand number line (map held before) =
     put_set held before number hand c.index-hands-number.result line few (taken ∙ ap (λ (h : Vec Line Global). held h ++ line ∷ []) c.index-hands-number.is) in
     let dealt : AreDealt names lines (order ++ number ∷ []) (put_hand number line (map held before)) =
     dealt_push names c.loop-line.yielded order (map held before) line number c.requires.apart c.loop-line.invariant (c.number_of-number.ensures.is ∙ ap Some c.as_slice.ensures) in
-    subst (λ (hands : List (List Line)). AreDealt names lines c.push.new.self.items hands) (sym put)
+    subst (λ (hands : List (List Line)). AreDealt names lines c.push-in-loop-line.new.self.items hands) (sym put)
     (subst (λ (o : List ℕ). AreDealt names lines o (put_hand number line (map held before))) (sym numbered) dealt)
