@@ -86,7 +86,9 @@ pub(crate) fn answer_header<H: Hash32, D: Disk, C: Clock, N: TipName, R: Wait>(
         return Ok(Answer { number, reply });
     }
     let header = proved(store.header(rt, alloc, pass, k))?;
-    let reply = header_shown(alloc, &alh(store.hash(), &header), &header)?;
+    let shown = header_shown(alloc, &alh(store.hash(), &header), &header);
+    drop(header);
+    let reply = shown?;
     Ok(Answer { number, reply })
 }
 
