@@ -50,8 +50,16 @@ fn answer<H: Hash32, D: Disk, C: Clock, N: TipName, R: Wait>(
             answer_set(rt, alloc, store, pass, pres, drafts.into_vec())
         }
         Command::Link { count } => answer_link(rt, alloc, store, pass, count),
-        Command::Sql { text } => answer_sql(rt, alloc, store, pass, text.as_str()),
-        command => show(rt, alloc, store, pass, command),
+        Command::Sql { text } => {
+            let answer = answer_sql(rt, alloc, store, pass, text.as_str());
+            drop(text);
+            answer
+        }
+        command => {
+            let answer = show(rt, alloc, store, pass, &command);
+            drop(command);
+            answer
+        }
     }
 }
 
@@ -61,29 +69,29 @@ fn show<H: Hash32, D: Disk, C: Clock, N: TipName, R: Wait>(
     alloc: Global,
     store: &Store<'_, H, D, C, SqlKeys, N>,
     pass: &mut Pass,
-    command: Command,
+    command: &Command,
 ) -> Result<Answer, LineError>
     requires pass { IsPassOf N.table pass.old }
-    requires shows { IsShowing command }
+    requires shows { IsShowing command.now }
     ensures later { Later pass.old pass.new }
-    ensures ok { IfOk result (λ answer. IsAnswered N.digest pass.old pass.new command answer) }
-    ensures err { IfErr result (λ why. IsUnanswered pass.old pass.new command why) }
+    ensures ok { IfOk result (λ answer. IsAnswered N.digest pass.old pass.new command.now answer) }
+    ensures err { IfErr result (λ why. IsUnanswered pass.old pass.new command.now why) }
 {
     match command {
-        Command::Get { key, at } => answer_get(rt, alloc, store, pass, key.as_slice(), at),
-        Command::Scan { prefix, at } => answer_scan(rt, alloc, store, pass, prefix.as_slice(), at),
+        Command::Get { key, at } => answer_get(rt, alloc, store, pass, key.as_slice(), *at),
+        Command::Scan { prefix, at } => answer_scan(rt, alloc, store, pass, prefix.as_slice(), *at),
         Command::History { key } => answer_history(rt, alloc, store, pass, key.as_slice()),
-        Command::Header { number } => answer_header(rt, alloc, store, pass, number),
+        Command::Header { number } => answer_header(rt, alloc, store, pass, *number),
         Command::State => answer_state(rt, alloc, store, pass),
-        Command::Prove { source, target } => answer_prove(rt, alloc, store, pass, source, target),
+        Command::Prove { source, target } => answer_prove(rt, alloc, store, pass, *source, *target),
         Command::Advance { source, target } => {
-            answer_advance(rt, alloc, store, pass, source, target)
+            answer_advance(rt, alloc, store, pass, *source, *target)
         }
         Command::Item {
             number,
             index,
             under,
-        } => answer_item(rt, alloc, store, pass, number, index, under),
+        } => answer_item(rt, alloc, store, pass, *number, *index, *under),
         Command::Set { .. } | Command::Link { .. } | Command::Sql { .. } => unreachable!(),
     }
 }

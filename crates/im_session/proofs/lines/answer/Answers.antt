@@ -26,9 +26,9 @@ returns-in-Link-clause-err g c =
 pub returns-in-Sql-clause-ok : goal.returns-in-Sql-clause-ok
 returns-in-Sql-clause-ok g c =
     let same = ap Sql c.as_str.ensures ∙ sym c.in-Sql.is in
-    subst (λ (command : Command). IfOk c.answer_sql.result (λ answer. IsAnswered g.N.TipName.digest c.args.pass.now c.answer_sql.new.pass command answer)) same c.answer_sql.ensures.ok
+    subst (λ (command : Command). IfOk c.answer_sql-answer.result (λ answer. IsAnswered g.N.TipName.digest c.args.pass.now c.answer_sql-answer.new.pass command answer)) same c.answer_sql-answer.ensures.ok
 
 pub returns-in-Sql-clause-err : goal.returns-in-Sql-clause-err
 returns-in-Sql-clause-err g c =
     let same = ap Sql c.as_str.ensures ∙ sym c.in-Sql.is in
-    subst (λ (command : Command). IfErr c.answer_sql.result (λ why. IsUnanswered c.args.pass.now c.answer_sql.new.pass command why)) same c.answer_sql.ensures.err
+    subst (λ (command : Command). IfErr c.answer_sql-answer.result (λ why. IsUnanswered c.args.pass.now c.answer_sql-answer.new.pass command why)) same c.answer_sql-answer.ensures.err
