@@ -1,6 +1,7 @@
 //! What a run is given beside its standard input and the files of its disk.
 
 use crate::doubles::Pace;
+use crate::hashes::AskedHash;
 use crate::lines::Run;
 use crate::marks::{behind_fails, time};
 use crate::octets::number;
@@ -18,12 +19,13 @@ pub fn words(run: Run) -> Result<Vec<String>, Wrong> {
     Ok(words)
 }
 
-/// Whether digests are computed by SHA-256, and not by the sum.
-pub fn asks_sha(run: Run) -> bool {
-    match run.last("hash") {
+/// What computes digests: SHA-256 where it is asked for, and else the sum.
+pub fn hash(run: Run) -> AskedHash {
+    let is_sha = match run.last("hash") {
         Some(line) => line.rest.trim() == "sha256",
         None => false,
-    }
+    };
+    AskedHash { is_sha }
 }
 
 /// The clock.

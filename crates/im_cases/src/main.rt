@@ -7,6 +7,7 @@ mod doubles;
 mod feeding;
 mod folder;
 mod given;
+mod hashes;
 mod images;
 mod lines;
 mod marks;

@@ -3,16 +3,15 @@
 use crate::comparing::{
     compare_calls, compare_count, compare_end, compare_files, compare_kept, compare_lines,
 };
-use crate::doubles::{Feed, Narrow, Pace};
+use crate::doubles::{Feed, Narrow};
 use crate::feeding::input_of;
-use crate::given::{asks_sha, clock, failing, served, words};
+use crate::given::{clock, failing, hash, served, words};
 use crate::images::{change_all, disk_of, files_of};
 use crate::lines::Run;
 use crate::stop::Stop;
 use crate::wanting::end_of;
 use im_app::status::{Done, Status};
 use im_app::top::top;
-use im_digest::{Hash32, Sha, Sum};
 use im_disk::memory::MemDisk;
 use im_edge::fused_keeper::FusedKeeper;
 use im_edge::gate::OpenGate;
@@ -71,29 +70,18 @@ impl Stage {
         let blocks = run.number("blocks").unwrap_or(0);
         let mut source = Feed::new(input, blocks, run.last("source").is_some());
         let mut sink = Narrow::new(Vec::new(run.alloc), run.number("room"));
-        let Done { status, disk, .. } = if asks_sha(run) {
-            call(
-                rt,
-                run,
-                words,
-                &Sha,
-                &mut source,
-                &mut sink,
-                disk,
-                &mut self.keeper,
-            )
-        } else {
-            call(
-                rt,
-                run,
-                words,
-                &Sum,
-                &mut source,
-                &mut sink,
-                disk,
-                &mut self.keeper,
-            )
-        };
+        let Done { status, disk, .. } = top(
+            rt,
+            run.alloc,
+            words,
+            &hash(run),
+            &mut source,
+            &mut sink,
+            disk,
+            &mut self.keeper,
+            clock(run),
+            &OpenGate,
+        );
         let Narrow { written, .. } = sink;
         drop(mem::replace(&mut self.disk, disk));
         drop(mem::replace(&mut self.written, written));
@@ -129,29 +117,4 @@ fn keep(run: Run, keeper: &mut FusedKeeper<MemKeeper>) -> Result<(), Stop> {
     }
     keeper.calls_left = served(run);
     Ok(())
-}
-
-// The top call, over these doubles.
-fn call<H: Hash32 + Sync, R: Threads + Wait + Sync>(
-    rt: &R,
-    run: Run,
-    words: &[String],
-    hash: &H,
-    source: &mut Feed,
-    sink: &mut Narrow,
-    disk: MemDisk,
-    keeper: &mut FusedKeeper<MemKeeper>,
-) -> Done<MemDisk, Pace> {
-    top(
-        rt,
-        run.alloc,
-        words,
-        hash,
-        source,
-        sink,
-        disk,
-        keeper,
-        clock(run),
-        &OpenGate,
-    )
 }
