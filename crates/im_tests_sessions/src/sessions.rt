@@ -5,7 +5,7 @@ use im_app::top::top;
 use im_digest::Sum;
 use im_disk::memory::MemDisk;
 use im_edge::clock::FixedClock;
-use im_edge::gate::{Gate, OpenGate, Point};
+use im_edge::gate::{Gate, Point};
 use im_edge::keeper::MemKeeper;
 use im_edge::sink::Writing;
 use im_edge::source::Reading;
@@ -29,9 +29,10 @@ struct Meeting {
 }
 
 impl Meeting {
-    fn new() -> Meeting {
+    // Where a line came already, it holds up none.
+    fn new(came: bool) -> Meeting {
         Meeting {
-            came: AtomicBool::new(false),
+            came: AtomicBool::new(came),
             first_answered: AtomicBool::new(false),
             second_answered: AtomicBool::new(false),
             met: AtomicBool::new(false),
@@ -76,11 +77,11 @@ impl Gate for Meeting {
 }
 
 // Runs a script over an empty disk in memory, with a linker: how it ended, and what it wrote.
-fn ran<G: Gate + Sync, R: Threads + Wait + Sync>(
+fn ran<R: Threads + Wait + Sync>(
     rt: &R,
     alloc: Global,
     script: &[u8],
-    gate: &G,
+    gate: &Meeting,
 ) -> Result<(Status, Vec<u8>), Fail> {
     let mut words = Vec::new(alloc);
     for word in ["im", "run"] {
@@ -107,7 +108,7 @@ fn ran<G: Gate + Sync, R: Threads + Wait + Sync>(
 // Were sessions run one behind the other, the line that is held up would hold up the other one, and nothing would be met.
 #[test]
 fn two_sessions_run_side_by_side(rt: HostRuntime) -> Result<(), Fail> {
-    let gate = Meeting::new();
+    let gate = Meeting::new(false);
     let (status, report) = ran(&rt, rt.alloc(), b"a: set k=1\nb: set j=2\n", &gate)?;
     let report = report.as_slice();
     let is_told = report == b"a 1 tx 1\nb 2 tx 2\n".as_slice()
@@ -171,7 +172,7 @@ fn rises(report: &str, session: &str, is_first: bool, seen: &mut [bool; 101]) ->
 #[test]
 fn each_of_a_hundred_transactions_is_told_once(rt: HostRuntime) -> Result<(), Fail> {
     let alloc = rt.alloc();
-    let (status, report) = ran(&rt, alloc, &fifty_each(alloc)?, &OpenGate)?;
+    let (status, report) = ran(&rt, alloc, &fifty_each(alloc)?, &Meeting::new(true))?;
     let Ok(report) = str::from_utf8(report.as_slice()) else {
         return Err(Fail::new("no text"));
     };
