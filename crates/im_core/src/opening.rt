@@ -216,7 +216,7 @@ fn indexed(alloc: Global, records: Vec<Record>) -> Result<(Vec<Transaction>, Ind
     ensures index { IfOk result (λ both. IsIndexOf both.1 (txs_of records.items)) }
 {
     let transactions = transactions_of(alloc, records)?;
-    match index_of(alloc, transactions.as_slice()) {
+    match Index::of(alloc, transactions.as_slice()) {
         Ok(index) => Ok((transactions, index)),
         Err(error) => {
             drop(transactions);
@@ -234,16 +234,6 @@ fn raise<H: Hash32>(hash: &H, tree: &mut Tree, alhs: &[D32]) -> Result<(), Alloc
     let start = tree.size() as usize;
     tree.extend(hash, &alhs[start..])?;
     Ok(())
-}
-
-// The index of these transactions.
-fn index_of(alloc: Global, transactions: &[Transaction]) -> Result<Index, AllocError>
-    requires { length transactions.now ≤ 1048576 }
-    ensures { IfOk result (λ index. IsIndexOf index transactions.now) }
-{
-    let mut index = Index::new(alloc);
-    index.take_all(alloc, transactions)?;
-    Ok(index)
 }
 
 // The transactions of records.

@@ -11,11 +11,11 @@ use im_digest::{D32, Hash32};
 use std::alloc::{AllocError, Global};
 use std::thread::{Threads, available_parallelism, map_chunks};
 
-/// So many records are worth a thread of their own.
-pub(crate) const MANY_RECORDS: usize = 128;
+/// The fewest records that are worth a chunk of their own.
+pub(crate) const LEAST_RECORDS: usize = 128;
 
-// And so many digests, each of which is hashed once.
-const MANY_DIGESTS: usize = 1024;
+// And the fewest digests, each of which is hashed once.
+const LEAST_DIGESTS: usize = 1024;
 
 // How many chunks there are for each processor, which the thread that reads shares: so none waits long for the last.
 const SHARES: usize = 4;
@@ -28,13 +28,13 @@ fn hands<R: Threads>(rt: &R) -> usize {
     }
 }
 
-/// The size of chunks of so many items, an even number, so that all processors have some; all are in one where they are fewer
-/// than many.
-pub(crate) fn chunk_of<R: Threads>(rt: &R, count: usize, many: usize) -> usize
+/// The size of the chunks that `count` items are cut into, an even number, so that all processors have some: each chunk but the
+/// last has at least `least`, and all items are in one where they are fewer than twice that.
+pub(crate) fn chunk_of<R: Threads>(rt: &R, count: usize, least: usize) -> usize
     ensures { 0 < result }
 {
     let most = hands(rt).saturating_mul(SHARES);
-    let parts = most.min(count / many.max(1)).max(1);
+    let parts = most.min(count / least.max(1)).max(1);
     (count / parts / 2).saturating_mul(2).saturating_add(2)
 }
 
@@ -48,7 +48,7 @@ pub(crate) fn leaf_facts<R: Threads + Sync, H: Hash32 + Sync>(
 ) -> Result<Vec<Vec<Fact>>, AllocError>
     ensures { IfOk result (λ parts. All (λ facts. AreFacts (H.digest hash.now) facts.items) parts.items) }
 {
-    let size = chunk_of(rt, leaves.len(), MANY_DIGESTS);
+    let size = chunk_of(rt, leaves.len(), LEAST_DIGESTS);
     map_chunks(
         rt,
         alloc,
@@ -68,7 +68,7 @@ pub(crate) fn pair_facts<R: Threads + Sync, H: Hash32 + Sync>(
 ) -> Result<Vec<Vec<Fact>>, AllocError>
     ensures { IfOk result (λ parts. All (λ facts. AreFacts (H.digest hash.now) facts.items) parts.items) }
 {
-    let size = chunk_of(rt, row.len(), MANY_DIGESTS);
+    let size = chunk_of(rt, row.len(), LEAST_DIGESTS);
     map_chunks(rt, alloc, row, size, &|_, part| pairs_in(alloc, hash, part))
 }
 

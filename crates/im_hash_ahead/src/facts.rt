@@ -111,13 +111,26 @@ fn word_of(mark: u64, number: u64) -> u64 {
     (mark & UPPER) | (number & LOWER)
 }
 
+// Places without a fact, two for each of so many facts and one more; no places for no facts, or where memory isn't there.
+fn places_for(alloc: Global, room: usize) -> Vec<u64> {
+    if room == 0 {
+        return Vec::new(alloc);
+    }
+    let count = room.saturating_mul(2).saturating_add(1);
+    match vec![in alloc; NO_FACT; count] {
+        Ok(places) => places,
+        Err(_) => Vec::new(alloc),
+    }
+}
+
 // Whether a place may be that of a fact with this mark.
 fn is_alike(word: u64, mark: u64) -> bool {
     (word ^ mark) & UPPER == 0
 }
 
 /// Facts, most found by their parts in a few steps, and in one where they are looked for in the order in which they were added.
-/// It takes memory for 208 octets a fact and 16 octets more. A clause sees the list of them.
+/// It takes memory for 208 octets a fact and 16 octets more. What was found last is kept in a cell, so one thread at a time looks
+/// for facts: they may be sent to a thread, but not shared by two. A clause sees the list of them.
 #[derive(Drop)]
 pub struct Facts {
     facts: Vec<Fact>,
@@ -142,19 +155,14 @@ impl Facts {
     ghost use Rattle.im_digest.specs.Digests.{Hash};
     ghost use Rattle.im_hash_ahead.specs.Facts.{AreFacts, IsFact};
 
-    /// None yet, with room for so many where memory is there.
+    /// None yet, with room for so many where memory is there; for none it takes no memory.
     pub(crate) fn with_room(alloc: Global, room: usize) -> Self
         ensures { result ≡ [] }
     {
-        let count = room.saturating_mul(2).saturating_add(1);
-        let places = match vec![in alloc; NO_FACT; count] {
-            Ok(places) => places,
-            Err(_) => Vec::new(alloc),
-        };
         Facts {
             facts: room_for(alloc, room),
             next: Cell::new(0),
-            places,
+            places: places_for(alloc, room),
         }
     }
 
@@ -162,14 +170,14 @@ impl Facts {
     pub(crate) fn find(&self, a: &[u8], b: &[u8], c: &[u8]) -> Option<D32>
         ensures { (hash : Hash) → AreFacts hash self.now → IfSome result (λ digest. digest ≡ hash (a.now ++ b.now ++ c.now)) }
     {
-        match self.taken(self.next.get(), a, b, c) {
+        match self.at(self.next.get(), a, b, c) {
             Some(digest) => Some(digest),
-            None => self.sought(a, b, c),
+            None => self.by_places(a, b, c),
         }
     }
 
     // The digest of three parts, where the fact of this number is that of them. The one behind it is looked at first then.
-    fn taken(&self, number: usize, a: &[u8], b: &[u8], c: &[u8]) -> Option<D32>
+    fn at(&self, number: usize, a: &[u8], b: &[u8], c: &[u8]) -> Option<D32>
         ensures { (hash : Hash) → AreFacts hash self.now → IfSome result (λ digest. digest ≡ hash (a.now ++ b.now ++ c.now)) }
     {
         let fact = self.facts.get(number)?;
@@ -180,8 +188,8 @@ impl Facts {
         Some(fact.digest)
     }
 
-    // The same of the fact of any number, by the places.
-    fn sought(&self, a: &[u8], b: &[u8], c: &[u8]) -> Option<D32>
+    // The same of the fact of any number, by the places: none where there are no places.
+    fn by_places(&self, a: &[u8], b: &[u8], c: &[u8]) -> Option<D32>
         ensures { (hash : Hash) → AreFacts hash self.now → IfSome result (λ digest. digest ≡ hash (a.now ++ b.now ++ c.now)) }
     {
         if self.facts.is_empty() {
@@ -196,7 +204,7 @@ impl Facts {
             }
             if is_alike(word, mark) {
                 let number = (word & LOWER) as usize;
-                if let Some(digest) = self.taken(number, a, b, c) {
+                if let Some(digest) = self.at(number, a, b, c) {
                     return Some(digest);
                 }
             }

@@ -1,7 +1,7 @@
 ghost use Rattle.std.specs.Prelude.{IfOk};
 ghost use Rattle.im_hash_ahead.specs.Facts.{AreFacts, IsKnown};
 
-use crate::chunks::{MANY_RECORDS, chunk_of, near_facts};
+use crate::chunks::{LEAST_RECORDS, chunk_of, near_facts};
 use crate::facts::Facts;
 use crate::plans::Plan;
 use crate::rows::Rows;
@@ -14,7 +14,10 @@ use std::thread::Threads;
 const MOST_LEAVES: usize = 32_768;
 
 /// A window with what is hashed, by several threads, of the records of a plan, and of the tree, which its leaves join. A spent
-/// one is let go first. Its only error is want of memory.
+/// one is let go first. `log` is the transaction log, whole, in which the plan's records lie.
+///
+/// Its only error is want of memory. Behind it, and where a chunk of leaves or nodes finds no memory, `rows` may have some of the plan's
+/// leaves and not the others, or lack nodes over them: then they aren't those of the leaves, and what is hashed with them is of less use.
 pub fn fill<R: Threads + Sync, H: Hash32 + Sync>(
     rt: &R,
     alloc: Global,
@@ -29,7 +32,7 @@ pub fn fill<R: Threads + Sync, H: Hash32 + Sync>(
     drop(spent.take());
     let far = raised(rt, alloc, hash, plan.leaves.as_slice(), rows)?;
     let leads = plan.leads.as_slice();
-    let size = chunk_of(rt, leads.len(), MANY_RECORDS);
+    let size = chunk_of(rt, leads.len(), LEAST_RECORDS);
     let near = near_facts(rt, alloc, hash, log, &plan.values, rows, leads, size)?;
     Ok(Window::of(leads, size, near, far))
 }

@@ -15,7 +15,7 @@ const MOST_OCTETS: usize = 2_097_152;
 pub struct Lead {
     /// The number that the transaction should have.
     pub id: u64,
-    /// Where the record begins in the transaction log.
+    /// Where the record begins in the transaction log, in octets.
     pub at: usize,
     /// The number of its entries, 1 to 1024.
     pub entries: usize,
@@ -27,7 +27,7 @@ pub struct Lead {
     pub before: D32,
     /// Its own.
     pub alh: D32,
-    /// Where it ends.
+    /// Where it ends in the transaction log, in octets.
     pub end: usize,
 }
 
@@ -38,15 +38,15 @@ pub struct Fields<'a> {
     pub md: &'a [u8],
     /// Those of its key.
     pub key: &'a [u8],
-    /// The digest of its value.
+    /// The digest of its value, 32 octets.
     pub hval: &'a [u8],
     /// The value's length, in octets.
     pub len: u64,
-    /// The number of its value log.
+    /// The number of its value log, as the octet says, 0 to 255: it isn't looked at whether there is such a log.
     pub log: u64,
-    /// Where the value begins in that log.
+    /// Where the value begins in that log, in octets.
     pub place: u64,
-    /// Where the entry ends in the transaction log.
+    /// Where the entry ends in the transaction log, in octets.
     pub end: usize,
 }
 

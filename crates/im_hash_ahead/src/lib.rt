@@ -10,7 +10,7 @@ pub mod known;
 pub mod leads;
 mod notes;
 pub mod plans;
-pub mod room;
+mod room;
 pub mod rows;
 pub mod values;
 pub mod windows;

@@ -22,8 +22,9 @@ struct LastRoot {
     root: D32,
 }
 
-/// What is hashed of records that follow each other: each value that isn't long, each entry, the tree over the entries, the root of
-/// the tree that the transaction was placed over, the inner digest and the Alh. Where memory is short, some of it.
+/// What is hashed of records that follow each other: each value that is neither long nor empty, each entry, the tree over the
+/// entries, the root of the tree that the transaction was placed over, the inner digest and the Alh. Where memory is short, some of
+/// it.
 pub(crate) fn notes_of<H: Hash32>(
     alloc: Global,
     hash: &H,
@@ -129,7 +130,7 @@ fn note_entries<H: Hash32>(
     Ok(digests)
 }
 
-// The value of this number, where it is there: of a long one there is nothing.
+// The value of this number, where it is there and isn't empty: an empty one stands in the place of a long one too.
 fn note_value<H: Hash32>(
     hash: &H,
     values: &Values,

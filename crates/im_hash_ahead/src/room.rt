@@ -2,9 +2,8 @@ ghost use Rattle.std.specs.Prelude.{◌≡◌, []};
 
 use std::alloc::Global;
 
-/// A vector of nothing, with room for so many where memory is there. A vector that grows by itself begins with room for four,
-/// and most transactions have one entry.
-pub fn room_for<T>(alloc: Global, count: usize) -> Vec<T>
+/// A vector of nothing, with room for so many where memory is there.
+pub(crate) fn room_for<T>(alloc: Global, count: usize) -> Vec<T>
     ensures { result.items ≡ [] }
 {
     match Vec::with_capacity(alloc, count) {

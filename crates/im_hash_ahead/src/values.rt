@@ -30,7 +30,8 @@ impl Values {
         Some(&self.octets[start..end])
     }
 
-    /// Adds a value behind all others. Its only error is want of memory.
+    /// Adds a value behind all others. Its only error is want of memory. Behind it octets of the value may stand without an end:
+    /// the next value then begins with them, so it isn't what was added, and what is hashed of it is of no use.
     pub fn add(&mut self, octets: &[u8]) -> Result<(), AllocError> {
         self.octets.extend_from_slice(octets)?;
         self.ends.push(self.octets.len())?;

@@ -25,7 +25,7 @@ impl Window {
     ghost use Rattle.im_digest.specs.Digests.{Hash};
     ghost use Rattle.im_hash_ahead.specs.Facts.{AreFacts, IsKnown};
 
-    /// One that has nothing, before the first record.
+    /// One that has nothing, before the first record. It takes no memory.
     pub fn empty(alloc: Global) -> Self
         ensures { (hash : Hash) → IsKnown hash result }
     {

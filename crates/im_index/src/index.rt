@@ -65,6 +65,16 @@ impl Index {
         }
     }
 
+    /// The index of a history, as `take_all` of all of it behind `new`. Its only error is want of memory.
+    pub fn of(alloc: Global, history: &[Transaction]) -> Result<Self, AllocError>
+        requires { length history.now ≤ 1048576 }
+        ensures { IfOk result (λ index. IsIndexOf index history.now) }
+    {
+        let mut index = Index::new(alloc);
+        index.take_all(alloc, history)?;
+        Ok(index)
+    }
+
     /// The number of transactions that were taken.
     pub fn taken(&self) -> u64
         ensures { result ≡ self.now.taken }

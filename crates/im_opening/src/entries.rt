@@ -14,7 +14,6 @@ use im_digest::{D32, Hash32};
 use im_disk::disk::Disk;
 use im_entry::digests::digest_over;
 use im_format::references::ValueRef;
-use im_hash_ahead::room::room_for;
 use im_model::entries::Entry;
 use im_model::limits::{EntryValue, Key, Metadata};
 use im_octet::octets::Octets;
@@ -39,6 +38,17 @@ pub(crate) struct EntriesRead {
     pub digests: Vec<D32>,
     pub refs: Vec<ValueRef>,
     pub end: u64,
+}
+
+// A vector of nothing, with room for so many where memory is there. A vector that grows by itself begins with room for four,
+// and most transactions have one entry.
+fn room_for<T>(alloc: Global, count: usize) -> Vec<T>
+    ensures { result.items ≡ [] }
+{
+    match Vec::with_capacity(alloc, count) {
+        Ok(items) => items,
+        Err(_) => Vec::new(alloc),
+    }
 }
 
 // Reads an entry with its value, behind entries with these keys.

@@ -28,8 +28,27 @@ pub(crate) fn first_plan<H: Hash32>(
 }
 
 /// What is needed to hash the records behind those of a plan, where so much was read; where that has come by the plan already,
-/// those that were read last are behind it.
+/// those that were read last are behind it. Where memory is short it is a plan of nothing, and then nothing more is hashed ahead.
 pub(crate) fn plan_behind<D: Disk>(
+    alloc: Global,
+    disk: &mut D,
+    source: &RecordSource,
+    progress: &Progress,
+    before: &Plan,
+) -> Result<Plan, DiskError>
+    requires shows { IfSome (D.told disk.old) (λ t. Shows (seen t) source.now.log.now source.now.lengths) }
+    ensures told { D.told disk.new ≡ D.told disk.old }
+    ensures cause { HasCause (D.faults disk.old) (D.faults disk.new) result }
+{
+    match whole_plan_behind(alloc, disk, source, progress, before) {
+        Ok(plan) => Ok(plan),
+        Err(DiskError::Memory) => Ok(Plan::empty(alloc)),
+        Err(DiskError::Failed) => Err(DiskError::Failed),
+    }
+}
+
+// The same where memory is there for it.
+fn whole_plan_behind<D: Disk>(
     alloc: Global,
     disk: &mut D,
     source: &RecordSource,

@@ -204,6 +204,7 @@ pub(crate) fn read_batches_on<R: Threads + Sync, D: Disk, H: Hash32 + Sync>(
         if let Some(behind) = behind? {
             drop(filled);
             drop(window);
+            drop(spent);
             drop(plan);
             return Ok(all_read(reading, behind));
         }

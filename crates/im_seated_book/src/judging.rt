@@ -1,6 +1,6 @@
 //! Preconditions, judged against a book whose index of keys is brought up before.
 
-ghost use Rattle.std.specs.Prelude.{◌≡◌, ◌<◌, ◌≤◌, ◌+◌, ◌*◌, ◌⊎◌, ℕ, None, Some, length, IfErr, OnOk};
+ghost use Rattle.std.specs.Prelude.{◌≡◌, ◌<◌, ◌≤◌, ◌+◌, ◌*◌, ◌⊎◌, ℕ, [], None, Some, length, IfErr, OnOk};
 ghost use Rattle.im_versions.specs.Admits.{place_refusal};
 ghost use Rattle.im_versions.specs.Versions.{all_versions};
 ghost use Rattle.im_index.specs.Runs.{HasDigits};
@@ -26,6 +26,7 @@ pub(crate) fn judge_over(alloc: Global, book: &mut Book, pres: Pres) -> Result<(
     ensures admitted { OnOk result (place_refusal book.old.transactions pres ≡ None) }
     ensures refused { IfErr result (λ why. (why ≡ PlaceError.Memory) ⊎ (place_refusal book.old.transactions pres ≡ Some why)) }
     ensures room { OnOk result (length book.old.transactions < 1048576) }
+    ensures keyed { OnOk result ((pres ≡ []) ⊎ (book.new.keyed ≡ length book.new.transactions)) }
 {
     judge_for::<Brand>(alloc, book, pres, Blank::new(1))
 }
@@ -45,6 +46,7 @@ fn judge_for<L: Ledger>(
     ensures admitted { OnOk result (place_refusal book.old.transactions pres ≡ None) }
     ensures refused { IfErr result (λ why. (why ≡ PlaceError.Memory) ⊎ (place_refusal book.old.transactions pres ≡ Some why)) }
     ensures room { OnOk result (length book.old.transactions < 1048576) }
+    ensures keyed { OnOk result ((pres ≡ []) ⊎ (book.new.keyed ≡ length book.new.transactions)) }
 {
     judge_counted(alloc, book, pres, &mut Steps::<L>::new(blank))
 }
@@ -61,6 +63,7 @@ fn judge_counted<L: Ledger>(
     ensures admitted { OnOk result (place_refusal book.old.transactions pres ≡ None) }
     ensures refused { IfErr result (λ why. (why ≡ PlaceError.Memory) ⊎ (place_refusal book.old.transactions pres ≡ Some why)) }
     ensures room { OnOk result (length book.old.transactions < 1048576) }
+    ensures keyed { OnOk result ((pres ≡ []) ⊎ (book.new.keyed ≡ length book.new.transactions)) }
     ensures cost { (b : ℕ) → HasDigits b (length (all_versions book.old.transactions)) → steps.new ≤ steps.old + length pres * (b * (b + 1)) }
 {
     if pres.as_slice().is_empty() {

@@ -37,8 +37,8 @@ pub record ArePartsOf (hash : Hash) (records : List Record) (logs : ℕ) (tip : 
   pub tree_is : IsTreeOf hash (items_of records) parts.tree
   pub whole : parts.tree.size ≡ length (items_of records)
 
--- the words of this number of value logs, and the parts, are made of what was found: the pass has each role and the whole weight, and book and
--- tree are its own
+-- the words of this number of value logs, and the parts, are made of what was found: the pass has each role and the whole weight, the book has the
+-- headers and the Alh that were found, and the tree is the one that was found
 pub record AreMadeOf (found : FoundHistory) (logs : ℕ) (tip : Place) (parts : Parts) : Type 0 where
   pub found_is : tip.found ≡ items_of found.records.items
   pub logs_are : tip.logs ≡ logs

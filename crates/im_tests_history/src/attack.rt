@@ -92,7 +92,6 @@ fn a_false_transaction_is_not_on_the_chain(rt: HostRuntime) -> Result<(), Fail> 
         want: digest(0xe6),
         got: digest(0xe7),
     };
-    assert!(rt; is_refused(rt.alloc(), 0xa0, path)?);
-    assert!(rt; is_refused(rt.alloc(), 0xa1, end)?);
+    assert!(rt; is_refused(rt.alloc(), 0xa0, path)? && is_refused(rt.alloc(), 0xa1, end)?);
     Ok(())
 }

@@ -59,10 +59,12 @@ fn carried(
 
 // Whether it is the path of these terms.
 fn is_path(carried: Option<Carried>, terms: &[u8]) -> bool {
-    match carried {
+    let same = match &carried {
         Some(Carried::Path(path)) => are(path.as_slice(), terms),
         Some(Carried::Pair(_, _)) | None => false,
-    }
+    };
+    drop(carried);
+    same
 }
 
 // Whether octets are the string of a node of these two digests.
@@ -104,19 +106,26 @@ fn rows_are_carried(alloc: Global) -> Result<bool, AllocError> {
     Ok(same)
 }
 
+// Whether it is a pair of the strings of two nodes, over 5 and 2, and over 4 and 3.
+fn is_pair_of_nodes(carried: Option<Carried>) -> bool {
+    let same = match &carried {
+        Some(Carried::Pair(x, y)) => is_node(x.as_slice(), 5, 2) && is_node(y.as_slice(), 4, 3),
+        Some(Carried::Path(_)) | None => false,
+    };
+    drop(carried);
+    same
+}
+
 fn another_path_is_a_pair(alloc: Global) -> Result<bool, AllocError> {
     let path = digests(alloc, &[3, 2])?;
     let list = digests(alloc, &[3, 4, 4, 0x14])?;
-    match carried(alloc, 1, path.as_slice(), 3, list.as_slice())? {
-        Some(Carried::Pair(x, y)) => Ok(is_node(x.as_slice(), 5, 2) && is_node(y.as_slice(), 4, 3)),
-        Some(Carried::Path(_)) | None => Ok(false),
-    }
+    let got = carried(alloc, 1, path.as_slice(), 3, list.as_slice())?;
+    Ok(is_pair_of_nodes(got))
 }
 
 #[test]
 fn a_path_is_carried_as_worked(rt: HostRuntime) -> Result<(), Fail> {
-    assert!(rt; rows_are_carried(rt.alloc())?);
-    assert!(rt; another_path_is_a_pair(rt.alloc())?);
+    assert!(rt; rows_are_carried(rt.alloc())? && another_path_is_a_pair(rt.alloc())?);
     Ok(())
 }
 
@@ -126,10 +135,13 @@ fn nodes_are_compared(alloc: Global) -> Result<bool, AllocError> {
     if node_digest(&Sum, &node[0], &node[1]) != node_digest(&Sum, &other[0], &other[1]) {
         return Ok(false);
     }
-    match same_node(alloc, &Sum, &node[0], &node[1], &other[0], &other[1])? {
-        Same::Pair { x, y } => Ok(is_node(x.as_slice(), 5, 2) && is_node(y.as_slice(), 4, 3)),
-        Same::Equal => Ok(false),
-    }
+    let compared = same_node(alloc, &Sum, &node[0], &node[1], &other[0], &other[1])?;
+    let apart = match &compared {
+        Same::Pair { x, y } => is_node(x.as_slice(), 5, 2) && is_node(y.as_slice(), 4, 3),
+        Same::Equal => false,
+    };
+    drop(compared);
+    Ok(apart)
 }
 
 // The header of transaction 1 of this time and number of entries.
@@ -160,23 +172,35 @@ fn is_inner(octets: &[u8], ts: u8, nentries: u8) -> bool {
     octets.len() == 88 && octets[7] == ts && octets[9] == 1 && octets[15] == nentries
 }
 
+// Whether they are a pair of the inner strings of both.
+fn is_pair_of_inners(compared: Option<Same>) -> bool {
+    let apart = match &compared {
+        Some(Same::Pair { x, y }) => {
+            is_inner(x.as_slice(), 0, 2) && is_inner(y.as_slice(), 1, 1)
+        }
+        Some(Same::Equal) | None => false,
+    };
+    drop(compared);
+    apart
+}
+
 fn headers_are_compared(alloc: Global) -> Result<bool, AllocError> {
     let early = header(alloc, 0, 2);
     let late = header(alloc, 1, 1);
-    match compared(alloc, &early, &late)? {
-        Some(Same::Pair { x, y }) => {
-            Ok(is_inner(x.as_slice(), 0, 2) && is_inner(y.as_slice(), 1, 1))
-        }
-        Some(Same::Equal) | None => Ok(false),
-    }
+    let found = compared(alloc, &early, &late);
+    drop(early);
+    drop(late);
+    Ok(is_pair_of_inners(found?))
 }
 
 fn a_header_is_itself(alloc: Global) -> Result<bool, AllocError> {
     let header = header(alloc, 0, 2);
-    match compared(alloc, &header, &header)? {
-        Some(Same::Equal) => Ok(true),
-        Some(Same::Pair { .. }) | None => Ok(false),
-    }
+    let compared = compared(alloc, &header, &header);
+    drop(header);
+    let compared = compared?;
+    let equal = matches!(&compared, Some(Same::Equal));
+    drop(compared);
+    Ok(equal)
 }
 
 // The root over one entry, by the empty path.
@@ -187,28 +211,44 @@ fn root_over(entry: &Entry) -> D32
     root_by_path(&Sum, 1, 0, &leaf, &[])
 }
 
-// Two entries of one transaction each, that set k to values of one sum.
-fn entries_are_compared(alloc: Global) -> Result<bool, Fail> {
-    let entry = entry_of(alloc, &(b"", b"k", b"ab"))?;
-    let other = entry_of(alloc, &(b"", b"k", b"ba"))?;
-    if root_over(&entry) != root_over(&other) {
+// Whether two entries of one transaction each are told apart, by the values ab and ba.
+fn are_told_apart(alloc: Global, entry: &Entry, other: &Entry) -> Result<bool, AllocError> {
+    if root_over(entry) != root_over(other) {
         return Ok(false);
     }
     if terms_of(0, 1) != 0 {
         return Ok(false);
     }
-    match same_entry(alloc, &Sum, 1, 0, &entry, &[], &other, &[])? {
+    let compared = same_entry(alloc, &Sum, 1, 0, entry, &[], other, &[])?;
+    let apart = match &compared {
         Same::Pair { x, y } => {
-            Ok(x.as_slice() == b"ab".as_slice() && y.as_slice() == b"ba".as_slice())
+            x.as_slice() == b"ab".as_slice() && y.as_slice() == b"ba".as_slice()
         }
-        Same::Equal => Ok(false),
-    }
+        Same::Equal => false,
+    };
+    drop(compared);
+    Ok(apart)
+}
+
+// Whether an entry that sets k to ab is told apart from one that sets it to ba.
+fn is_told_apart(alloc: Global, entry: &Entry) -> Result<bool, Fail> {
+    let other = entry_of(alloc, &(b"", b"k", b"ba"))?;
+    let apart = are_told_apart(alloc, entry, &other);
+    drop(other);
+    Ok(apart?)
+}
+
+fn entries_are_compared(alloc: Global) -> Result<bool, Fail> {
+    let entry = entry_of(alloc, &(b"", b"k", b"ab"))?;
+    let apart = is_told_apart(alloc, &entry);
+    drop(entry);
+    apart
 }
 
 #[test]
 fn things_of_one_sum_are_told_apart(rt: HostRuntime) -> Result<(), Fail> {
-    assert!(rt; nodes_are_compared(rt.alloc())?);
-    assert!(rt; headers_are_compared(rt.alloc())? && a_header_is_itself(rt.alloc())?);
-    assert!(rt; entries_are_compared(rt.alloc())?);
+    let alloc = rt.alloc();
+    let headers = headers_are_compared(alloc)? && a_header_is_itself(alloc)?;
+    assert!(rt; headers && nodes_are_compared(alloc)? && entries_are_compared(alloc)?);
     Ok(())
 }

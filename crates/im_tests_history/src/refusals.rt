@@ -112,6 +112,13 @@ fn text_of(alloc: Global, refusal: &Option<PlaceError>) -> Result<Vec<u8>, Alloc
     }
 }
 
+// The same of a refusal that isn't needed any more.
+fn told_of(alloc: Global, refusal: Option<PlaceError>) -> Result<Vec<u8>, AllocError> {
+    let text = text_of(alloc, &refusal);
+    drop(refusal);
+    text
+}
+
 fn text(alloc: Global, name: &[u8], key: &Octets, tx: u64) -> Result<Vec<u8>, AllocError> {
     let mut text = Vec::from_slice(alloc, name)?;
     text.extend_from_slice(key.as_slice())?;
@@ -128,15 +135,15 @@ fn plain_answer(
     asked: &[Asked],
 ) -> Result<Vec<u8>, AllocError> {
     let pres = pres_of(alloc, asked)?;
-    let refusal = place_refusal(alloc, history, &pres)?;
-    text_of(alloc, &refusal)
+    let refusal = place_refusal(alloc, history, &pres);
+    drop(pres);
+    told_of(alloc, refusal?)
 }
 
 // What a book answers.
 fn judged(alloc: Global, book: &Book, asked: &[Asked]) -> Result<Vec<u8>, AllocError> {
     let pres = pres_of(alloc, asked)?;
-    let refusal = book.judge(Pres::from_vec(pres)).err();
-    text_of(alloc, &refusal)
+    told_of(alloc, book.judge(Pres::from_vec(pres)).err())
 }
 
 // Whether both give this answer.
@@ -170,11 +177,13 @@ fn judged_counted<L: Ledger>(
     requires some { 0 < blank.parts }
     requires few { length book.old.transactions ≤ 1048576 }
 {
-    let pres = pres_of(alloc, asked)?;
     book.catch_up(alloc)?;
+    let pres = pres_of(alloc, asked)?;
     let mut steps = Steps::<L>::new(blank);
-    let refusal = book.judge_steps(Pres::from_vec(pres), &mut steps).err();
-    text_of(alloc, &refusal)
+    told_of(
+        alloc,
+        book.judge_steps(Pres::from_vec(pres), &mut steps).err(),
+    )
 }
 
 // Whether a book gives this answer behind its index of keys is brought to the last transaction, by each of the two calls.
@@ -191,6 +200,16 @@ fn keys_answer(
     Ok(counted.as_slice() == text && judged(alloc, book, asked)?.as_slice() == text)
 }
 
+// Whether both give this answer, and the book also behind its index of keys is brought to the last transaction.
+fn all_answer(
+    alloc: Global,
+    book: &mut Book,
+    asked: &[Asked],
+    text: &[u8],
+) -> Result<bool, AllocError> {
+    Ok(both_answer(alloc, book, asked, text)? && keys_answer(alloc, book, asked, text)?)
+}
+
 // Whether both answer this row.
 fn is_answered(alloc: Global, writes: &[&[Write]], row: &Row) -> Result<bool, Fail> {
     let (n, asked, text) = *row;
@@ -198,7 +217,9 @@ fn is_answered(alloc: Global, writes: &[&[Write]], row: &Row) -> Result<bool, Fa
         return Ok(false);
     }
     let mut book = book_of(alloc, &writes[..n])?;
-    Ok(both_answer(alloc, &book, asked, text)? && keys_answer(alloc, &mut book, asked, text)?)
+    let same = all_answer(alloc, &mut book, asked, text);
+    drop(book);
+    Ok(same?)
 }
 
 fn are_answered(alloc: Global, writes: &[&[Write]], rows: &[Row]) -> Result<bool, Fail> {
@@ -229,7 +250,9 @@ fn agree_on_each(alloc: Global, book: &Book) -> Result<bool, AllocError> {
 
 fn agree(alloc: Global, writes: &[&[Write]]) -> Result<bool, Fail> {
     let book = book_of(alloc, writes)?;
-    Ok(agree_on_each(alloc, &book)?)
+    let same = agree_on_each(alloc, &book);
+    drop(book);
+    Ok(same?)
 }
 
 fn both_judge_by_the_last_version(alloc: Global) -> Result<bool, Fail> {
@@ -269,12 +292,20 @@ fn answered_behind(alloc: Global, count: usize, text: &[u8]) -> Result<bool, All
         Vec::new(alloc),
         Vec::new(alloc),
     );
-    both_answer(alloc, &book, &[(b"x", Exists)], text)
+    let same = both_answer(alloc, &book, &[(b"x", Exists)], text);
+    drop(book);
+    same
+}
+
+fn is_full_behind_its_last(alloc: Global) -> Result<bool, AllocError> {
+    Ok(
+        answered_behind(alloc, 1_048_575, b"missing x")?
+            && answered_behind(alloc, 1_048_576, b"full")?,
+    )
 }
 
 #[test]
 fn a_history_of_1048576_transactions_is_full(rt: HostRuntime) -> Result<(), Fail> {
-    assert!(rt; answered_behind(rt.alloc(), 1_048_575, b"missing x")?);
-    assert!(rt; answered_behind(rt.alloc(), 1_048_576, b"full")?);
+    assert!(rt; is_full_behind_its_last(rt.alloc())?);
     Ok(())
 }

@@ -55,9 +55,8 @@ fn plain_lists_lead_to_both_roots() -> bool {
 
 #[test]
 fn the_plain_program_gives_the_worked_roots(rt: HostRuntime) {
-    assert!(rt; plain_roots_are_as_worked());
-    assert!(rt; plain_paths_lead_to_the_root());
-    assert!(rt; plain_lists_lead_to_both_roots());
+    let lead = plain_paths_lead_to_the_root() && plain_lists_lead_to_both_roots();
+    assert!(rt; lead && plain_roots_are_as_worked());
 }
 
 // Whether the root over the first n of the digests 1 to 40 is the plain one, for each n, told afresh and by a
@@ -93,6 +92,7 @@ fn extended_is_the_plain_one<H: Hash32>(hash: &H) -> bool {
 
 #[test]
 fn the_code_gives_the_plain_roots(rt: HostRuntime) {
-    assert!(rt; roots_are_the_plain_ones(&Sum) && roots_are_the_plain_ones(&Sha));
-    assert!(rt; extended_is_the_plain_one(&Sum) && extended_is_the_plain_one(&Sha));
+    let grown = roots_are_the_plain_ones(&Sum) && roots_are_the_plain_ones(&Sha);
+    let extended = extended_is_the_plain_one(&Sum) && extended_is_the_plain_one(&Sha);
+    assert!(rt; grown && extended);
 }

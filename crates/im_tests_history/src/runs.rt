@@ -2,7 +2,8 @@
 
 use crate::values::{Write, history_of};
 use im_index::index::Index;
-use std::alloc::Global;
+use im_model::transactions::Transaction;
+use std::alloc::{AllocError, Global};
 use std::test::Fail;
 
 static EIGHT: &[&[Write]] = &[
@@ -19,9 +20,12 @@ static EIGHT: &[&[Write]] = &[
 // The number of runs after each of eight transactions of one entry. Their lengths: 1; 2; 2 1; 4; 4 1; 4 2; 4 2 1; 8.
 static RUNS: [u64; 8] = [1, 1, 2, 1, 2, 2, 3, 1];
 
-fn runs_are_as_many(alloc: Global) -> Result<bool, Fail> {
-    let history = history_of(alloc, EIGHT)?;
-    let mut index = Index::new(alloc);
+// Whether an index that takes these transactions has so many runs after each.
+fn has_as_many(
+    alloc: Global,
+    index: &mut Index,
+    history: &[Transaction],
+) -> Result<bool, AllocError> {
     for (tx, runs) in history.iter().zip(&RUNS) {
         if index.taken() > 8 {
             return Ok(false);
@@ -32,6 +36,15 @@ fn runs_are_as_many(alloc: Global) -> Result<bool, Fail> {
         }
     }
     Ok(index.taken() == 8)
+}
+
+fn runs_are_as_many(alloc: Global) -> Result<bool, Fail> {
+    let history = history_of(alloc, EIGHT)?;
+    let mut index = Index::new(alloc);
+    let same = has_as_many(alloc, &mut index, &history);
+    drop(index);
+    drop(history);
+    Ok(same?)
 }
 
 #[test]

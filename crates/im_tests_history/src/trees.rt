@@ -26,16 +26,17 @@ use std::test::Fail;
 fn seven(alloc: Global) -> Result<Tree, AllocError> {
     let mut tree = Tree::new(alloc);
     for digest in &one_to::<7>() {
-        tree.append(&Sum, digest)?;
+        if let Err(failed) = tree.append(&Sum, digest) {
+            drop(tree);
+            return Err(failed);
+        }
     }
     Ok(tree)
 }
 
-// Whether a tree of the first n of the digests 1 to 9 has the root hashed afresh, for each n, and so has the list.
-fn roots_are_those_hashed_afresh(alloc: Global) -> Result<bool, AllocError> {
+// Whether a tree and a list that take the digests 1 to 9 have the root hashed afresh after each of them.
+fn have_the_root_hashed_afresh(tree: &mut Tree, list: &mut ListTree) -> Result<bool, AllocError> {
     let digests = one_to::<9>();
-    let mut tree = Tree::new(alloc);
-    let mut list = ListTree::new(alloc);
     let mut same = true;
     for n in 1..10usize {
         tree.append(&Sum, &digests[n - 1])?;
@@ -49,6 +50,15 @@ fn roots_are_those_hashed_afresh(alloc: Global) -> Result<bool, AllocError> {
             && list.root_at(&Sum, size) == afresh;
     }
     Ok(same)
+}
+
+fn roots_are_those_hashed_afresh(alloc: Global) -> Result<bool, AllocError> {
+    let mut tree = Tree::new(alloc);
+    let mut list = ListTree::new(alloc);
+    let same = have_the_root_hashed_afresh(&mut tree, &mut list);
+    drop(tree);
+    drop(list);
+    same
 }
 
 // Whether a list gives this path of leaf i in the tree of the first n.
@@ -251,9 +261,16 @@ fn path_over_seven(alloc: Global) -> Result<bool, AllocError> {
     Ok(passes && counted && are(terms.as_slice(), &[0x0c, 0x0d]))
 }
 
+fn lists_and_paths_of_seven(alloc: Global, tree: &Tree) -> Result<bool, AllocError> {
+    Ok(lists_of_seven(alloc, tree)? && paths_of_seven(alloc, tree)?)
+}
+
 fn proofs_of_seven(alloc: Global) -> Result<bool, AllocError> {
     let tree = seven(alloc)?;
-    Ok(roots_of_seven(&tree) && lists_of_seven(alloc, &tree)? && paths_of_seven(alloc, &tree)?)
+    let roots = roots_of_seven(&tree);
+    let worked = lists_and_paths_of_seven(alloc, &tree);
+    drop(tree);
+    Ok(roots && worked?)
 }
 
 // Whether the counted path of the last of seven leaves is as worked.
@@ -333,8 +350,7 @@ fn a_growing_tree_has_the_roots_hashed_afresh(rt: HostRuntime) -> Result<(), Fai
 
 #[test]
 fn the_tree_of_seven_gives_the_worked_proofs(rt: HostRuntime) -> Result<(), Fail> {
-    assert!(rt; proofs_of_seven(rt.alloc())?);
-    assert!(rt; path_over_seven(rt.alloc())?);
+    assert!(rt; proofs_of_seven(rt.alloc())? && path_over_seven(rt.alloc())?);
     Ok(())
 }
 
@@ -369,6 +385,5 @@ fn faults_of_a_path() -> bool {
 
 #[test]
 fn a_wrong_path_is_refused(rt: HostRuntime) {
-    assert!(rt; lengths_of_64_bits());
-    assert!(rt; faults_of_a_path());
+    assert!(rt; lengths_of_64_bits() && faults_of_a_path());
 }

@@ -75,13 +75,13 @@ fn parts_over<L: Law>(
         tree,
     } = found;
     match words_of(alloc, records, logs) {
-        Ok((tip, words)) => {
-            let Words {
+        Ok((tip, made)) => {
+            let RecordParts {
                 pass,
                 index,
                 transactions,
                 refs,
-            } = words;
+            } = made;
             let parts = Parts {
                 pass,
                 index,
@@ -102,7 +102,7 @@ fn parts_over<L: Law>(
 
 // What is made of records alone.
 #[derive(Drop)]
-struct Words {
+struct RecordParts {
     // The pass that has each role and the whole weight.
     pass: Pass,
     // The index of their transactions.
@@ -118,7 +118,7 @@ fn words_of<L: Law>(
     alloc: Global,
     records: Vec<Record>,
     logs: u8,
-) -> Result<(Tip<L>, Words), AllocError>
+) -> Result<(Tip<L>, RecordParts), AllocError>
     requires logs { (1 ≤ logs) × (logs ≤ 4) }
     requires few { length records.items ≤ 1048576 }
     ensures tip { IfOk result (λ r. (r.0.found ≡ items_of records.items) × (r.0.logs ≡ logs)) }
@@ -130,13 +130,13 @@ fn words_of<L: Law>(
     let (tip, pass, items) = opened_with(alloc, records, logs)?;
     match columns_of(alloc, items) {
         Ok((transactions, refs, index)) => {
-            let words = Words {
+            let made = RecordParts {
                 pass,
                 index,
                 transactions,
                 refs,
             };
-            Ok((tip, words))
+            Ok((tip, made))
         }
         Err(error) => {
             drop(tip);
@@ -213,7 +213,7 @@ fn columns_of(
     ensures index { IfOk result (λ r. IsIndexOf r.2 (history_of items.items)) }
 {
     let (transactions, refs) = parted(alloc, items)?;
-    match index_of(alloc, transactions.as_slice()) {
+    match Index::of(alloc, transactions.as_slice()) {
         Ok(index) => Ok((transactions, refs, index)),
         Err(error) => {
             drop(transactions);
@@ -221,16 +221,6 @@ fn columns_of(
             Err(error)
         }
     }
-}
-
-// The index of transactions.
-fn index_of(alloc: Global, transactions: &[Transaction]) -> Result<Index, AllocError>
-    requires { length transactions.now ≤ 1048576 }
-    ensures { IfOk result (λ index. IsIndexOf index transactions.now) }
-{
-    let mut index = Index::new(alloc);
-    index.take_all(alloc, transactions)?;
-    Ok(index)
 }
 
 // The transactions of items, and their references.

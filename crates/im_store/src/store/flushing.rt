@@ -65,8 +65,9 @@ impl<'h, H: Hash32, D: Disk, C: Clock, L: Law, N: TipName> Store<'h, H, D, C, L,
         Ok(())
     }
 
-    // Waits until the first `n` transactions of the pass's list are durable. Before it sleeps at the journal's
-    // lock it looks at the word durable some thousand times: so all that were written by one thread go on at once, and are placed for its next batch.
+    // Waits until the first `n` transactions of the pass's list are durable. Before it sleeps at the journal's lock it looks at
+    // the word durable some thousand times: so all whose transactions one thread wrote go on at once, and place their next ones
+    // for its next batch.
     pub(super) fn settle_to<R: Wait>(
         &self,
         rt: &R,
@@ -90,7 +91,8 @@ impl<'h, H: Hash32, D: Disk, C: Clock, L: Law, N: TipName> Store<'h, H, D, C, L,
         self.flush_to(rt, alloc, pass, n, &mut journal)
     }
 
-    // The journal's lock, or `None` where the first `n` are durable before it is had. With the lock others have been let place theirs, where there are such.
+    // Takes the journal's lock; `None` where the first `n` are durable before it is free. Under the lock, where a batch is still
+    // to be written for them, other threads are let run, as `let_others_place` says, so that theirs go with it.
     fn journal_for<R: Wait>(
         &self,
         rt: &R,
@@ -287,8 +289,9 @@ impl<'h, H: Hash32, D: Disk, C: Clock, L: Law, N: TipName> Store<'h, H, D, C, L,
     }
 }
 
-// Lets other threads run before a batch is begun for the first `n`, where there are such: who begins it has waited for the journal's lock, or
-// the batch before had several transactions. Those that it has just set free place their next ones meanwhile, and these go with it.
+// Lets other threads run before a batch is begun for the first `n`, where there seem to be others: the one that begins it has
+// waited for the journal's lock, or the batch before had several transactions. Those that were set free by that batch place
+// their next ones meanwhile, and these go with the batch.
 fn let_others_place<D: Disk>(journal: &Journal<D>, n: u64, waited: bool) {
     if journal.durable() < n && (waited || journal.batch_count() > 1) {
         for _turn in 0..TURNS {

@@ -6,8 +6,8 @@ use Rattle.im_model.specs.declared.transactions.Transaction.{Transaction}
 use Rattle.im_opening.specs.Reach.{txs_of}
 use Rattle.im_core.proofs.opening.indexed.Goals as goal
 
-pub index_of-requires : goal.index_of-requires
-index_of-requires c =
+pub of-requires : goal.of-requires
+of-requires c =
     let same : c.as_slice.result.now ≡ txs_of c.args.records.items = c.as_slice.ensures.value ∙ c.in_ok-transactions.ensures in
     omega (arith, ap (λ (l : List Transaction). length l) same, length-map c.args.records.items (λ (r : Record). r.tx), c.requires)
 

@@ -5,8 +5,8 @@ use Rattle.im_table.specs.Histories.{history_of}
 use Rattle.im_table.proofs.HistoryLemmas.{history_length}
 use Rattle.im_store.proofs.opened.parts.columns_of.Goals as goal
 
-pub index_of-requires : goal.index_of-requires
-index_of-requires c =
+pub of-requires : goal.of-requires
+of-requires c =
     let same : c.as_slice.result.now ≡ history_of c.args.items.items = c.as_slice.ensures.value ∙ c.in_ok-transactions.ensures.transactions in
     omega (arith, ap (λ (l : List Transaction). length l) same, history_length c.args.items.items, c.requires)
 

@@ -1,5 +1,5 @@
 use Rattle.std.proofs.Common.{[], arith}
-use Rattle.im_store.proofs.opened.parts.index_of.Goals as goal
+use Rattle.im_index.proofs.index.Index.of.Goals as goal
 
 pub take_all-requires : goal.take_all-requires
 take_all-requires c = omega (arith, c.new-index.ensures.taken, c.requires)
