@@ -27,7 +27,6 @@ use Rattle.im_report.specs.Report.{Answered, IsAnswer, Report}
 use Rattle.im_client.specs.Lines.{state_with}
 use Rattle.im_client.specs.LineChecks.{line_checks}
 use Rattle.im_facts.specs.Facts.{anchor_headers, both_headers, entries_shown, headers_shown}
-use Rattle.im_facts.proofs.OrderLemmas.{each-append}
 use Rattle.im_accept.specs.Messages.{item_between, IsReadBack}
 use Rattle.im_accept.specs.Taken.{kept_number, next_number, line_text, AreReadBack, AreAcceptedAnswers, HasStateFor, HaveSessions, IsEntryOf, IsHeaderOf, IsAcceptedAnswer}
 use Rattle.im_accept.proofs.DigitLemmas.{decimal-word}
@@ -190,11 +189,11 @@ taken-by hash h session (Advance s t) n reply history within replies answer read
     let m : Message = says.Advance (dual_between hash hs s t) (anchor_between hash hs s t) in
     let same : header_of hash hs s ≡ header_of hash h s = header-prefix hash h s n some (omega arith) within in
     let next : header_of hash hs t ≡ header_of hash h t = header-prefix hash h t n (omega arith) (omega arith) within in
+    let both : AllByRecursion (IsHeaderOf hash h) (both_headers (dual_between hash hs s t)) = both-shown hash h n s t some order (omega arith) within in
     other-taken hash h (answered session (Advance s t) n reply) s m replies is_now (read is_now) shown.3 (λ e. cc) refl some order (omega arith)
     (ap (λ (x : TheHeader). first_fail (line_checks hash (Some x) m)) (sym same) ∙ advance-passes hash hs s t (IsHistory-take h n history) some order below)
     (ap Some (between-target hash hs s t ∙ next))
-    (each-append (IsHeaderOf hash h) (both_headers (dual_between hash hs s t)) (anchor_headers (anchor_between hash hs s t))
-    (both-shown hash h n s t some order (omega arith) within) (anchor-shown hash h n s t some order (omega arith) within))
+    (both.0, (both.1.0, anchor-shown hash h n s t some order (omega arith) within))
     tt
 taken-by hash h session (Item t i None) n reply history within replies answer read is_now =
     let hs : List Transaction = take n h in

@@ -14,7 +14,7 @@ use Rattle.im_client.specs.Lines.{state_with}
 use Rattle.im_facts.specs.Accepted.{IsAccepted, AreAccepted, IsClient}
 use Rattle.im_facts.specs.Facts.{Known, nothing, with_message, known_after, Agrees, IsRising, known_header, entry_at, headers_shown, entries_shown, with_headers, with_entries, is_lower, is_level, is_before, is_beside}
 use Rattle.im_facts.specs.declared.facts.EntryFact.{EntryFact}
-use Rattle.im_facts.proofs.OrderLemmas.{Rises, AreOne, FitsIn, each-weaker, each-append, puts-all, puts-rise, puts-found, puts-fit}
+use Rattle.im_facts.proofs.OrderLemmas.{Rises, AreOne, FitsIn, each-weaker, each-more, puts-all, puts-rise, puts-found, puts-fit}
 use Rattle.im_facts.proofs.PlaceLemmas.{header-order, entry-order, header-pairs, entry-pairs, beside-parts}
 use Rattle.im_facts.proofs.ShownLemmas.{StateIsKept, shown-one, headers-fit}
 
@@ -138,12 +138,12 @@ sound-step hash known m accepted sound =
       headers_rise = puts-rise Header is_lower is_level header-order known.headers (headers_shown m) sound.headers_rise;
       entries_rise = puts-rise EntryFact is_before is_beside entry-order known.entries (entries_shown m) sound.entries_rise;
       state = state-step known.headers known.state m sound.headers_rise sound.state found;
-      headers_kept = each-append (KeepsHeaders (with_headers known.headers (headers_shown m))) known.messages (m ∷ [])
+      headers_kept = each-more (KeepsHeaders (with_headers known.headers (headers_shown m))) known.messages m
           (each-weaker (KeepsHeaders known.headers) (KeepsHeaders (with_headers known.headers (headers_shown m))) (λ n keeps. still-headers known.headers (headers_shown m) n sound.headers_rise keeps) known.messages sound.headers_kept)
-          (found, tt);
-      entries_kept = each-append (KeepsEntries (with_entries known.entries (entries_shown m))) known.messages (m ∷ [])
+          found;
+      entries_kept = each-more (KeepsEntries (with_entries known.entries (entries_shown m))) known.messages m
           (each-weaker (KeepsEntries known.entries) (KeepsEntries (with_entries known.entries (entries_shown m))) (λ n keeps. still-entries known.entries (entries_shown m) n sound.entries_rise keeps) known.messages sound.entries_kept)
-          (entries, tt);
+          entries;
       headers_shown = puts-all is_lower is_level (WasShown (known.messages ++ m ∷ [])) known.headers (headers_shown m)
           (each-weaker (WasShown known.messages) (WasShown (known.messages ++ m ∷ [])) (λ h w. (w.0, Contains-append_left known.messages (m ∷ []) w.0 w.1, w.2)) known.headers sound.headers_shown)
           (shown-now known.messages m);

@@ -24,10 +24,10 @@ pub each-weaker : {X : Type 0} (P Q : X → Type 0) → ((x : X) → P x → Q x
 each-weaker P Q f [] all = tt
 each-weaker P Q f (x ∷ xs) all = (f x all.0, each-weaker P Q f xs all.1)
 
--- of joined lists
-pub each-append : {X : Type 0} (P : X → Type 0) (xs ys : List X) → AllByRecursion P xs → AllByRecursion P ys → AllByRecursion P (xs ++ ys)
-each-append P [] ys a b = b
-each-append P (x ∷ xs) ys a b = (a.0, each-append P xs ys a.1 b)
+-- and of one more at the end
+pub each-more : {X : Type 0} (P : X → Type 0) (xs : List X) (last : X) → AllByRecursion P xs → P last → AllByRecursion P (xs ++ last ∷ [])
+each-more P [] last all p = (p, tt)
+each-more P (x ∷ xs) last all p = (all.0, each-more P xs last all.1 p)
 
 -- true and false are two
 pub two : {b : Bool} → b ≡ true → b ≡ false → ⊥

@@ -33,7 +33,7 @@ slot_like at entry ref = record {
   end = entry_end at entry;
 }
 
-abbrev ref_of : List ℕ → ℕ → ℕ → ℕ → ValueRef
+abbrev pub ref_of : List ℕ → ℕ → ℕ → ℕ → ValueRef
 ref_of digest size number spot = record { hval = digest; len = size; log = number; at = spot }
 
 ref-is : (log : List ℕ) (at : ℕ) (ref : ValueRef) → length ref.hval ≡ 32 → ref.len < 2 ^ 32 → ref.at < 2 ^ 64 → HasReference log at ref → ref_read log at ≡ ref

@@ -230,9 +230,10 @@ impl<D: Disk> Journal<D> {
             disk,
             ends: _,
             durable: _,
-            batch: _,
+            batch,
             failures: _,
         } = self;
+        drop(batch);
         disk
     }
 

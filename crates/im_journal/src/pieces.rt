@@ -1,5 +1,5 @@
 // The writes of a batch.
-ghost use Rattle.std.specs.Prelude.{◌≡◌, ◌<◌, ◌≤◌, ◌+◌, ◌^◌, ◌++◌, ℕ, IfOk, OnOk, length, All};
+ghost use Rattle.std.specs.Prelude.{◌≡◌, ◌<◌, ◌≤◌, ◌+◌, ◌^◌, ◌++◌, [], ℕ, IfOk, OnOk, length, All};
 ghost use Rattle.im_format.specs.Places.{log_values};
 ghost use Rattle.im_format.specs.Records.{records_octets};
 ghost use Rattle.im_record.specs.Writing.{IsWhole};
@@ -36,18 +36,39 @@ pub(crate) fn plan_of(
     ensures ends { IfOk result (λ plan. plan.ends ≡ ends_after ends.now id records.now) }
 {
     let mut pieces = Vec::new(alloc);
-    let first = push_value_piece(alloc, &mut pieces, 0, ends.values[0], records)?;
-    let second = push_value_piece(alloc, &mut pieces, 1, ends.values[1], records)?;
-    let third = push_value_piece(alloc, &mut pieces, 2, ends.values[2], records)?;
-    let fourth = push_value_piece(alloc, &mut pieces, 3, ends.values[3], records)?;
-    let end = push_log_pieces(alloc, &mut pieces, ends, id, records)?;
-    Ok(Plan {
-        pieces,
-        ends: Ends {
-            records: end,
-            commits: ends.commits + BATCH_OCTETS as u64,
-            values: [first, second, third, fourth],
-        },
+    match push_pieces(alloc, &mut pieces, ends, id, records) {
+        Ok(ends) => Ok(Plan { pieces, ends }),
+        Err(error) => {
+            drop(pieces);
+            Err(error)
+        }
+    }
+}
+
+// Adds the writes of a batch to none, and gives where the files end behind it.
+fn push_pieces(
+    alloc: Global,
+    pieces: &mut Vec<Span>,
+    ends: &Ends,
+    id: u64,
+    records: &[Record],
+) -> Result<Ends, AllocError>
+    requires none { pieces.old.items ≡ [] }
+    requires whole { All IsWhole records.now }
+    requires few { id + length records.now < 2 ^ 63 }
+    requires room { (k : ℕ) → end_of ends.now k < 2 ^ 61 }
+    ensures pieces { OnOk result (pieces.new.items ≡ pieces_of ends.now id records.now) }
+    ensures ends { IfOk result (λ behind. behind ≡ ends_after ends.now id records.now) }
+{
+    let first = push_value_piece(alloc, pieces, 0, ends.values[0], records)?;
+    let second = push_value_piece(alloc, pieces, 1, ends.values[1], records)?;
+    let third = push_value_piece(alloc, pieces, 2, ends.values[2], records)?;
+    let fourth = push_value_piece(alloc, pieces, 3, ends.values[3], records)?;
+    let end = push_log_pieces(alloc, pieces, ends, id, records)?;
+    Ok(Ends {
+        records: end,
+        commits: ends.commits + BATCH_OCTETS as u64,
+        values: [first, second, third, fourth],
     })
 }
 

@@ -16,6 +16,7 @@ use Rattle.im_record.specs.Slots.{ref_at}
 use Rattle.im_record.proofs.AtLemmas.{HasAt-front, HasAt-back, HasAt-moved, HasAt-within, number2-field, number4-field, number8-field, signed-field, octet-at}
 use Rattle.im_octet.proofs.FieldLemmas.{length-field2, length-field4, length-field8, length-signed}
 use Rattle.im_format.proofs.LengthLemmas.{length-head, length-reference}
+use Rattle.im_format.proofs.SlotReads.{ref_of}
 
 -- the numbers of a head
 pub record IsHead (log : List ℕ) (at id : ℕ) (tx : Transaction) : Type 0 where
@@ -44,10 +45,7 @@ head-back log at id tx p q r s h =
       count = number4-field log (at + 24) (length tx.entries) s (HasAt-moved log _ _ d (HasAt-back log at (a ++ b ++ c) d h) (ap (λ k. at + k) lc));
     }
 
--- a reference of these fields
-abbrev pub ref_with : List ℕ → ℕ → ℕ → ℕ → ValueRef
-ref_with hval len log at = record { hval = hval; len = len; log = log; at = at }
-
+-- a reference
 pub ref-back : (log : List ℕ) (at : ℕ) (ref : ValueRef) → FitsRef ref → HasAt log at (reference_octets ref) → ref_at log at ≡ ref
 unfolding reference_octets
 ref-back log at ref fits h =
@@ -67,10 +65,10 @@ ref-back log at ref fits h =
     octet-at log (at + 36) ref.log (HasAt-moved log _ _ c (HasAt-back log at (a ++ b) c abc) (ap (λ k. at + k) lb)) in
     let place : number8 log (at + 37) ≡ ref.at =
     number8-field log (at + 37) ref.at fits.at (HasAt-moved log _ _ d (HasAt-back log at (a ++ b ++ c) d h) (ap (λ k. at + k) lc)) in
-    ap (λ (x : List ℕ). ref_with x (number4 log (at + 32)) (slice_index_or log (at + 36) 0) (number8 log (at + 37))) hval
-    ∙ ap (λ (x : ℕ). ref_with ref.hval x (slice_index_or log (at + 36) 0) (number8 log (at + 37))) len
-    ∙ ap (λ (x : ℕ). ref_with ref.hval ref.len x (number8 log (at + 37))) number
-    ∙ ap (λ (x : ℕ). ref_with ref.hval ref.len ref.log x) place
+    ap (λ (x : List ℕ). ref_of x (number4 log (at + 32)) (slice_index_or log (at + 36) 0) (number8 log (at + 37))) hval
+    ∙ ap (λ (x : ℕ). ref_of ref.hval x (slice_index_or log (at + 36) 0) (number8 log (at + 37))) len
+    ∙ ap (λ (x : ℕ). ref_of ref.hval ref.len x (number8 log (at + 37))) number
+    ∙ ap (λ (x : ℕ). ref_of ref.hval ref.len ref.log x) place
 
 pub entry-back : (log : List ℕ) (at : ℕ) (entry : Entry) (ref : ValueRef) → FitsEntry entry → FitsRef ref
     → HasAt log at (entry_octets entry ref)

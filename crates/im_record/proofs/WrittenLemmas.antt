@@ -1,7 +1,7 @@
 -- What passes the checks of a record is the octets of a record of a history, with its values.
-use Rattle.std.proofs.Common.{◌≡◌, ◌≢◌, ◌<◌, ◌≤◌, ◌+◌, ◌-◌, ◌*◌, ◌^◌, ℕ, ℤ, suc, zero, Bool, true, false, List, [], ◌∷◌, ◌++◌, length, map, arith, refl, sym, ◌∙◌, ap, subst, length-append, get_or, inl, inr, Ok, nat_eq, if◌then◌else◌, ◌&&◌, ◌||◌}
+use Rattle.std.proofs.Common.{◌≡◌, ◌≢◌, ◌<◌, ◌≤◌, ◌+◌, ◌-◌, ◌*◌, ◌^◌, ℕ, ℤ, suc, zero, Bool, true, List, [], ◌∷◌, ◌++◌, length, map, arith, refl, sym, ◌∙◌, ap, subst, length-append, get_or, inl, inr, Ok, if◌then◌else◌}
 use Rattle.std.specs.Prelude.{All, AllPairs}
-use Rattle.std.proofs.lemmas.Bool.{cases_eq, cases_lt, eqb-true, leb-true, ne_eqb}
+use Rattle.std.proofs.lemmas.Bool.{cases_lt, eqb-true, leb-true}
 use Rattle.std.proofs.lemmas.List.{length-map}
 use Rattle.std.proofs.lemmas.List.Elements.{All-cons}
 use Rattle.std.proofs.lemmas.List.Kept.{AllPairs-cons}
@@ -14,7 +14,7 @@ use Rattle.im_model.specs.declared.entries.Entry.{Entry}
 use Rattle.im_model.specs.declared.transactions.Transaction.{Transaction}
 use Rattle.im_mtree.specs.Checks.{Check, first_fail}
 use Rattle.im_format.specs.Batches.{entries_spans, value_span}
-use Rattle.im_format.specs.Damages.{alh_checks, head_checks, index_of, md_checks, slot_checks, slot_key_checks, slot_md_checks, slot_ref_checks, slots_checks, value_check}
+use Rattle.im_format.specs.Damages.{alh_checks, head_checks, index_of, slot_checks, slot_key_checks, slot_md_checks, slot_ref_checks, slots_checks, value_check}
 use Rattle.im_format.specs.Reading.{Slot, alh_place, bl_at, count_at, entry_in, number2, number8, slot_at, slots_at, slots_end, ts_at, value_at}
 use Rattle.im_format.specs.Records.{AreReferences, IsReference, entries_octets, entry_octets, head_octets, record_octets, reference_octets}
 use Rattle.im_format.specs.Spans.{Reads, octets_at}
@@ -23,39 +23,15 @@ use Rattle.im_format.specs.declared.damages.Damage.{Damage}
 use Rattle.im_format.specs.declared.records.Record.{Record}
 use Rattle.im_format.specs.declared.references.ValueRef.{ValueRef}
 use Rattle.im_record.specs.Back.{AreOctets, HasAt, IsWritten, record_in}
-use Rattle.im_record.specs.Slots.{AreAttributes, ref_at}
+use Rattle.im_record.specs.Slots.{ref_at}
 use Rattle.im_record.proofs.AtLemmas.{HasAt-both, HasAt-moved}
-use Rattle.im_mtree.proofs.CheckLemmas.{AllHold, all-hold, each-holds}
+use Rattle.im_mtree.proofs.CheckLemmas.{all-hold, each-holds}
 use Rattle.im_record.proofs.NumberLemmas.{Put, put}
 use Rattle.im_record.proofs.PassLemmas.{IsFineSlot}
 use Rattle.im_record.proofs.ThereLemmas.{HasAt-number2, HasAt-number4, HasAt-number8, HasAt-octet, HasAt-octets, HasAt-signed, signed-fits}
 use Rattle.im_octet.proofs.FieldLemmas.{length-field2, length-field4, length-field8, length-signed}
 use Rattle.im_format.proofs.LengthLemmas.{length-entry, length-head, length-octets}
-
--- both tests
-and-both : (a b : Bool) → (a && b) ≡ true → (a ≡ true) × (b ≡ true)
-and-both true b h = (refl, h)
-and-both false b h = absurd cc
-
--- metadata that passes is that of attributes
-md-one : (a : ℕ) → (nat_eq a 0 || nat_eq a 2) ≡ true → AreAttributes (a ∷ [])
-md-one a h = elim (cases_eq a 0) [
-  | inl e ↦ (true, false, ap (λ (x : ℕ). x ∷ []) e)
-  | inr ne ↦ (
-      let two : nat_eq a 2 ≡ true = subst (λ (b : Bool). (b || nat_eq a 2) ≡ true) (ne_eqb a 0 ne) h in
-      (false, true, ap (λ (x : ℕ). x ∷ []) (eqb-true a 2 two)))
-]
-
-md-two : (a b : ℕ) → (nat_eq a 0 && nat_eq b 2) ≡ true → AreAttributes (a ∷ b ∷ [])
-md-two a b h =
-    let both = and-both (nat_eq a 0) (nat_eq b 2) h in
-    (true, true, ap (λ (x : ℕ). x ∷ b ∷ []) (eqb-true a 0 both.0) ∙ ap (λ (x : ℕ). 0 ∷ x ∷ []) (eqb-true b 2 both.1))
-
-md-passed : (at : ℕ) (md : List ℕ) → length md ≤ 2 → AllHold (md_checks at md) → AreAttributes md
-md-passed at [] short h = (false, false, refl)
-md-passed at (a ∷ []) short h = md-one a h.0
-md-passed at (a ∷ b ∷ []) short h = md-two a b h.1.0
-md-passed at (a ∷ b ∷ c ∷ rest) short h = absurd (omega arith)
+use Rattle.im_format.proofs.MetadataLemmas.{pass-attributes}
 
 -- an entry that passes is within the limits
 pub slot-passed : (image : Files) (id : ℕ) (keys : List (List ℕ)) (s : Slot) → 1 ≤ id
@@ -69,13 +45,14 @@ slot-passed image id keys s some w size h =
     let r = all-hold (slot_ref_checks image id s) rest.1 in
     let at : ℕ = s.start + 4 + s.md_len + s.key_len in
     let md_short : s.md_len ≤ 2 = leb-true s.md_len 2 m.1.0 in
+    let md = pass-attributes (s.start + 2) s.md (omega arith) m.1.1.1 in
     let end : at + 37 + 8 ≤ length (image 0) = leb-true (at + 37 + 8) (length (image 0)) r.1.1.1.1.1.0 in
     let short : s.ref.len ≤ 4096 = leb-true s.ref.len 4096 r.1.1.0 in
     let low : s.ref.at ≤ id * 2 ^ 22 - s.ref.len = leb-true s.ref.at (id * 2 ^ 22 - s.ref.len) r.1.1.1.1.1.1.0 in
     record {
       within = omega arith;
       md_short = md_short;
-      md = md-passed (s.start + 2) s.md (omega arith) m.1.1.1;
+      md = (md.deleted, md.non_indexable, md.is);
       key_given = leb-true 1 s.key_len k.1.0;
       key_short = leb-true s.key_len 1024 k.1.1.0;
       fresh = eqb-true (index_of s.key keys) (length keys) k.1.1.1.1.0;

@@ -2,9 +2,9 @@ ghost use Rattle.std.specs.Prelude.{◌≡◌, ◌≤◌, ◌+◌, length, IfOk,
 ghost use Rattle.im_mtree.specs.Checks.{first_fail};
 ghost use Rattle.im_format.specs.Damages.{alh_checks};
 
-use crate::fields::field;
+use crate::fields::{digests, field};
 use im_digest::D32;
-use im_format::damages::{Damage, Difference};
+use im_format::damages::Damage;
 
 /// Reads the Alh that ends a record, at a place of the transaction log, and gives the place where the record
 /// ends:
@@ -25,9 +25,9 @@ pub fn read_alh(log: &[u8], at: u64, want: &D32) -> Result<u64, Damage>
     ensures first { MatchResult result (λ end. first_fail (alh_checks log.now at want.now) ≡ Ok tt) (λ d. first_fail (alh_checks log.now at want.now) ≡ Err d) }
 {
     let got = field::<32>(log, at)?;
-    if got != *want {
-        let found = Difference::Digests { want: *want, got };
-        return Err(Damage { file: 0, at, found });
+    if got == *want {
+        Ok(at + 32)
+    } else {
+        Err(digests(at, want, &got))
     }
-    Ok(at + 32)
 }

@@ -1,8 +1,9 @@
 ghost use Rattle.std.specs.Prelude.{◌≡◌, ◌<◌, ◌≤◌, ◌+◌, length, IfErr, IfOk, OnOk};
-ghost use Rattle.im_format.specs.Damages.{numbers};
+ghost use Rattle.im_format.specs.Damages.{digests, numbers};
 ghost use Rattle.im_format.specs.Reading.{number2, number4, number8};
 ghost use Rattle.im_format.specs.Spans.{octets_at};
 
+use im_digest::D32;
 use im_format::damages::{Damage, Difference};
 use im_format::files::TRANSACTION_LOG;
 
@@ -11,6 +12,21 @@ pub(crate) fn numbers(at: u64, want: u64, got: u64) -> Damage
     ensures { result ≡ numbers 0 at want got }
 {
     let found = Difference::Numbers { want, got };
+    Damage {
+        file: TRANSACTION_LOG,
+        at,
+        found,
+    }
+}
+
+// Two digests of the transaction log that differ where they should not.
+pub(crate) fn digests(at: u64, want: &D32, got: &D32) -> Damage
+    ensures { result ≡ digests 0 at want.now got.now }
+{
+    let found = Difference::Digests {
+        want: *want,
+        got: *got,
+    };
     Damage {
         file: TRANSACTION_LOG,
         at,

@@ -57,11 +57,13 @@ impl<'a> Keys<'a> {
         ensures err { OnErr result (self.new ≡ self.old) }
     {
         let number = self.order.len() as u64;
-        self.order.push(key)?;
-        if let Err(error) = self.numbers.insert(key, number) {
-            self.order.pop();
-            return Err(AllocError::from(error));
+        self.order.reserve(1)?;
+        match self.numbers.insert(key, number) {
+            Ok(_) => {
+                self.order.push_reserved(key);
+                Ok(())
+            }
+            Err(error) => Err(AllocError::from(error)),
         }
-        Ok(())
     }
 }

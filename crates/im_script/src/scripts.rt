@@ -1,6 +1,6 @@
 ghost use Rattle.std.specs.Prelude.{◌≡◌, ◌+◌, ◌≤◌, ◌↔◌, ℕ, length, IfOk, IsTrue, OnErr, OnOk, [], false};
 ghost use Rattle.im_text.specs.Finds.{Finds};
-ghost use Rattle.im_script.specs.Script.{IsScriptLine, IsPassedOver, MayFollow, IsScript, StopsAfter, end_of_phase, has_name, lines_of, names_of};
+ghost use Rattle.im_script.specs.Script.{IsScriptLine, IsPassedOver, MayFollow, IsScript, StopsAfter, end_of_phase, has_name, lines_of, names_of, with_name};
 ghost use Rattle.im_script.specs.Arguments.{IsTaken, IsTextRefused, with_end, with_line};
 
 use crate::commands::Line;
@@ -66,11 +66,13 @@ impl SoFar {
     fn put(&mut self, alloc: Global, line: Line) -> Result<(), AllocError>
         ensures { OnOk result (self.new ≡ with_line self.old line) }
     {
-        if !has_name(&self.names, line.session.as_slice()) {
-            let name = Octets::from_slice(alloc, line.session.as_slice())?;
-            self.names.push(name).map_err(AllocError::from)?;
+        match put_name(alloc, &mut self.names, line.session.as_slice()) {
+            Ok(()) => self.lines.push(line).map_err(AllocError::from),
+            Err(error) => {
+                drop(line);
+                Err(error)
+            }
         }
-        self.lines.push(line).map_err(AllocError::from)
     }
 
     // Ends a phase.
@@ -89,6 +91,17 @@ fn has_name(names: &[Octets], name: &[u8]) -> bool
     ensures { result ≡ has_name names.now name.now }
 {
     names.iter().any(|first| first.as_slice() == name)
+}
+
+// Puts the name of a session behind the others, where it is new.
+fn put_name(alloc: Global, names: &mut Vec<Octets>, session: &[u8]) -> Result<(), AllocError>
+    ensures { OnOk result (names.new.items ≡ with_name names.old.items session.now) }
+{
+    if has_name(names.as_slice(), session) {
+        return Ok(());
+    }
+    let name = Octets::from_slice(alloc, session)?;
+    names.push(name).map_err(AllocError::from)
 }
 
 // Whether a text is empty or a comment.
@@ -120,6 +133,7 @@ fn read_next(alloc: Global, text: &[u8], names: &[Octets]) -> Result<Option<Line
         return Ok(None);
     };
     if !may_follow(names, &line) {
+        drop(line);
         return Ok(None);
     }
     Ok(Some(line))

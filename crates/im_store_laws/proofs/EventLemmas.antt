@@ -5,6 +5,7 @@ use Rattle.std.proofs.lemmas.List.{get_or-take, length-take-le, take-map, take_m
 use Rattle.std.specs.Prelude.{slice_index_or}
 use Rattle.im_digest.specs.Digests.{Hash}
 use Rattle.im_dual.proofs.FrontLemmas.{front-anchor, front-between}
+use Rattle.im_format.proofs.HeldRecords.{tx_of}
 use Rattle.im_machine.specs.Answers.{IsShown}
 use Rattle.im_machine.specs.Machines.{raised, Machine}
 use Rattle.im_machine.specs.Runs.{Run}
@@ -42,17 +43,12 @@ got [] k x d is = absurd cc
 got (y ∷ xs) zero x d is = cc (is)
 got (y ∷ xs) (suc k) x d is = got xs k x d is
 
--- a transaction of these parts
-made : ℤ → List Entry → ℕ → Transaction
-made ts entries bl = record { ts = ts; entries = entries; bl = bl }
-
 -- the history of the first items
 front_history : (xs : List LogItem) (k : ℕ) → take k (history_of xs) ≡ history_of (take k xs)
 front_history xs k = take-map (λ (x : LogItem). x.tx) k xs
 
 pub place_event : (hash : Hash) (time : Option ℤ) (asked : Asked) (old new : KnownPass) (n : ℕ) → HasPlaced time asked old new n
     → IsPlaceStep hash (history_of new.view.seen) asked n
-unfolding made
 place_event hash time asked old new n p m session up placed linked =
     let h : List Transaction = history_of new.view.seen in
     let t : Transaction = transaction_of h n in
@@ -60,8 +56,8 @@ place_event hash time asked old new n p m session up placed linked =
     let within : n ≤ length h = omega (arith, p.within, history_length new.view.seen) in
     let is : t ≡ p.at.item.tx = got new.view.seen (n - 1) p.at.item no_transaction p.at.item_is in
     let entries : asked.entries ≡ t.entries = sym (ap (λ (x : Transaction). x.entries) is ∙ p.at.entries_are) in
-    let tx : Transaction = made t.ts asked.entries m.linked in
-    let same : tx ≡ t = ap (λ (es : List Entry). made t.ts es m.linked) entries ∙ ap (λ (b : ℕ). made t.ts t.entries b) linked in
+    let tx : Transaction = tx_of t.ts asked.entries m.linked in
+    let same : tx ≡ t = ap (λ (es : List Entry). tx_of t.ts es m.linked) entries ∙ ap (λ (b : ℕ). tx_of t.ts t.entries b) linked in
     let last : n - 1 + 1 ≡ n = omega (arith, some) in
     let below : n - 1 < length h = omega (arith, some, within) in
     let grown : m.placed ++ tx ∷ [] ≡ take n h =
@@ -83,10 +79,9 @@ place_event hash time asked old new n p m session up placed linked =
 
 pub refusal_event : (hash : Hash) (asked : Asked) (old new : KnownPass) (why : PlaceError) (at : ℕ) → IsRefusedAt asked old new why at
     → IsRefusalStep hash (history_of new.view.seen) asked why at
-unfolding made
 refusal_event hash asked old new why at r m session ts up placed =
     let h : List Transaction = history_of new.view.seen in
-    let tx : Transaction = made ts asked.entries m.linked in
+    let tx : Transaction = tx_of ts asked.entries m.linked in
     let within : at ≤ length h = omega (arith, r.within, history_length new.view.seen) in
     let count : at ≡ length m.placed = sym (ap (λ (l : List Transaction). length l) placed ∙ length-take-le at h within) in
     let some : place_refusal m.placed asked.pres ≡ Some why =

@@ -96,7 +96,8 @@ impl<D: Disk> Journal<D> {
         self.batch.step
     }
 
-    /// The number of transactions of the batch in progress, and where none is of the last one; 0 before the first.
+    /// The number of transactions of the batch in progress. What it tells where none is no clause says: by the source, that of
+    /// the last one, and 0 before the first. So it is a hint there, as for whether to let others run first.
     pub fn batch_count(&self) -> u64
         ensures { result ≡ self.now.batch.count }
     {

@@ -1,5 +1,5 @@
 use Rattle.std.proofs.Common.{arith, ◌<◌, ◌^◌}
-use Rattle.im_journal.proofs.pieces.plan_of.Goals as goal
+use Rattle.im_journal.proofs.pieces.push_pieces.Goals as goal
 
 pub push_value_piece-requires-clause-place : goal.push_value_piece-requires-clause-place
 push_value_piece-requires-clause-place c = c.requires.room 2
