@@ -31,11 +31,12 @@ use std::{fs, io};
 /// # Invariants
 ///
 /// - What a sync still has to bring to the disk stays marked: a write marks its file (`unsynced`) and
-///   takes no other mark away (`stays`, by `Stays`). After a sync that succeeds nothing is marked
-///   (`all`, by `AllBrought`), and after one that ends in an error something still is (`left`), and
-///   what comes behind it keeps its mark (`kept`, by `KeepsRest`).
+///   takes no other mark away (`stays`, by `Stays`); no clause of a public call says that it marks the
+///   names and the folder that it makes. After a sync that succeeds nothing
+///   is marked (`all`, by `AllBrought`), and after one that ends in an error something still is
+///   (`left`), and what comes behind it keeps its mark (`kept`, by `KeepsRest`).
 /// - What was lost stays lost: a sync that fails loses (`failed`), and no sync succeeds from then on
-///   (`lost`, `still`).
+///   (`lost`, `still`); one that memory ran out for loses nothing (`again`).
 /// - Failures are counted, as for each disk (`cause`), and each one as one, up to `u64::MAX`
 ///   (`count`).
 /// - The folder stays the same (`path`).
@@ -293,6 +294,7 @@ impl<R: Files> Disk for FolderDisk<'_, R> {
         ensures kept { OnErr result (KeepsRest self.old.unsynced self.new.unsynced) }
         ensures failed { IsErrOf result Failed → IsTrue self.new.unsynced.lost }
         ensures still { IsTrue self.old.unsynced.lost → IsTrue self.new.unsynced.lost }
+        ensures again { IsErrOf result DiskError.Memory → self.new.unsynced.lost ≡ self.old.unsynced.lost }
         ensures cause { HasCause self.old.failures self.new.failures result }
         ensures count { IsErrOf result Failed →
             self.new.failures ≡ min (self.old.failures + 1) (2 ^ 64 - 1) }
