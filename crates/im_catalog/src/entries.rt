@@ -64,14 +64,21 @@ pub fn row_key(alloc: Global, table: &Table, row: &[Value]) -> Result<Octets, Al
     Ok(Octets::from_vec(out.into_vec()))
 }
 
+// Writes what the keys of an index's entries begin with. Where memory is short, a part of it may be written.
+fn push_prefix(out: &mut Writer, table: &Table, index: &SqlIndex) -> Result<(), AllocError>
+    ensures { OnOk result (out.new ≡ out.old ++ entries_prefix table.now index.now) }
+{
+    out.octets(&[0, if index.unique { 6 } else { 5 }])?;
+    out.u32(table.tid)?;
+    out.u32(index.iid)
+}
+
 /// What the keys of an index's entries begin with: 00 05, or 00 06 where it is unique, the table's number, its own.
 pub fn entries_prefix(alloc: Global, table: &Table, index: &SqlIndex) -> Result<Octets, AllocError>
     ensures { IfOk result (λ prefix. prefix ≡ entries_prefix table.now index.now) }
 {
     let mut out = Writer::new(alloc);
-    out.octets(&[0, if index.unique { 6 } else { 5 }])?;
-    out.u32(table.tid)?;
-    out.u32(index.iid)?;
+    push_prefix(&mut out, table, index)?;
     Ok(Octets::from_vec(out.into_vec()))
 }
 
@@ -97,9 +104,7 @@ fn entry_key(
     ensures { IfOk result (λ key. key ≡ (spec.entry_written table.now row.now index.now).key) }
 {
     let mut out = Writer::new(alloc);
-    out.octets(&[0, if index.unique { 6 } else { 5 }])?;
-    out.u32(table.tid)?;
-    out.u32(index.iid)?;
+    push_prefix(&mut out, table, index)?;
     push_columns(alloc, &mut out, row, index.columns.as_slice())?;
     if !index.unique {
         push_columns(alloc, &mut out, row, table.key.as_slice())?;

@@ -1,6 +1,7 @@
 //! The keys under which tables and indexes stand. The only error of each call is want of memory.
 
-ghost use Rattle.std.specs.Prelude.{◌≡◌, ◌++◌, IfOk, OnOk};
+ghost use Rattle.std.specs.Prelude.{◌≡◌, ◌∷◌, IfOk};
+ghost use Rattle.im_octet.specs.Fields.{field4};
 ghost use Rattle.im_sqlmodel.specs.Keys as spec;
 
 use im_octet::octets::Octets;
@@ -12,6 +13,16 @@ pub fn tables_key() -> [u8; 2]
     ensures { result ≡ spec.tables_key }
 {
     [0, 0]
+}
+
+// The key of octet 00, this octet and a table's number.
+fn key_of(alloc: Global, second: u8, tid: u32) -> Result<Octets, AllocError>
+    ensures { IfOk result (λ key. key ≡ 0 ∷ second ∷ field4 tid) }
+{
+    let mut out = Writer::new(alloc);
+    out.octets(&[0, second])?;
+    out.u32(tid)?;
+    Ok(Octets::from_vec(out.into_vec()))
 }
 
 /// The key of a table: 00 01, its name.
@@ -28,10 +39,7 @@ pub fn table_key(alloc: Global, name: &[u8]) -> Result<Octets, AllocError>
 pub fn index_prefix(alloc: Global, tid: u32) -> Result<Octets, AllocError>
     ensures { IfOk result (λ key. key ≡ spec.index_prefix tid) }
 {
-    let mut out = Writer::new(alloc);
-    out.octets(&[0, 2])?;
-    out.u32(tid)?;
-    Ok(Octets::from_vec(out.into_vec()))
+    key_of(alloc, 2, tid)
 }
 
 /// The key of an index: 00 02, the table's number, its own.
@@ -49,18 +57,12 @@ pub fn index_key(alloc: Global, tid: u32, iid: u32) -> Result<Octets, AllocError
 pub fn mark_key(alloc: Global, tid: u32) -> Result<Octets, AllocError>
     ensures { IfOk result (λ key. key ≡ spec.mark_key tid) }
 {
-    let mut out = Writer::new(alloc);
-    out.octets(&[0, 3])?;
-    out.u32(tid)?;
-    Ok(Octets::from_vec(out.into_vec()))
+    key_of(alloc, 3, tid)
 }
 
 /// What the keys of a table's rows begin with: 00 04, its number.
 pub fn rows_prefix(alloc: Global, tid: u32) -> Result<Octets, AllocError>
     ensures { IfOk result (λ key. key ≡ spec.rows_prefix tid) }
 {
-    let mut out = Writer::new(alloc);
-    out.octets(&[0, 4])?;
-    out.u32(tid)?;
-    Ok(Octets::from_vec(out.into_vec()))
+    key_of(alloc, 4, tid)
 }

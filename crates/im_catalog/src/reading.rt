@@ -40,23 +40,19 @@ fn read_parts(alloc: Global, name: &[u8], text: &[u8]) -> Result<Option<Table>, 
     let Some((count, behind)) = read_number(behind_tid) else {
         return Ok(None);
     };
-    let name = Octets::from_slice(alloc, name)?;
     let Some((columns, left)) = read_columns(alloc, count, behind)? else {
         return Ok(None);
     };
-    let columns = Items::from_vec(columns);
-    match read_key(alloc, left)? {
-        Some(key) => Ok(Some(Table {
-            tid,
-            name,
-            columns,
-            key,
-        })),
-        None => {
-            drop(columns);
-            Ok(None)
-        }
-    }
+    let Some(key) = read_key(alloc, left)? else {
+        return Ok(None);
+    };
+    let name = Octets::from_slice(alloc, name)?;
+    Ok(Some(Table {
+        tid,
+        name,
+        columns: Items::from_vec(columns),
+        key,
+    }))
 }
 
 // The numbers whose text is this one, behind which nothing stands.

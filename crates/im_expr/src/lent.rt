@@ -11,7 +11,7 @@ use im_sqltype::values::Value;
 use std::cmp::Ordering;
 
 /// A value that is lent.
-#[derive(Clone, Copy, Debug)]
+#[derive(Clone, Copy)]
 pub enum Lent<'v> {
     /// NULL.
     Null,

@@ -182,6 +182,7 @@ fn rows_of_entries<V: KvView>(
 {
     let shown = view.scan(alloc, front, n)?;
     let mut keys = row_keys(alloc, table, index, shown.as_slice())?;
+    drop(shown);
     keys.sort()?;
     let mut found = Vec::with_capacity(alloc, keys.len())?;
     for key in &keys {

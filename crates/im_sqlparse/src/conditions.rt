@@ -75,14 +75,25 @@ fn compared(
     ensures { ReadsTokens (spec.compared rev left tokens.old) result tokens.new }
 {
     let at = tokens.place();
-    let operator = comparator(tokens)?;
-    let right = side(alloc, tokens, rev)?;
-    Ok(Condition::Compare {
-        left,
-        operator,
-        at,
-        right,
-    })
+    let operator = match comparator(tokens) {
+        Ok(operator) => operator,
+        Err(fault) => {
+            drop(left);
+            return Err(fault);
+        }
+    };
+    match side(alloc, tokens, rev) {
+        Ok(right) => Ok(Condition::Compare {
+            left,
+            operator,
+            at,
+            right,
+        }),
+        Err(fault) => {
+            drop(left);
+            Err(fault)
+        }
+    }
 }
 
 // What follows a column and IS.
@@ -198,8 +209,13 @@ fn nested(
     ensures { ReadsTokens (spec.nested (spec.factor rev depth) tokens.old) result tokens.new }
 {
     let found = disjunction(alloc, tokens, rev, depth)?;
-    tokens.expect(Kind::Close)?;
-    Ok(found)
+    match tokens.expect(Kind::Close) {
+        Ok(()) => Ok(found),
+        Err(fault) => {
+            drop(found);
+            Err(fault)
+        }
+    }
 }
 
 // NOT or a parenthesis, in which factors of this depth stand.

@@ -12,7 +12,7 @@ use crate::kinds::{KEYWORDS, Kind};
 pub type Token = (Kind, usize);
 
 // Classes of octets.
-#[derive(Clone, Copy, Debug)]
+#[derive(Clone, Copy)]
 enum Class {
     Blank,
     Word,

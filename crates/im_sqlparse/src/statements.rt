@@ -21,7 +21,7 @@ pub enum Literal {
 }
 
 /// What a column holds.
-#[derive(Clone, Copy, Debug, PartialEq, Eq)]
+#[derive(Clone, Copy)]
 pub enum DeclaredType {
     /// Numbers of 64 bits with a sign.
     Integer,
@@ -45,7 +45,7 @@ pub struct ColumnDefinition {
 }
 
 /// How two operands are compared.
-#[derive(Clone, Copy, Debug, PartialEq, Eq)]
+#[derive(Clone, Copy)]
 pub enum Operator {
     /// `=`
     Equal,
@@ -100,7 +100,7 @@ pub enum Condition {
 }
 
 /// How many transactions a SELECT reads after.
-#[derive(Clone, Copy, Debug, PartialEq, Eq)]
+#[derive(Clone, Copy)]
 pub enum Period {
     /// All of them.
     Now,

@@ -1,6 +1,7 @@
-use Rattle.std.proofs.Common.{◌+◌, ◌∷◌, [], ℕ, List, take, sym, subst}
-use Rattle.std.proofs.lemmas.List.{map-append}
+use Rattle.std.proofs.Common.{◌+◌, ◌∷◌, [], ℕ, List, take, sym, subst, arith}
+use Rattle.std.proofs.lemmas.List.{map-append, take_all}
 use Rattle.std.specs.List.{AllZip}
+use Rattle.im_versions.specs.declared.versions.Version.{Version}
 use Rattle.im_catalog.proofs.ZipLemmas.{zip-more}
 use Rattle.im_plan.specs.Plans.{HasEntryText, IsKeyOfEntry}
 use Rattle.im_plan.proofs.EntryRowLemmas.{Octets8, octets_of}
@@ -17,3 +18,8 @@ loop-entry-preserved c =
     (subst (λ (octets : List (List ℕ)). AllZip R (take (c.loop-entry.entry-index + 1) c.args.entries.now) octets) (sym (map-append (λ (k : Octets8). k.items) c.loop-entry.keys.items (c.in_ok-key.key ∷ [])))
     (zip-more R c.args.entries.now (octets_of c.loop-entry.keys.items) c.loop-entry.entry-index c.entry-item.result c.in_ok-key.key.items
     c.loop-entry-test.true c.entry-item.is c.loop-entry.invariant c.in_ok-key.ensures))
+
+pub returns : goal.returns
+returns c =
+    subst (λ (entries : List Version). AllZip (IsKeyOfEntry c.args.table.now c.args.index.now) entries (octets_of c.loop-entry.keys.items))
+    (take_all c.loop-entry.entry-index c.args.entries.now (omega arith)) c.loop-entry.invariant

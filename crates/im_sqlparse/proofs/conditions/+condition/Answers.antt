@@ -77,13 +77,13 @@ pub nested-returns-in_err-found : goal.nested-returns-in_err-found
 unfolding nested
 nested-returns-in_err-found t c = first_of (search rules, grind (arith, common_steps), search (rules, the_lemmas), grind (arith, the_lemmas))
 
-pub nested-returns-in_err-expect : goal.nested-returns-in_err-expect
+pub nested-returns-in-Err : goal.nested-returns-in-Err
 unfolding nested
-nested-returns-in_err-expect t c = first_of (search rules, grind (arith, common_steps), search (rules, the_lemmas), grind (arith, the_lemmas))
+nested-returns-in-Err t c = first_of (search rules, grind (arith, common_steps), search (rules, the_lemmas), grind (arith, the_lemmas))
 
-pub nested-returns : goal.nested-returns
+pub nested-returns-in-Ok : goal.nested-returns-in-Ok
 unfolding nested
-nested-returns t c = first_of (search rules, grind (arith, common_steps), search (rules, the_lemmas), grind (arith, the_lemmas))
+nested-returns-in-Ok t c = first_of (search rules, grind (arith, common_steps), search (rules, the_lemmas), grind (arith, the_lemmas))
 
 pub deeper-returns-then-eat : goal.deeper-returns-then-eat
 unfolding deeper
