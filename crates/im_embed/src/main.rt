@@ -2,7 +2,7 @@
 //! printed.
 #![tactic(auto)]
 
-use im_app::status::Status;
+use im_app::status::{Done, Status};
 use im_app::top::top;
 use im_digest::Sha;
 use im_disk::memory::MemDisk;
@@ -32,29 +32,37 @@ fn main(rt: HostRuntime) -> ExitCode {
 fn run_both<R: Print + Alloc<A = Global> + Threads + Wait + Sync>(
     rt: &R,
 ) -> Result<Status, AllocError> {
+    let words = words_of(rt.alloc())?;
     let disk = MemDisk::new(rt.alloc(), Vec::new(rt.alloc()))?;
-    let (status, disk) = run(rt, disk, FIRST)?;
-    if status != Status::Ok {
-        return Ok(status);
-    }
-    let (status, _) = run(rt, disk, SECOND)?;
+    let (first, disk) = run(rt, &words, disk, FIRST);
+    let (status, disk) = match first {
+        Status::Ok => run(rt, &words, disk, SECOND),
+        _ => (first, disk),
+    };
+    drop(disk);
     Ok(status)
+}
+
+// The words of the command line.
+fn words_of(alloc: Global) -> Result<Vec<String>, AllocError> {
+    let mut words = Vec::new(alloc);
+    for word in ["im", "run"] {
+        words.push(String::from_str(alloc, word)?)?;
+    }
+    Ok(words)
 }
 
 // Runs a script over a disk, prints its report, and hands the disk back.
 fn run<R: Print + Alloc<A = Global> + Threads + Wait + Sync>(
     rt: &R,
+    words: &[String],
     disk: MemDisk,
     script: &str,
-) -> Result<(Status, MemDisk), AllocError> {
-    let mut words = Vec::new(rt.alloc());
-    for word in ["im", "run"] {
-        words.push(String::from_str(rt.alloc(), word)?)?;
-    }
-    let done = top(
+) -> (Status, MemDisk) {
+    let Done { status, disk, .. } = top(
         rt,
         rt.alloc(),
-        words.as_slice(),
+        words,
         &Sha,
         &mut Reading::new(script.as_bytes()),
         &mut Writing::new(io::writer(rt)),
@@ -63,5 +71,5 @@ fn run<R: Print + Alloc<A = Global> + Threads + Wait + Sync>(
         TickingClock { asked: 0 },
         &OpenGate,
     );
-    Ok((done.status, done.disk))
+    (status, disk)
 }

@@ -4,7 +4,7 @@
 mod clock;
 
 use clock::SystemClock;
-use im_app::status::Status;
+use im_app::status::{Done, Status};
 use im_app::top::top;
 use im_digest::Sha;
 use im_edge::file_keeper::FileKeeper;
@@ -33,37 +33,54 @@ const NOWHERE: &str = "/";
 fn main(rt: HostRuntime) -> ExitCode {
     // A file that is opened gets the number of a standard end that is closed, and what was meant for that end
     // would be written into it. These are opened before all files of the store, and that end fails instead.
-    let _ends = [
+    let ends = [
         fs::open(&rt, NOWHERE),
         fs::open(&rt, NOWHERE),
         fs::open(&rt, NOWHERE),
     ];
-    let Ok(args) = env::args(&rt) else {
-        return ended(&rt, Status::Usage);
+    let words = match words_of(&rt) {
+        Ok(words) => words,
+        Err(status) => {
+            let code = ended(&rt, status);
+            drop(ends);
+            return code;
+        }
     };
-    let Ok(words) = args.collect::<Vec<String>>(rt.alloc()) else {
-        return ended(&rt, Status::Memory);
-    };
-    let mut source = Reading::new(rt.reader());
-    let mut sink = Writing::new(io::writer(&rt));
     let disk = LockedFolder::new(&rt, rt.alloc(), STORED, LOCK);
     let mut keeper = LockedKeeper::new(
         FileKeeper::new(&rt, rt.alloc(), KEPT),
         FileLock::new(&rt, KEPT),
     );
-    let done = top(
+    let Done { status, disk, .. } = top(
         &rt,
         rt.alloc(),
         words.as_slice(),
         &Sha,
-        &mut source,
-        &mut sink,
+        &mut Reading::new(rt.reader()),
+        &mut Writing::new(io::writer(&rt)),
         disk,
         &mut keeper,
         SystemClock { rt: &rt },
         &OpenGate,
     );
-    ended(&rt, done.status)
+    // Both locks are held until the end was told.
+    let code = ended(&rt, status);
+    drop(disk);
+    drop(keeper);
+    drop(words);
+    drop(ends);
+    code
+}
+
+// The words of the command line, or how a run ends where they can't be had.
+fn words_of(rt: &HostRuntime) -> Result<Vec<String>, Status> {
+    let Ok(args) = env::args(rt) else {
+        return Err(Status::Usage);
+    };
+    let Ok(words) = args.collect::<Vec<String>>(rt.alloc()) else {
+        return Err(Status::Memory);
+    };
+    Ok(words)
 }
 
 // Tells how a run ended, on standard error and by the exit status.

@@ -111,6 +111,15 @@ linked_answered hash old mid new count before size answer l m g linked k is abov
           (omega (arith, gains.leaves, l.linked, linked.known, linked.grows, linked.shown));
     }
 
+-- the same where memory for the reply ran out
+pub linked_unanswered : (old mid new : KnownPass) (count before size : ℕ) (given : Result Answer LineError) → IsErrAnd given (λ why. why ≡ Memory) → Later old mid → Later mid new → Gains [] 0 0 old mid
+    → IsLinked mid new count before size → Gains [] (size - before) 0 mid new → IfErr given (λ why. IsUnanswered old new (Link count) why)
+linked_unanswered old mid new count before size given short l m g linked k =
+    let whole : Later old new = later_both old mid new l m in
+    let gains : Gains [] (size - before) 0 old new = gains_before (size - before) 0 old mid new g k in
+    if-err (λ why. IsUnanswered old new (Link count) why) given Memory short
+    (λ session. stuck_none old new (record { session = session; command = Link count }) (size - before) whole gains (omega (arith, gains.leaves, l.linked, linked.known, linked.grows, linked.shown)))
+
 -- `get`, `scan`, `history`, by what stands behind the first transactions
 pub got_answered : (hash : Hash) (old mid new : KnownPass) (key : List ℕ) (at : Option ℕ) (answer : Answer) → Later old mid → Later mid new → Gains [] 0 0 old mid → Gains [] 0 0 mid new
     → mid.view.least.durable ≡ answer.number → old.view.least.durable ≤ answer.number → answer.number ≤ length new.view.seen

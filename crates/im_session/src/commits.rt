@@ -54,8 +54,14 @@ fn refused(alloc: Global, error: CommitError) -> Result<Answer, LineError>
             Ok(refusal(alloc, PlaceError::Modified { key, tx }, at)?)
         }
         CommitError::Full { at } => Ok(refusal(alloc, PlaceError::Full, at)?),
-        CommitError::DiskFault { .. } | CommitError::Stopped { .. } => Err(LineError::DiskFault),
-        CommitError::Memory { .. } => Err(LineError::Memory),
+        CommitError::DiskFault { .. } | CommitError::Stopped { .. } => {
+            drop(error);
+            Err(LineError::DiskFault)
+        }
+        CommitError::Memory { .. } => {
+            drop(error);
+            Err(LineError::Memory)
+        }
     }
 }
 

@@ -49,7 +49,10 @@ fn answer<H: Hash32, D: Disk, C: Clock, N: TipName, R: Wait>(
         Command::Set { pres, drafts } => {
             answer_set(rt, alloc, store, pass, pres, drafts.into_vec())
         }
-        Command::Link { count } => answer_link(rt, alloc, store, pass, count),
+        Command::Link { count } => {
+            drop(command);
+            answer_link(rt, alloc, store, pass, count)
+        }
         Command::Sql { text } => {
             let answer = answer_sql(rt, alloc, store, pass, text.as_str());
             drop(text);
@@ -113,7 +116,10 @@ fn run_line<H: Hash32, D: Disk, C: Clock, N: TipName, R: Wait>(
     ensures ok { OnOk result ((a : TheAnswered) × (a.line ≡ line) × IsStep N.digest pass.old pass.new a × (texts.new.items ≡ texts.old.items ++ answer_line a ∷ [])) }
     ensures err { IfErr result (λ why. IsStuck pass.old pass.new line why × (texts.new.items ≡ texts.old.items)) }
 {
-    texts.reserve(1)?;
+    let Ok(()) = texts.reserve(1) else {
+        drop(line);
+        return Err(LineError::Memory);
+    };
     let Line { session, command } = line;
     let Answer { number, reply } = answer(rt, alloc, store, pass, command)?;
     tidings.tell(rt, number);

@@ -146,7 +146,9 @@ pub(crate) fn answer_get<H: Hash32, D: Disk, C: Clock, N: TipName, R: Wait>(
 {
     let number = store.tip(pass);
     let keys = keys_at(rt, alloc, store, pass, number)?;
-    let reply = get_text(alloc, &keys, number, key, at)?;
+    let shown = get_text(alloc, &keys, number, key, at);
+    drop(keys);
+    let reply = shown?;
     Ok(Answer { number, reply })
 }
 
@@ -166,7 +168,9 @@ pub(crate) fn answer_scan<H: Hash32, D: Disk, C: Clock, N: TipName, R: Wait>(
 {
     let number = store.tip(pass);
     let keys = keys_at(rt, alloc, store, pass, number)?;
-    let reply = scan_shown(alloc, &keys, number, prefix, at)?;
+    let shown = scan_shown(alloc, &keys, number, prefix, at);
+    drop(keys);
+    let reply = shown?;
     Ok(Answer { number, reply })
 }
 
@@ -185,6 +189,8 @@ pub(crate) fn answer_history<H: Hash32, D: Disk, C: Clock, N: TipName, R: Wait>(
 {
     let number = store.tip(pass);
     let keys = keys_at(rt, alloc, store, pass, number)?;
-    let reply = history_shown(alloc, &keys, number, key)?;
+    let shown = history_shown(alloc, &keys, number, key);
+    drop(keys);
+    let reply = shown?;
     Ok(Answer { number, reply })
 }

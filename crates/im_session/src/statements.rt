@@ -42,16 +42,26 @@ fn unplaced(alloc: Global, error: CommitError, read: u64) -> Result<Answer, Line
     ensures ok { IfOk result (λ answer. IsStatementRefusal read error answer) }
     ensures err { IfErr result (λ why. why ≡ fault_of error) }
 {
+    let answer = unplaced_reply(alloc, &error, read);
+    drop(error);
+    answer
+}
+
+// The same of an error that is lent.
+fn unplaced_reply(alloc: Global, error: &CommitError, read: u64) -> Result<Answer, LineError>
+    requires asked { IsOfStatement error.now }
+    ensures ok { IfOk result (λ answer. IsStatementRefusal read error.now answer) }
+    ensures err { IfErr result (λ why. why ≡ fault_of error.now) }
+{
     match error {
-        CommitError::Modified { key, tx, at } => {
-            let reply = conflict_text(alloc, key.as_slice(), tx, read)?;
-            drop(key);
-            Ok(Answer { number: at, reply })
-        }
-        CommitError::Full { at } => {
-            let reply = full_read_text(alloc, read)?;
-            Ok(Answer { number: at, reply })
-        }
+        CommitError::Modified { key, tx, at } => Ok(Answer {
+            number: *at,
+            reply: conflict_text(alloc, key.as_slice(), *tx, read)?,
+        }),
+        CommitError::Full { at } => Ok(Answer {
+            number: *at,
+            reply: full_read_text(alloc, read)?,
+        }),
         CommitError::DiskFault { .. } | CommitError::Stopped { .. } => Err(LineError::DiskFault),
         CommitError::Memory { .. } => Err(LineError::Memory),
         CommitError::Missing { .. } | CommitError::Exists { .. } => unreachable!(),
@@ -94,19 +104,22 @@ fn shown(alloc: Global, answer: Result<SqlOut, SqlError>) -> Result<Vec<u8>, Lin
     ensures ok { IfOk result (λ reply. IsShown answer reply.items) }
     ensures err { IfErr result (λ why. why ≡ LineError.Memory) }
 {
+    let reply = reply_to(alloc, &answer);
+    drop(answer);
+    reply
+}
+
+// The reply to a statement that got this answer, as above.
+fn reply_to(alloc: Global, answer: &Result<SqlOut, SqlError>) -> Result<Vec<u8>, LineError>
+    requires shown { (prepared : _) → answer.now ≡ Ok (SqlOut.Write prepared) → ⊥ }
+    ensures ok { IfOk result (λ reply. IsShown answer.now reply.items) }
+    ensures err { IfErr result (λ why. why ≡ LineError.Memory) }
+{
     match answer {
-        Ok(SqlOut::Rows(rows)) => {
-            let reply = rows_text(alloc, &rows);
-            drop(rows);
-            Ok(reply?)
-        }
+        Ok(SqlOut::Rows(rows)) => Ok(rows_text(alloc, rows)?),
         Ok(SqlOut::Nothing) => Ok(Vec::from_slice(alloc, b"none")?),
         Ok(SqlOut::Write(_)) => unreachable!(),
-        Err(error) => {
-            let reply = error_text(alloc, &error);
-            drop(error);
-            Ok(reply?)
-        }
+        Err(error) => Ok(error_text(alloc, error)?),
     }
 }
 

@@ -3,7 +3,7 @@
 use std::sync::{Condvar, Mutex, Wait};
 
 // How far a phase has come.
-#[derive(Clone, Copy)]
+#[derive(Drop)]
 struct SoFar {
     // How many transactions are durable, as some session was told.
     durable: u64,

@@ -10,7 +10,7 @@ use crate::sessions::Ended;
 use im_edge::sink::{Sink, WriteFault, write_all};
 
 /// How far the replies of a phase go, in the script's order.
-#[derive(Clone, Copy)]
+#[derive(Drop)]
 pub(crate) struct Front {
     /// How many lines stand before the first without a reply.
     pub(crate) count: usize,

@@ -11,7 +11,7 @@ use im_octet::octets::Octets;
 use std::alloc::{AllocError, Global};
 
 /// Why kept lines weren't taken.
-#[derive(Clone, Copy, Debug, PartialEq, Eq)]
+#[derive(Clone, Copy)]
 pub(crate) enum KeptError {
     /// Memory ran out.
     Memory,
@@ -53,8 +53,15 @@ pub(crate) fn take_kept<'h, 'l, H: Hash32>(
 {
     let mut client = FactClient::new(alloc, hash);
     for (i, line) in lines.iter().enumerate() {
-        let taken = client.take_line(alloc, line.as_slice())?;
+        let taken = match client.take_line(alloc, line.as_slice()) {
+            Ok(taken) => taken,
+            Err(error) => {
+                drop(client);
+                return Err(KeptError::from(error));
+            }
+        };
         if is_rejected(&taken) {
+            drop(client);
             drop(taken);
             return Err(KeptError::Line(i as u64 + 1));
         }

@@ -22,7 +22,7 @@ use im_wire::writing::write;
 use std::alloc::Global;
 
 /// How a line ended, or all lines of a stream.
-#[derive(Clone, Copy, Debug, PartialEq, Eq)]
+#[derive(Clone, Copy)]
 pub(crate) enum LineEnd {
     /// It was passed over or accepted; of a stream, each line was.
     Fine,

@@ -48,8 +48,10 @@ fn show_lines<H: Hash32, K: Sink>(
         Err(KeptError::Line(line)) => return ShowEnd::Kept { line },
     };
     let Ok(text) = known_text(alloc, hash, &client) else {
+        drop(client);
         return ShowEnd::Memory;
     };
+    drop(client);
     match write_all(sink, text.as_slice()) {
         Ok(()) => ShowEnd::Ok,
         Err(_) => ShowEnd::WriteFault,

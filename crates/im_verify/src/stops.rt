@@ -5,7 +5,7 @@ use im_edge::sink::WriteFault;
 use std::alloc::AllocError;
 
 /// Why a line wasn't told and kept.
-#[derive(Clone, Copy, Debug, PartialEq, Eq)]
+#[derive(Clone, Copy)]
 pub(crate) enum Stop {
     /// The sink failed. The message is kept.
     WriteFault,

@@ -9,19 +9,18 @@ use Rattle.im_store.proofs.GainLemmas.{gains_same, later_self}
 use Rattle.im_session.proofs.lines.run_line.Goals as goal
 
 -- memory ran out before the line
-pub returns-in_err-reserve-clause-later : goal.returns-in_err-reserve-clause-later
-returns-in_err-reserve-clause-later g c = later_self c.args.pass.now
+pub returns-in_default-clause-later : goal.returns-in_default-clause-later
+returns-in_default-clause-later g c = later_self c.args.pass.now
 
-pub returns-in_err-reserve-clause-err : goal.returns-in_err-reserve-clause-err
-returns-in_err-reserve-clause-err g c =
-    if-err (λ why. IsStuck c.args.pass.now c.args.pass.now c.args.line why × (c.reserve.new.self.items ≡ c.args.texts.now.items)) c.from_residual.result Memory c.from_residual.ensures.1
+pub returns-in_default-clause-err : goal.returns-in_default-clause-err
+returns-in_default-clause-err g c =
     (shown_unanswered c.args.pass.now c.args.pass.now c.args.line.command (later_self c.args.pass.now) (gains_same c.args.pass.now) c.args.line.session, c.reserve.ensures.items)
 
 -- it wasn't answered
 pub returns-in_err-number-clause-err : goal.returns-in_err-number-clause-err
 returns-in_err-number-clause-err g c =
-    if-err (λ why. IsStuck c.args.pass.now c.answer.new.pass c.args.line why × (c.reserve.new.self.items ≡ c.args.texts.now.items)) c.from_residual-in_err-number.result c.in_err-number.field-0.0
-    c.from_residual-in_err-number.ensures.1 (c.in_err-number.ensures.err c.args.line.session, c.reserve.ensures.items)
+    if-err (λ why. IsStuck c.args.pass.now c.answer.new.pass c.args.line why × (c.reserve.new.self.items ≡ c.args.texts.now.items)) c.from_residual.result c.in_err-number.field-0.0
+    c.from_residual.ensures.1 (c.in_err-number.ensures.err c.args.line.session, c.reserve.ensures.items)
 
 -- its text can't be made
 pub returns-in_err-text-clause-err : goal.returns-in_err-text-clause-err

@@ -7,8 +7,8 @@ use Rattle.im_table.specs.Histories.{history_of}
 use Rattle.im_script.specs.declared.commands.Command.TheVariants.{Get}
 use Rattle.im_session.proofs.reads.answer_get.Goals as goal
 
-pub get_text-requires : goal.get_text-requires
-get_text-requires g c =
+pub get_text-shown-requires : goal.get_text-shown-requires
+get_text-shown-requires g c =
     let keys = c.in_ok-keys.ensures.keys in
     (take c.tip-number.result (history_of c.keys_at.new.pass.view.seen), keys.shows, keys_length c.keys_at.new.pass c.tip-number.result c.in_ok-keys.keys keys)
 

@@ -7,8 +7,8 @@ use Rattle.im_table.specs.Histories.{history_of}
 use Rattle.im_script.specs.declared.commands.Command.TheVariants.{Scan}
 use Rattle.im_session.proofs.reads.answer_scan.Goals as goal
 
-pub scan_shown-requires : goal.scan_shown-requires
-scan_shown-requires g c =
+pub scan_shown-shown-requires : goal.scan_shown-shown-requires
+scan_shown-shown-requires g c =
     let keys = c.in_ok-keys.ensures.keys in
     (take c.tip-number.result (history_of c.keys_at.new.pass.view.seen), keys.shows, keys_length c.keys_at.new.pass c.tip-number.result c.in_ok-keys.keys keys)
 

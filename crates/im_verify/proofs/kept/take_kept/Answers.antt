@@ -24,7 +24,7 @@ returns-then-is_rejected-clause-line g c = λ k e.
     let number : k ≡ c.loop-i.i + 1 = cc in
     let same : c.as_slice.result.now ≡ line = c.as_slice.ensures in
     let now = c.loop-i.invariant.takes in
-    let told = c.in_ok-taken.ensures.told now.0 now.1 in
+    let told = c.in-Ok.ensures.told now.0 now.1 in
     let under : IsVerdict hash now.0 c.as_slice.result.now told.0 =
     subst (λ (f : List ℕ → List ℕ). IsVerdict f now.0 c.as_slice.result.now told.0) (ap g.H.Hash32.digest c.loop-i.invariant.hash) told.1 in
     let is : IsVerdict hash now.0 line told.0 = subst (λ (l : List ℕ). IsVerdict hash now.0 l told.0) same under in
@@ -38,7 +38,7 @@ loop-i-preserved g c =
     let within : c.loop-i.i < length c.args.lines.now = omega arith in
     let same : c.as_slice.result.now ≡ line = c.as_slice.ensures in
     let now = c.loop-i.invariant.takes in
-    let told = c.in_ok-taken.ensures.told now.0 now.1 in
+    let told = c.in-Ok.ensures.told now.0 now.1 in
     let under : IsVerdict hash now.0 c.as_slice.result.now told.0 =
     subst (λ (f : List ℕ → List ℕ). IsVerdict f now.0 c.as_slice.result.now told.0) (ap g.H.Hash32.digest c.loop-i.invariant.hash) told.1 in
     let is : IsVerdict hash now.0 line told.0 = subst (λ (l : List ℕ). IsVerdict hash now.0 l told.0) same under in
