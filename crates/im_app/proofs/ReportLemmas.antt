@@ -13,7 +13,7 @@ use Rattle.im_disk.specs.declared.calls.Call.{Call}
 use Rattle.im_disk.specs.declared.calls.Call.TheVariants.{Synced}
 use Rattle.im_disk.proofs.Growing.{grows_both, grows_one}
 use Rattle.im_disk.proofs.Leaving.{leaves_both, leaves_weaker}
-use Rattle.im_edge.specs.Counts.{Rose}
+use Rattle.im_counts.specs.Counts.{Rose}
 use Rattle.im_format.specs.Batches.{gate_of}
 use Rattle.im_format.specs.Standing.{Stands, StandsFrom}
 use Rattle.im_model.specs.declared.transactions.Transaction.{Transaction}

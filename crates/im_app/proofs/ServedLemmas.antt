@@ -3,7 +3,7 @@ use Rattle.std.proofs.Common.{◌≡◌, ◌≤◌, ◌+◌, ℤ, ℕ, List, ap,
 use Rattle.im_digest.specs.Digests.{Hash}
 use Rattle.im_disk.specs.Disk.{Told, seen}
 use Rattle.im_disk.specs.Grown.{Grows}
-use Rattle.im_edge.specs.Counts.{Rose}
+use Rattle.im_counts.specs.Counts.{Rose}
 use Rattle.im_format.specs.Standing.{Stands}
 use Rattle.im_format.specs.declared.damages.Damage.{Damage}
 use Rattle.im_model.specs.declared.transactions.Transaction.{Transaction}

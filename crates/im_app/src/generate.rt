@@ -3,7 +3,7 @@
 ghost use Rattle.std.specs.Prelude.{◌≡◌, ◌≤◌, ◌+◌, true, List, [], length, IfOk};
 ghost use Rattle.im_disk.specs.Recorded.{told_by};
 ghost use Rattle.im_disk.specs.Disk.{seen};
-ghost use Rattle.im_edge.specs.Counts.{Rose};
+ghost use Rattle.im_counts.specs.Counts.{Rose};
 ghost use Rattle.im_facts.specs.Verdicts.{Verdict as TheVerdict};
 ghost use Rattle.im_format.specs.Standing.{Stands};
 ghost use Rattle.im_model.specs.History.{alhs_of};

@@ -1,6 +1,6 @@
 -- What a call of a disk does to the count of its failures.
 use Rattle.std.specs.Prelude.{◌≡◌, ℕ, ◌≤◌, Result, OnOk, IsErrOf}
-use Rattle.im_edge.specs.Counts.{Rose}
+use Rattle.im_counts.specs.Counts.{Rose}
 use Rattle.im_disk.specs.declared.disk.DiskError.{DiskError}
 use Rattle.im_disk.specs.declared.disk.DiskError.TheVariants.{Failed, Memory}
 

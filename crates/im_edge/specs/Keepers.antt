@@ -1,6 +1,6 @@
 -- What a call of a keeper does to the count of its failures.
 use Rattle.std.specs.Prelude.{◌≡◌, ℕ, ◌≤◌, ◌+◌, Result, OnOk, IsErrOf}
-use Rattle.im_edge.specs.Counts.{Rose}
+use Rattle.im_counts.specs.Counts.{Rose}
 use Rattle.im_edge.specs.declared.keeper.KeeperError.{KeeperError}
 use Rattle.im_edge.specs.declared.keeper.KeeperError.TheVariants.{Failed, Memory}
 

@@ -1,5 +1,4 @@
 pub mod Clocks
-pub mod Counts
 pub mod Keepers
 pub mod Sinks
 pub mod Sources

@@ -1,7 +1,7 @@
 -- What a call gives to a sink, and what it does to the count of its failures.
 use Rattle.std.specs.Prelude.{◌≡◌, ℕ, ◌<◌, ◌≤◌, ◌+◌, List, length, take, Option}
 use Rattle.std.specs.Io.KnownBytes.{Appends, Keeps}
-use Rattle.im_edge.specs.Counts.{Rose}
+use Rattle.im_counts.specs.Counts.{Rose}
 use Rattle.im_edge.specs.declared.sink.Given.{Given}
 use Rattle.im_edge.specs.declared.sink.Given.TheVariants.{Gave, Failed}
 

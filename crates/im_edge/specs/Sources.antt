@@ -1,7 +1,7 @@
 -- What a call takes from a source, and what it does to the count of its failures.
 use Rattle.std.specs.Prelude.{◌≡◌, ℕ, ◌<◌, ◌≤◌, ◌+◌, List, [], length, take, Option, IfSome, Result, Ok, Err}
 use Rattle.std.specs.Io.KnownBytes.{Consumes, Keeps}
-use Rattle.im_edge.specs.Counts.{Rose}
+use Rattle.im_counts.specs.Counts.{Rose}
 use Rattle.im_edge.specs.declared.source.Taken.{Taken}
 use Rattle.im_edge.specs.declared.source.Taken.TheVariants.{Took, End, Failed}
 use Rattle.im_edge.specs.declared.source.SourceError.{SourceError}

@@ -1,6 +1,6 @@
 ghost use Rattle.std.specs.Prelude.{◌≡◌, ℕ, ◌<◌, ◌≤◌, ◌+◌, List, length, take, OnOk, OnErr, Option};
 ghost use Rattle.std.specs.Io.KnownBytes.{Appends};
-ghost use Rattle.im_edge.specs.Counts.{Rose};
+ghost use Rattle.im_counts.specs.Counts.{Rose};
 ghost use Rattle.im_edge.specs.Sinks.{Gives, GiveCause, AddsPart};
 
 use std::io::Write;

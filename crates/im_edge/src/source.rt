@@ -1,5 +1,5 @@
 ghost use Rattle.std.specs.Prelude.{◌≡◌, ◌≤◌, ◌<◌, ◌+◌, ℕ, List, [], length, IfOk, OnOk, IfSome, IsErrOf, Option};
-ghost use Rattle.im_edge.specs.Counts.{Rose};
+ghost use Rattle.im_counts.specs.Counts.{Rose};
 ghost use Rattle.im_edge.specs.Sources.{Takes, TakesAtMost, TakeCause, SameUnlessFailed};
 
 use std::alloc::{AllocError, Global};

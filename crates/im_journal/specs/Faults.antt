@@ -1,6 +1,6 @@
 -- What a call of the journal does to the count of failures.
 use Rattle.std.specs.Prelude.{◌≡◌, ◌≤◌, ◌+◌, ◌-◌, ◌^◌, ℕ, min, Result, IsErrOf}
-use Rattle.im_edge.specs.Counts.{Rose}
+use Rattle.im_counts.specs.Counts.{Rose}
 use Rattle.im_journal.specs.declared.errors.JournalError.{JournalError}
 use Rattle.im_journal.specs.declared.errors.JournalError.TheVariants.{DiskFault}
 use Rattle.im_vlog.specs.declared.showing.ValueError.{ValueError}

@@ -2,7 +2,7 @@
 use Rattle.std.specs.Prelude.{◌≡◌, ◌≤◌, ℕ, List, Result, Ok, Err, MatchResult, IsErrOf}
 use Rattle.im_disk.specs.declared.disk.DiskError.{DiskError}
 use Rattle.im_disk.specs.declared.disk.DiskError.TheVariants as Disk
-use Rattle.im_edge.specs.Counts.{Rose}
+use Rattle.im_counts.specs.Counts.{Rose}
 use Rattle.im_format.specs.declared.damages.Damage.{Damage}
 use Rattle.im_mtree.specs.Checks.{Check, first_fail}
 use Rattle.im_record.specs.declared.errors.SlotError.{SlotError}

@@ -6,7 +6,7 @@ use Rattle.im_disk.specs.Disk.{Told, after, seen}
 use Rattle.im_disk.specs.Grown.{Grows}
 use Rattle.im_disk.specs.Moments.{Leaves}
 use Rattle.im_disk.specs.declared.calls.Call.TheVariants.{Synced}
-use Rattle.im_edge.specs.Counts.{Rose}
+use Rattle.im_counts.specs.Counts.{Rose}
 use Rattle.im_format.specs.Batches.{gate_of}
 use Rattle.im_format.specs.Damages.{image_checks}
 use Rattle.im_format.specs.Standing.{Stands}

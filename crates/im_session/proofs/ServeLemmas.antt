@@ -15,7 +15,7 @@ use Rattle.im_accept.specs.Messages.{IsReadBack}
 use Rattle.im_digest.specs.Digests.{Hash}
 use Rattle.im_disk.specs.Disk.{Told}
 use Rattle.im_edge.specs.Clocks.{AddsTimes}
-use Rattle.im_edge.specs.Counts.{Rose}
+use Rattle.im_counts.specs.Counts.{Rose}
 use Rattle.im_model.specs.declared.transactions.Transaction.{Transaction}
 use Rattle.im_octet.proofs.Common.{all-left, all-right}
 use Rattle.im_report.proofs.OutcomeLemmas.{numbers_unrun, replies_unrun, times_all}

@@ -6,7 +6,7 @@ use Rattle.im_accept.specs.Taken.{AreReadBack}
 use Rattle.im_disk.specs.Disk.{Told, seen}
 use Rattle.im_disk.specs.Moments.{Leaves, LeavesNow}
 use Rattle.im_edge.specs.Clocks.{AddsTimes}
-use Rattle.im_edge.specs.Counts.{Rose}
+use Rattle.im_counts.specs.Counts.{Rose}
 use Rattle.im_format.specs.Standing.{Stands, StandsFrom}
 use Rattle.im_model.specs.declared.transactions.Transaction.{Transaction}
 use Rattle.im_report.specs.Outcomes.{Outcome}

@@ -2,7 +2,7 @@
 ghost use Rattle.std.specs.Prelude.{◌≡◌, ◌<◌, ◌≤◌, ◌+◌, ℕ, [], length, take, OnErr, OnOk, slice_index_or};
 ghost use Rattle.std.specs.List.{All, flat_map};
 ghost use Rattle.std.specs.Io.KnownBytes.{Appends};
-ghost use Rattle.im_edge.specs.Counts.{Rose};
+ghost use Rattle.im_counts.specs.Counts.{Rose};
 ghost use Rattle.im_session.specs.Written.{first_texts, stop_of};
 
 use crate::errors::LineError;

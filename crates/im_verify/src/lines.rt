@@ -1,6 +1,6 @@
 ghost use Rattle.std.specs.Prelude.{◌≡◌, ◌⊎◌, ◌↔◌, ◌++◌, ◌+◌, ◌≤◌, Err, IfOk, OnOk, OnErr, IsTrue, option_copied};
 ghost use Rattle.std.specs.Option.{option_map};
-ghost use Rattle.im_edge.specs.Counts.{Rose};
+ghost use Rattle.im_counts.specs.Counts.{Rose};
 ghost use Rattle.im_facts.specs.Facts.{Known};
 ghost use Rattle.im_facts.specs.Folds.{IsVerdict};
 ghost use Rattle.im_facts.specs.Keeping.{IsLed, Knows};

@@ -4,7 +4,7 @@ use Rattle.im_digest.specs.Digests.{Hash}
 use Rattle.im_disk.specs.Disk.{Files, Told, seen}
 use Rattle.im_disk.specs.declared.disk.DiskError.{DiskError}
 use Rattle.im_disk.specs.declared.disk.DiskError.TheVariants.{Failed, Memory}
-use Rattle.im_edge.specs.Counts.{Rose}
+use Rattle.im_counts.specs.Counts.{Rose}
 use Rattle.im_format.specs.Reading.{value_at}
 use Rattle.im_format.specs.declared.references.ValueRef.{ValueRef}
 use Rattle.im_vlog.specs.declared.showing.ValueError.{ValueError}

@@ -1,7 +1,7 @@
 use Rattle.std.proofs.Common.{rules, ◌≡◌, ◌<◌, ◌∙◌, ℕ, List, ap, ap₂, length, sym, subst, take, Option, Result, OnErr, OnOk}
 use Rattle.std.specs.Io.KnownBytes.{Appends}
 use Rattle.std.specs.List.{flat_map}
-use Rattle.im_edge.specs.Counts.{Rose}
+use Rattle.im_counts.specs.Counts.{Rose}
 use Rattle.im_edge.specs.declared.sink.WriteFault.{WriteFault as TheFault}
 use Rattle.im_report.specs.Sessions.{phase_text}
 use Rattle.im_session.proofs.ServeLemmas.{front_first, front_many, told_part, told_stop, told_whole}
