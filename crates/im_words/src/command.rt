@@ -78,11 +78,12 @@ fn generate<'a>(alloc: Global) -> Result<Command<'a>, AllocError>
 fn without_gen<'a>(alloc: Global) -> Result<Command<'a>, AllocError>
     ensures { IfOk result (λ c. IsMadeOfNames im_before (app_of c)) }
 {
+    let run = run(alloc)?;
     Command::new(alloc, "im")
         .disable_help_flag(true)
         .disable_help_subcommand(true)
         .subcommand_required(true)
-        .subcommand(run(alloc)?)?
+        .subcommand(run)?
         .subcommand(verify(alloc))?
         .subcommand(show(alloc))
 }
