@@ -33,8 +33,13 @@ pub fn fill<R: Threads + Sync, H: Hash32 + Sync>(
     let far = raised(rt, alloc, hash, plan.leaves.as_slice(), rows)?;
     let leads = plan.leads.as_slice();
     let size = chunk_of(rt, leads.len(), LEAST_RECORDS);
-    let near = near_facts(rt, alloc, hash, log, &plan.values, rows, leads, size)?;
-    Ok(Window::of(leads, size, near, far))
+    match near_facts(rt, alloc, hash, log, &plan.values, rows, leads, size) {
+        Ok(near) => Ok(Window::of(leads, size, near, far)),
+        Err(error) => {
+            drop(far);
+            Err(error)
+        }
+    }
 }
 
 // Raises a tree by these leaves, and gives what is hashed of it. Where they are more than many, that is of the last of them
@@ -50,9 +55,29 @@ fn raised<R: Threads + Sync, H: Hash32 + Sync>(
 {
     let mut far = Facts::with_room(alloc, 0);
     for part in leaves.chunks(MOST_LEAVES) {
-        far = Facts::with_room(alloc, part.len().saturating_mul(2));
-        rows.rest();
-        rows.raise(rt, alloc, hash, part, &mut far)?;
+        drop(far);
+        far = raised_once(rt, alloc, hash, part, rows)?;
     }
     Ok(far)
+}
+
+// The same of leaves that aren't more than many.
+fn raised_once<R: Threads + Sync, H: Hash32 + Sync>(
+    rt: &R,
+    alloc: Global,
+    hash: &H,
+    leaves: &[D32],
+    rows: &mut Rows,
+) -> Result<Facts, AllocError>
+    ensures { IfOk result (λ far. AreFacts (H.digest hash.now) far) }
+{
+    let mut far = Facts::with_room(alloc, leaves.len().saturating_mul(2));
+    rows.rest();
+    match rows.raise(rt, alloc, hash, leaves, &mut far) {
+        Ok(()) => Ok(far),
+        Err(error) => {
+            drop(far);
+            Err(error)
+        }
+    }
 }

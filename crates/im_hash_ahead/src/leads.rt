@@ -126,23 +126,41 @@ pub fn fields_at(log: &[u8], at: usize) -> Option<Fields<'_>>
     ensures md { IfSome result (λ fields. length fields.md.now ≤ 2) }
     ensures key { IfSome result (λ fields. length fields.key.now ≤ 1024) }
 {
-    let md_len = number_at(log, at, 2)? as usize;
-    let md = part_at(log, at.saturating_add(2), md_len)?;
-    let key_at = at.saturating_add(2).saturating_add(md_len);
-    let key_len = number_at(log, key_at, 2)? as usize;
-    let key = part_at(log, key_at.saturating_add(2), key_len)?;
-    if md_len > 2 || key_len > MOST_KEY_OCTETS {
+    let md = counted_at(log, at, 2)?;
+    let key_at = at.saturating_add(2).saturating_add(md.len());
+    let key = counted_at(log, key_at, MOST_KEY_OCTETS)?;
+    let hval_at = key_at.saturating_add(2).saturating_add(key.len());
+    with_reference(log, md, key, hval_at)
+}
+
+// The octets behind a number of two octets that counts them, where they are there, and at most so many.
+fn counted_at(log: &[u8], at: usize, most: usize) -> Option<&[u8]>
+    ensures { IfSome result (λ part. length part.now ≤ most) }
+{
+    let count = number_at(log, at, 2)? as usize;
+    if count > most {
         return None;
     }
-    let hval_at = key_at.saturating_add(2).saturating_add(key_len);
+    part_at(log, at.saturating_add(2), count)
+}
+
+// The entry with this metadata and this key, whose reference stands at a place, where it is there.
+fn with_reference<'a>(log: &'a [u8], md: &'a [u8], key: &'a [u8], at: usize) -> Option<Fields<'a>>
+    ensures md { IfSome result (λ fields. fields.md ≡ md.entry) }
+    ensures key { IfSome result (λ fields. fields.key ≡ key.entry) }
+{
+    let hval = part_at(log, at, 32)?;
+    let len = number_at(log, at.saturating_add(32), 4)?;
+    let log_number = number_at(log, at.saturating_add(36), 1)?;
+    let place = number_at(log, at.saturating_add(37), 8)?;
     Some(Fields {
         md,
         key,
-        hval: part_at(log, hval_at, 32)?,
-        len: number_at(log, hval_at.saturating_add(32), 4)?,
-        log: number_at(log, hval_at.saturating_add(36), 1)?,
-        place: number_at(log, hval_at.saturating_add(37), 8)?,
-        end: hval_at.saturating_add(45),
+        hval,
+        len,
+        log: log_number,
+        place,
+        end: at.saturating_add(45),
     })
 }
 

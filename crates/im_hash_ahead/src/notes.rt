@@ -123,11 +123,29 @@ fn note_entries<H: Hash32>(
         let Some(fields) = fields_at(log, at) else {
             return Ok(Vec::new(alloc));
         };
-        note_value(hash, values, lead.values.saturating_add(i), facts)?;
-        digests.push(note_entry(hash, &fields, facts)?)?;
+        let number = lead.values.saturating_add(i);
+        note_both(hash, values, number, &fields, &mut digests, facts)?;
         at = fields.end;
     }
     Ok(digests)
+}
+
+// The value of this number, and the entry with these fields, whose digest joins the others.
+fn note_both<H: Hash32>(
+    hash: &H,
+    values: &Values,
+    number: usize,
+    fields: &Fields,
+    digests: &mut Vec<D32>,
+    facts: &mut Facts,
+) -> Result<(), AllocError>
+    requires md { length fields.now.md.now ≤ 2 }
+    requires key { length fields.now.key.now ≤ 1024 }
+    ensures { AreFacts (H.digest hash.now) facts.old → AreFacts (H.digest hash.now) facts.new }
+{
+    note_value(hash, values, number, facts)?;
+    digests.push(note_entry(hash, fields, facts)?)?;
+    Ok(())
 }
 
 // The value of this number, where it is there and isn't empty: an empty one stands in the place of a long one too.
@@ -172,8 +190,7 @@ fn note_tree<H: Hash32>(hash: &H, digests: &[D32], facts: &mut Facts) -> Result<
     facts.hash(hash, &[1], &left, &right)
 }
 
-// The root over the first leaves: a node for each digit one of their number but one, from the smallest part on. That of the
-// record before isn't made again, and of no leaves it is zeros.
+// The root over the first leaves. That of the record before isn't made again, and of no leaves it is zeros.
 fn note_root<H: Hash32>(
     hash: &H,
     rows: &Rows,
@@ -186,6 +203,22 @@ fn note_root<H: Hash32>(
     if bl == last.bl {
         return Ok(Some(last.root));
     }
+    let root = root_over(hash, rows, bl, facts)?;
+    if let Some(root) = root {
+        *last = LastRoot { bl, root };
+    }
+    Ok(root)
+}
+
+// The same, made again: a node for each digit one of their number but one, from the smallest part on.
+fn root_over<H: Hash32>(
+    hash: &H,
+    rows: &Rows,
+    bl: u64,
+    facts: &mut Facts,
+) -> Result<Option<D32>, AllocError>
+    ensures { AreFacts (H.digest hash.now) facts.old → AreFacts (H.digest hash.now) facts.new }
+{
     let mut rest = bl;
     let mut root: Option<D32> = None;
     for level in 0..rows.levels() {
@@ -193,20 +226,26 @@ fn note_root<H: Hash32>(
             let Some(part) = rows.at(level, rest - 1) else {
                 return Ok(None);
             };
-            root = Some(match root {
-                Some(right) => facts.hash(hash, &[1], &part, &right)?,
-                None => part,
-            });
+            root = Some(behind_part(hash, part, root, facts)?);
         }
         rest /= 2;
     }
-    if rest > 0 {
-        return Ok(None);
+    Ok(if rest > 0 { None } else { root })
+}
+
+// The node of a part of a tree and what stands behind it, and the part alone where nothing does.
+fn behind_part<H: Hash32>(
+    hash: &H,
+    part: D32,
+    behind: Option<D32>,
+    facts: &mut Facts,
+) -> Result<D32, AllocError>
+    ensures { AreFacts (H.digest hash.now) facts.old → AreFacts (H.digest hash.now) facts.new }
+{
+    match behind {
+        Some(right) => facts.hash(hash, &[1], &part, &right),
+        None => Ok(part),
     }
-    if let Some(root) = root {
-        *last = LastRoot { bl, root };
-    }
-    Ok(root)
 }
 
 // The inner digest: of `Ts 8 | Version 2 | mdLen 2 | NEntries 4 | Eh 32 | BlTxID 8 | BlRoot 32`.

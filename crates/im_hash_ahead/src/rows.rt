@@ -41,7 +41,7 @@ pub struct Rows {
 }
 
 impl Rows {
-    ghost use Rattle.std.specs.Prelude.{All, OnOk};
+    ghost use Rattle.std.specs.Prelude.{◌<◌, All, OnOk};
     ghost use Rattle.im_digest.specs.Digests.{Hash};
     ghost use Rattle.im_hash_ahead.specs.Facts.{AreFacts};
 
@@ -84,16 +84,34 @@ impl Rows {
         let parts = leaf_facts(rt, alloc, hash, leaves)?;
         self.add(alloc, 0, parts, far)?;
         for level in 0..MOST_LEVELS {
-            let Some(row) = self.rows.get(level) else {
-                break;
-            };
-            if row.digests.len() < 2 {
+            if !self.pair(rt, alloc, hash, level, far)? {
                 break;
             }
-            let parts = pair_facts(rt, alloc, hash, row.digests.as_slice())?;
-            self.add(alloc, level + 1, parts, far)?;
         }
         Ok(())
+    }
+
+    // Hashes a node for each pair of a level, which join the level above; whether there is a pair.
+    fn pair<R: Threads + Sync, H: Hash32 + Sync>(
+        &mut self,
+        rt: &R,
+        alloc: Global,
+        hash: &H,
+        level: usize,
+        far: &mut Facts,
+    ) -> Result<bool, AllocError>
+        requires { level < 64 }
+        ensures { AreFacts (H.digest hash.now) far.old → OnOk result (AreFacts (H.digest hash.now) far.new) }
+    {
+        let Some(row) = self.rows.get(level) else {
+            return Ok(false);
+        };
+        if row.digests.len() < 2 {
+            return Ok(false);
+        }
+        let parts = pair_facts(rt, alloc, hash, row.digests.as_slice())?;
+        self.add(alloc, level + 1, parts, far)?;
+        Ok(true)
     }
 
     // Adds the digests of all parts to a level, and their facts to `far`.
