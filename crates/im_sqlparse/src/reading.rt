@@ -10,7 +10,7 @@ use crate::kinds::Kind;
 use crate::selects::select;
 use crate::statements::{Form, Stmt};
 use crate::tokens::Tokens;
-use crate::writes::{delete_statement, insertion};
+use crate::writes::{delete_statement, insert, upsert};
 use std::alloc::Global;
 
 #[tactic(auto, unfolding(crate::specs::Statements::statement))]
@@ -24,11 +24,11 @@ fn statement(alloc: Global, tokens: &mut Tokens<'_>) -> Result<Form, ParseError>
         }
         Kind::Upsert => {
             tokens.take();
-            Ok(Form::Upsert(insertion(alloc, tokens)?))
+            upsert(alloc, tokens)
         }
         Kind::Insert => {
             tokens.take();
-            Ok(Form::Insert(insertion(alloc, tokens)?))
+            insert(alloc, tokens)
         }
         Kind::Delete => {
             tokens.take();
@@ -49,8 +49,13 @@ fn whole_statement(alloc: Global, tokens: &mut Tokens<'_>) -> Result<Form, Parse
 {
     let found = statement(alloc, tokens)?;
     tokens.eat(Kind::Semicolon);
-    tokens.expect(Kind::End)?;
-    Ok(found)
+    match tokens.expect(Kind::End) {
+        Ok(()) => Ok(found),
+        Err(fault) => {
+            drop(found);
+            Err(fault)
+        }
+    }
 }
 
 // What the statement says that a text is.

@@ -2,7 +2,9 @@
 
 ghost use Rattle.std.specs.Prelude.{◌≡◌, Bool};
 ghost use Rattle.im_sqlparse.specs.Statements as spec;
+ghost use Rattle.im_sqlparse.specs.Input as input;
 ghost use Rattle.im_sqlparse.specs.Input.{ReadsTokens};
+ghost use Rattle.im_sqlparse.specs.Values as values;
 
 use crate::conditions::filter;
 use crate::errors::ParseError;
@@ -42,6 +44,22 @@ fn source(alloc: Global, tokens: &mut Tokens<'_>) -> Result<(Name, bool), ParseE
     Ok((table, true))
 }
 
+// Behind BEFORE.
+fn before(tokens: &mut Tokens<'_>) -> Result<Period, ParseError>
+    ensures { ReadsTokens (input.and_then (input.expect Kind.Tx tokens.old) (λ _ i. input.and_then (values.number 1 spec.most_number i) (λ n. input.pure (Period.Before n)))) result tokens.new }
+{
+    tokens.expect(Kind::Tx)?;
+    Ok(Period::Before(number(tokens, 1, u64::MAX)?))
+}
+
+// Behind UNTIL.
+fn until(tokens: &mut Tokens<'_>) -> Result<Period, ParseError>
+    ensures { ReadsTokens (input.and_then (input.expect Kind.Tx tokens.old) (λ _ i. input.and_then (values.number 0 spec.most_number i) (λ n. input.pure (Period.Until n)))) result tokens.new }
+{
+    tokens.expect(Kind::Tx)?;
+    Ok(Period::Until(number(tokens, 0, u64::MAX)?))
+}
+
 #[tactic(auto, unfolding(crate::specs::Statements::when))]
 fn when(tokens: &mut Tokens<'_>) -> Result<Period, ParseError>
     ensures { ReadsTokens (spec.when tokens.old) result tokens.new }
@@ -49,13 +67,11 @@ fn when(tokens: &mut Tokens<'_>) -> Result<Period, ParseError>
     match tokens.peek() {
         Kind::Before => {
             tokens.take();
-            tokens.expect(Kind::Tx)?;
-            Ok(Period::Before(number(tokens, 1, u64::MAX)?))
+            before(tokens)
         }
         Kind::Until => {
             tokens.take();
-            tokens.expect(Kind::Tx)?;
-            Ok(Period::Until(number(tokens, 0, u64::MAX)?))
+            until(tokens)
         }
         _ => Ok(Period::Now),
     }

@@ -2,6 +2,7 @@
 
 ghost use Rattle.std.specs.Prelude.{◌≡◌};
 ghost use Rattle.im_sqlparse.specs.Statements as spec;
+ghost use Rattle.im_sqlparse.specs.Input as input;
 ghost use Rattle.im_sqlparse.specs.Input.{ReadsTokens};
 
 use crate::conditions::filter;
@@ -14,9 +15,9 @@ use crate::values::{name, names};
 use sqlite_items::Items;
 use std::alloc::Global;
 
-/// Behind UPSERT or INSERT.
+// Behind UPSERT or INSERT.
 #[tactic(auto, unfolding(crate::specs::Statements::insertion))]
-pub fn insertion(alloc: Global, tokens: &mut Tokens<'_>) -> Result<Insertion, ParseError>
+fn insertion(alloc: Global, tokens: &mut Tokens<'_>) -> Result<Insertion, ParseError>
     ensures { ReadsTokens (spec.insertion tokens.old) result tokens.new }
 {
     tokens.expect(Kind::Into)?;
@@ -29,6 +30,20 @@ pub fn insertion(alloc: Global, tokens: &mut Tokens<'_>) -> Result<Insertion, Pa
         columns,
         rows,
     })
+}
+
+/// Behind UPSERT.
+pub fn upsert(alloc: Global, tokens: &mut Tokens<'_>) -> Result<Form, ParseError>
+    ensures { ReadsTokens (input.and_then (spec.insertion tokens.old) (λ rows. input.pure (Form.Upsert rows))) result tokens.new }
+{
+    Ok(Form::Upsert(insertion(alloc, tokens)?))
+}
+
+/// Behind INSERT.
+pub fn insert(alloc: Global, tokens: &mut Tokens<'_>) -> Result<Form, ParseError>
+    ensures { ReadsTokens (input.and_then (spec.insertion tokens.old) (λ rows. input.pure (Form.Insert rows))) result tokens.new }
+{
+    Ok(Form::Insert(insertion(alloc, tokens)?))
 }
 
 /// Behind DELETE.
