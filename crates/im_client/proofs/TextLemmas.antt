@@ -1,6 +1,6 @@
 -- A name stands in front of its values, so its parts may be written one after the other.
-use Rattle.std.proofs.Common.{◌≡◌, ℕ, List, [], ◌++◌, ap, sym, ◌∙◌, append_assoc}
-use Rattle.std.specs.Prelude.{codes}
+use Rattle.std.proofs.Common.{◌≡◌, ℕ, List, [], ◌++◌, Result, ap, sym, subst, ◌∙◌, append_assoc}
+use Rattle.std.specs.Prelude.{codes, OnOk}
 use Rattle.std.specs.Fmt.{decimal}
 use Rattle.hex.specs.Hex.{encode_lower}
 use Rattle.im_client.specs.Texts.{with_numbers, with_digests}
@@ -42,3 +42,8 @@ numbers_of out mid name number want got e =
 pub digests_of : (out mid name number want got : List ℕ) → mid ≡ out ++ name ++ number → mid ++ with_digests [] want got ≡ out ++ with_digests (name ++ number) want got
 digests_of out mid name number want got e =
     whole (λ n. with_digests n want got) (digests-front want got) out mid (name ++ number) (e ∙ append_assoc out name number)
+
+-- what was added is the text of what was looked at
+pub said : {A E X : Type 0} (r : Result A E) (after before : List ℕ) (text : X → List ℕ) (x y : X) → x ≡ y → OnOk r (after ≡ before ++ text y)
+    → OnOk r (after ≡ before ++ text x)
+said r after before text x y is added = subst (λ (z : _). OnOk r (after ≡ before ++ text z)) (sym is) added

@@ -22,13 +22,13 @@ fn push_numbers(out: &mut Vec<u8>, name: &[u8], want: u64, got: u64) -> Result<(
 
 // Adds a name and two digests, the one wanted and the one found.
 #[tactic(auto, unfolding(crate::specs::Texts::with_digests))]
-fn push_digests(out: &mut Vec<u8>, name: &[u8], want: D32, got: D32) -> Result<(), AllocError>
-    ensures { OnOk result (out.new.items ≡ out.old.items ++ with_digests name.now want got) }
+fn push_digests(out: &mut Vec<u8>, name: &[u8], want: &D32, got: &D32) -> Result<(), AllocError>
+    ensures { OnOk result (out.new.items ≡ out.old.items ++ with_digests name.now want.now got.now) }
 {
     let alloc = *out.allocator();
     out.extend_from_slice(name)?;
-    push_hex(alloc, out, b" ", &want)?;
-    push_hex(alloc, out, b" ", &got)
+    push_hex(alloc, out, b" ", want)?;
+    push_hex(alloc, out, b" ", got)
 }
 
 // Adds the check of a dual proof that failed.
@@ -43,27 +43,27 @@ fn push_dual_fault(out: &mut Vec<u8>, fault: &DualFault) -> Result<(), AllocErro
         Fault::Order { source, target } => push_numbers(out, b"order", *source, *target),
         Fault::Shrink { source, target } => push_numbers(out, b"shrink", *source, *target),
         Fault::InclusionLength { want, got } => push_numbers(out, b"inclusion-length", *want, *got),
-        Fault::InclusionRoot { want, got } => push_digests(out, b"inclusion-root", *want, *got),
+        Fault::InclusionRoot { want, got } => push_digests(out, b"inclusion-root", want, got),
         Fault::ConsistencyLength { want, got } => {
             push_numbers(out, b"consistency-length", *want, *got)
         }
-        Fault::ConsistencyOld { want, got } => push_digests(out, b"consistency-old", *want, *got),
-        Fault::ConsistencyNew { want, got } => push_digests(out, b"consistency-new", *want, *got),
+        Fault::ConsistencyOld { want, got } => push_digests(out, b"consistency-old", want, got),
+        Fault::ConsistencyNew { want, got } => push_digests(out, b"consistency-new", want, got),
         Fault::LastLength { want, got } => push_numbers(out, b"last-length", *want, *got),
-        Fault::LastRoot { want, got } => push_digests(out, b"last-root", *want, *got),
-        Fault::BlAlh { want, got } => push_digests(out, b"bl-alh", *want, *got),
+        Fault::LastRoot { want, got } => push_digests(out, b"last-root", want, got),
+        Fault::BlAlh { want, got } => push_digests(out, b"bl-alh", want, got),
         Fault::LinearLength { want, got } => push_numbers(out, b"linear-length", *want, *got),
-        Fault::LinearStart { want, got } => push_digests(out, b"linear-start", *want, *got),
-        Fault::LinearEnd { want, got } => push_digests(out, b"linear-end", *want, *got),
+        Fault::LinearStart { want, got } => push_digests(out, b"linear-start", want, got),
+        Fault::LinearEnd { want, got } => push_digests(out, b"linear-end", want, got),
         Fault::AdvanceLength { want, got } => push_numbers(out, b"advance-length", *want, *got),
         Fault::AdvanceCount { want, got } => push_numbers(out, b"advance-count", *want, *got),
         Fault::AdvancePathLength { number, want, got } => {
             push_numbers_of(out, b"advance-path-length ", *number, *want, *got)
         }
         Fault::AdvancePathRoot { number, want, got } => {
-            push_digests_of(out, b"advance-path-root ", *number, *want, *got)
+            push_digests_of(out, b"advance-path-root ", *number, want, got)
         }
-        Fault::AdvanceEnd { want, got } => push_digests(out, b"advance-end", *want, *got),
+        Fault::AdvanceEnd { want, got } => push_digests(out, b"advance-end", want, got),
     }
 }
 
@@ -114,10 +114,10 @@ fn push_digests_of(
     out: &mut Vec<u8>,
     name: &[u8],
     number: u64,
-    want: D32,
-    got: D32,
+    want: &D32,
+    got: &D32,
 ) -> Result<(), AllocError>
-    ensures { OnOk result (out.new.items ≡ out.old.items ++ with_digests (name.now ++ decimal number) want got) }
+    ensures { OnOk result (out.new.items ≡ out.old.items ++ with_digests (name.now ++ decimal number) want.now got.now) }
 {
     push_one(out, name, number)?;
     push_digests(out, b"", want, got)
@@ -128,11 +128,11 @@ fn push_digests_of(
 fn push_path_fault(out: &mut Vec<u8>, fault: &PathFault) -> Result<(), AllocError>
     ensures { OnOk result (out.new.items ≡ out.old.items ++ path_fault_text fault.now) }
 {
-    match *fault {
+    match fault {
         PathFault::Index { width, got } => {
-            push_numbers(out, b"path-index", u64::from(width), u64::from(got))
+            push_numbers(out, b"path-index", u64::from(*width), u64::from(*got))
         }
-        PathFault::Length { want, got } => push_numbers(out, b"path-length", want, got),
+        PathFault::Length { want, got } => push_numbers(out, b"path-length", *want, *got),
         PathFault::Root { want, got } => push_digests(out, b"path-root", want, got),
     }
 }
@@ -147,29 +147,19 @@ fn push_fault(out: &mut Vec<u8>, fault: &LineFault) -> Result<(), AllocError>
         Fault::Syntax => out.extend_from_slice(b"syntax"),
         Fault::State { fault } => push_header_fault(out, b"state", fault),
         Fault::StateId { want, got } => push_numbers(out, b"state-id", *want, *got),
-        Fault::StateAlh { want, got } => push_digests(out, b"state-alh", *want, *got),
+        Fault::StateAlh { want, got } => push_digests(out, b"state-alh", want, got),
         Fault::NoState => out.extend_from_slice(b"no-state"),
         Fault::SourceId { want, got } => push_numbers(out, b"source-id", *want, *got),
-        Fault::SourceAlh { want, got } => push_digests(out, b"source-alh", *want, *got),
+        Fault::SourceAlh { want, got } => push_digests(out, b"source-alh", want, got),
         Fault::TargetId { want, got } => push_numbers(out, b"target-id", *want, *got),
-        Fault::TargetAlh { want, got } => push_digests(out, b"target-alh", *want, *got),
+        Fault::TargetAlh { want, got } => push_digests(out, b"target-alh", want, got),
         Fault::Dual { fault } => push_dual_fault(out, fault),
         Fault::AnchorMissing => out.extend_from_slice(b"anchor-missing"),
         Fault::AnchorExtra => out.extend_from_slice(b"anchor-extra"),
         Fault::AnchorSourceId { want, got } => push_numbers(out, b"anchor-source-id", *want, *got),
         Fault::AnchorTargetId { want, got } => push_numbers(out, b"anchor-target-id", *want, *got),
-        Fault::AnchorSourceAlh { want, got } => push_digests(
-            out,
-            b"anchor-source-alh",
-            *want,
-            *got,
-        ),
-        Fault::AnchorTargetAlh { want, got } => push_digests(
-            out,
-            b"anchor-target-alh",
-            *want,
-            *got,
-        ),
+        Fault::AnchorSourceAlh { want, got } => push_digests(out, b"anchor-source-alh", want, got),
+        Fault::AnchorTargetAlh { want, got } => push_digests(out, b"anchor-target-alh", want, got),
         Fault::Anchor { fault } => {
             out.extend_from_slice(b"anchor-")?;
             push_dual_fault(out, fault)
