@@ -1,7 +1,9 @@
 -- The first check that fails, of lists that are put together.
-use Rattle.std.proofs.Common.{◌≡◌, ℕ, List, [], ◌∷◌, ◌++◌, refl, ap, sym, ◌∙◌, subst, false, if◌then◌else◌, Result, Ok, Err, Option, Some, None}
-use Rattle.std.specs.Prelude.{IfErr, IfSome, IsErrAnd}
+use Rattle.std.proofs.Common.{arith, ◌≡◌, ℕ, List, [], ◌∷◌, ◌++◌, refl, ap, sym, ◌∙◌, subst, false, if◌then◌else◌, Result, Ok, Err, Option, Some, None}
+use Rattle.std.specs.Prelude.{IfErr, IfSome, IsErrAnd, IsErrOf}
+use Rattle.im_disk.specs.Causes.{HasCause}
 use Rattle.im_disk.specs.Disk.{Told}
+use Rattle.im_counts.specs.Counts.{Rose}
 use Rattle.im_mtree.specs.Checks.{Check, first_fail}
 use Rattle.im_format.specs.declared.damages.Damage.{Damage}
 use Rattle.im_mtree.proofs.CheckLemmas.{then_check, fail_append, fail_both, fail_first}
@@ -65,3 +67,66 @@ disk-unsaid checks Disk.Memory = tt
 pub disk-err : {T : Type 0} (checks : List (Check Damage)) (r : Result T OpenError) (e : DiskError) → IsErrAnd r (λ x. x ≡ of_disk e) → IfErr r (Tells checks)
 disk-err checks (Ok y) e h = tt
 disk-err checks (Err x) e h = subst (Tells checks) (sym h) (disk-unsaid checks e)
+
+-- an error is one whatever the answer would have been
+err-of : {T U E : Type 0} (e d : E) → IsErrOf {T = U} (Err e) d → IsErrOf {T = T} (Err e) d
+err-of {T} {U} {E} e d f =
+    let same : e ≡ d = cc in
+    let F : E → Result T E = λ z. Err z in
+    ap F same
+
+-- the count of faults, by an error that is passed on, by one that isn't the disk's, by want of memory, and by no error
+pub cause-err : {T U : Type 0} (before now : ℕ) (x : OpenError) (r : Result U OpenError) → HasOpenCause {T = T} before now (Err x) → IsErrAnd r (λ e. e ≡ x) → HasOpenCause before now r
+cause-err {T} {U} before now x (Ok y) h is = absurd is
+cause-err {T} {U} before now x (Err e) h is =
+    let g : HasOpenCause {T = T} before now (Err e) = subst (λ (z : OpenError). HasOpenCause {T = T} before now (Err z)) (sym is) h in
+    record {
+      later = g.later;
+      fault = λ f. g.fault (err-of {T = T} {U = U} e DiskFault f);
+      others = λ other. g.others (λ f. other (err-of {T = U} {U = T} e DiskFault f));
+    }
+
+pub cause-other : {U : Type 0} (before now : ℕ) (x : OpenError) → now ≡ before → (x ≡ DiskFault → ⊥) → HasOpenCause {T = U} before now (Err x)
+cause-other before now x same other = record {
+  later = omega (arith, same);
+  fault = λ f. (let e : x ≡ DiskFault = cc in absurd (other e));
+  others = λ _. same;
+}
+
+pub cause-memory : {U : Type 0} (before now : ℕ) (r : Result U OpenError) → now ≡ before → IsErrAnd r (λ e. e ≡ Memory) → HasOpenCause before now r
+cause-memory before now r same is =
+    let no : Memory ≡ DiskFault → ⊥ = λ e. absurd (cc (e)) in
+    cause-err before now Memory r (cause-other {U = Unit {0}} before now Memory same no) is
+
+pub cause-ok : {U : Type 0} (before now : ℕ) (y : U) → now ≡ before → HasOpenCause before now (Ok y)
+cause-ok before now y same = record { later = omega (arith, same); fault = λ f. absurd (cc (f)); others = λ _. same }
+
+-- by an error of the disk, behind calls that were answered
+pub cause-disk : {T U : Type 0} (before mid now : ℕ) (x : DiskError) → mid ≡ before → HasCause {T = T} mid now (Err x) → HasOpenCause {T = U} before now (Err (of_disk x))
+cause-disk before mid now Disk.Failed same h = record {
+  later = omega (arith, same, h.later);
+  fault = λ f. subst (λ (n : ℕ). Rose n now) same (h.failed refl);
+  others = λ other. absurd (other refl);
+}
+cause-disk before mid now Disk.Memory same h = record {
+  later = omega (arith, same, h.later);
+  fault = λ f. absurd (cc (f));
+  others = λ other. h.memory refl ∙ same;
+}
+
+-- and of the disk's own answers
+pub disk-cause-err : {T U : Type 0} (before mid now : ℕ) (x : DiskError) (r : Result U DiskError) → mid ≡ before → HasCause {T = T} mid now (Err x) → IsErrAnd r (λ e. e ≡ x)
+    → HasCause before now r
+disk-cause-err {T} {U} before mid now x (Ok y) same h is = absurd is
+disk-cause-err {T} {U} before mid now x (Err e) same h is =
+    let g : HasCause {T = T} before now (Err e) =
+    subst (λ (z : DiskError). HasCause {T = T} before now (Err z)) (sym is) (subst (λ (n : ℕ). HasCause {T = T} n now (Err x)) same h) in
+    record {
+      later = g.later;
+      failed = λ f. g.failed (err-of {T = T} {U = U} e Disk.Failed f);
+      ok = tt;
+      memory = λ f. g.memory (err-of {T = T} {U = U} e Disk.Memory f);
+    }
+
+pub disk-cause-ok : {U : Type 0} (before now : ℕ) (y : U) → now ≡ before → HasCause before now (Ok y)
+disk-cause-ok before now y same = record { later = omega (arith, same); failed = λ f. absurd (cc (f)); ok = same; memory = λ f. absurd (cc (f)) }

@@ -1,18 +1,24 @@
 -- The checks of a record as those of its parts.
-use Rattle.std.proofs.Common.{◌≡◌, ℕ, ◌+◌, List, [], ◌++◌, ap, sym, ◌∙◌, subst, append_assoc, Ok}
+use Rattle.std.proofs.Common.{◌≡◌, ℕ, ◌+◌, List, [], ◌∷◌, ◌++◌, ap, sym, ◌∙◌, subst, append_assoc, Ok}
+use Rattle.std.proofs.lemmas.Slice.Eq.{bytes_eq-Decides}
 use Rattle.im_digest.specs.Digests.{Hash}
 use Rattle.im_disk.specs.Disk.{Files}
 use Rattle.im_format.specs.Damages.{Reached, alh_checks, head_checks, next_alh, next_id, record_checks, slots_checks}
-use Rattle.im_format.specs.Reading.{alh_place, count_at, transaction_in}
+use Rattle.im_format.specs.Reading.{alh_place, bl_at, count_at, record_end, transaction_in}
+use Rattle.im_format.specs.Spans.{octets_at}
 use Rattle.im_format.specs.declared.damages.Damage.{Damage}
+use Rattle.im_format.specs.declared.records.Record.{Record}
+use Rattle.im_format.specs.declared.references.ValueRef.{ValueRef}
 use Rattle.im_model.specs.Headers.{alh}
 use Rattle.im_model.specs.History.{next_header}
 use Rattle.im_model.specs.declared.headers.Header.{Header}
 use Rattle.im_model.specs.declared.transactions.Transaction.{Transaction}
 use Rattle.im_mtree.specs.Checks.{Check, first_fail}
-use Rattle.im_mtree.proofs.CheckLemmas.{fail_append}
+use Rattle.im_mtree.proofs.CheckLemmas.{all-hold, fail_append}
 use Rattle.im_opening.specs.Answers.{Tells}
-use Rattle.im_opening.specs.Parts.{transaction_checks}
+use Rattle.im_opening.specs.Parts.{refs_at, transaction_checks}
+use Rattle.im_opening.specs.Reach.{IsOneMore, reached_of}
+use Rattle.im_opening.specs.declared.records.Progress.{Progress}
 use Rattle.im_opening.specs.declared.errors.OpenError.{OpenError}
 use Rattle.im_opening.proofs.Finding.{tells-first}
 
@@ -63,3 +69,30 @@ record-finds hash image r log end digest is fine =
     ap first_fail (sym (parts hash image r))
     ∙ fail_append (transaction_checks hash image (next_id r) r.bl r.place) (alh_checks (image 0) (alh_place image r.place) (next_alh hash image r)) fine
     ∙ ap first_fail (sym (digest-checks hash image r log end digest is))
+
+-- the Alh whose checks hold is the one that stands there
+digest-there : (log : List ℕ) (end : ℕ) (digest : List ℕ) → first_fail (alh_checks log end digest) ≡ Ok tt → octets_at log end 32 ≡ digest
+digest-there log end digest fine = (bytes_eq-Decides (octets_at log end 32) digest).0 (all-hold (alh_checks log end digest) fine).1.0
+
+-- the record that was read is the one that stands there, and is one more
+pub one-more : (hash : Hash) (image : Files) (before now : Progress) (log : List ℕ) (end place : ℕ) (r : Record) → IsDigest hash image (reached_of before) log end r.alh
+    → r.tx ≡ transaction_in image before.place → r.refs ≡ refs_at image before.place → first_fail (alh_checks log end r.alh) ≡ Ok tt → place ≡ end + 32
+    → now.records.items ≡ before.records.items ++ r ∷ [] → now.alhs.items ≡ before.alhs.items ++ r.alh ∷ [] → now.bl ≡ r.tx.bl → now.place ≡ place
+    → IsOneMore hash image before now
+one-more hash image before now log end place r made tx refs fine last records alhs bl at =
+    let place_is : now.place ≡ record_end image before.place = at ∙ last ∙ ap (λ (k : ℕ). k + 32) made.end_is in
+    let bl_is : now.bl ≡ bl_at (image 0) before.place = bl ∙ ap (λ (x : Transaction). x.bl) tx in
+    let alhs_are : now.alhs.items ≡ before.alhs.items ++ next_alh hash image (reached_of before) ∷ [] =
+    alhs ∙ ap (λ (d : List ℕ). before.alhs.items ++ d ∷ []) made.digest_is in
+    let alh_is : r.alh ≡ octets_at (image 0) (alh_place image before.place) 32 =
+    sym (digest-there log end r.alh fine) ∙ ap (λ (l : List ℕ). octets_at l end 32) made.log_is ∙ ap (λ (k : ℕ). octets_at (image 0) k 32) made.end_is in
+    let A : List ℕ → Record = λ d. record { tx = r.tx; refs = r.refs; alh = d } in
+    let B : List ValueRef → Record = λ rs. record { tx = r.tx; refs = rs; alh = octets_at (image 0) (alh_place image before.place) 32 } in
+    let C : Transaction → Record = λ x. record { tx = x; refs = refs_at image before.place; alh = octets_at (image 0) (alh_place image before.place) 32 } in
+    let E : List (List ℕ) → Reached = λ l. record { alhs = l; bl = now.bl; place = now.place } in
+    let F : ℕ → Reached = λ n. record { alhs = before.alhs.items ++ next_alh hash image (reached_of before) ∷ []; bl = n; place = now.place } in
+    let G : ℕ → Reached = λ n. record { alhs = before.alhs.items ++ next_alh hash image (reached_of before) ∷ []; bl = bl_at (image 0) before.place; place = n } in
+    record {
+      records_are = records ∙ ap (λ (x : Record). before.records.items ++ x ∷ []) (ap A alh_is ∙ ap B refs ∙ ap C tx);
+      reached_is = ap E alhs_are ∙ ap F bl_is ∙ ap G place_is;
+    }

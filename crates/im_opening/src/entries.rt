@@ -1,4 +1,4 @@
-ghost use Rattle.std.specs.Prelude.{◌≡◌, ◌≤◌, ◌<◌, ◌+◌, ◌^◌, ◌∷◌, ◌++◌, [], length, map, Some, IfOk, IfSome, All, AllPairs, ◌≢◌};
+ghost use Rattle.std.specs.Prelude.{◌≡◌, ◌≤◌, ◌<◌, ◌+◌, ◌^◌, ◌∷◌, ◌++◌, [], length, map, Some, IfOk, OnOk, IfSome, All, AllPairs, ◌≢◌};
 ghost use Rattle.im_disk.specs.Disk.{Told, seen};
 ghost use Rattle.im_format.specs.Damages.{index_of, slots_checks};
 ghost use Rattle.im_format.specs.Records.{AreReferences, IsReference, entries_octets, entry_octets};
@@ -19,7 +19,7 @@ use im_model::limits::{EntryValue, Key, Metadata};
 use im_octet::octets::Octets;
 use im_record::keys::Keys;
 use im_record::slots::read_slot;
-use std::alloc::Global;
+use std::alloc::{AllocError, Global};
 
 // An entry as it was read, its digest, its value's reference, and the place where it ends in the transaction log.
 #[derive(Drop)]
@@ -40,6 +40,41 @@ pub(crate) struct EntriesRead {
     pub end: u64,
 }
 
+impl EntriesRead {
+    // None yet, from a place on, with room for so many where memory is there.
+    fn with_room(alloc: Global, count: usize, at: u64) -> Self
+        ensures none { (result.entries.items ≡ []) × (result.digests.items ≡ []) × (result.refs.items ≡ []) }
+        ensures end { result.end ≡ at }
+    {
+        EntriesRead {
+            entries: room_for(alloc, count),
+            digests: room_for(alloc, count),
+            refs: room_for(alloc, count),
+            end: at,
+        }
+    }
+
+    // Adds the entry that follows. Its only error is want of memory.
+    fn add(&mut self, next: EntryRead) -> Result<(), AllocError>
+        ensures entries { OnOk result (self.new.entries.items ≡ self.old.entries.items ++ next.entry ∷ []) }
+        ensures digests { OnOk result (self.new.digests.items ≡ self.old.digests.items ++ next.digest ∷ []) }
+        ensures refs { OnOk result (self.new.refs.items ≡ self.old.refs.items ++ next.value ∷ []) }
+        ensures end { OnOk result (self.new.end ≡ next.end) }
+    {
+        let EntryRead {
+            entry,
+            digest,
+            value,
+            end,
+        } = next;
+        self.entries.push(entry)?;
+        self.refs.push(value)?;
+        self.digests.push(digest)?;
+        self.end = end;
+        Ok(())
+    }
+}
+
 // A vector of nothing, with room for so many where memory is there. A vector that grows by itself begins with room for four,
 // and most transactions have one entry.
 fn room_for<T>(alloc: Global, count: usize) -> Vec<T>
@@ -49,6 +84,25 @@ fn room_for<T>(alloc: Global, count: usize) -> Vec<T>
         Ok(items) => items,
         Err(_) => Vec::new(alloc),
     }
+}
+
+// The entry with copies of these octets, and with this value. Its only error is want of memory.
+fn entry_of(alloc: Global, md: &[u8], key: &[u8], value: Vec<u8>) -> Result<Entry, AllocError>
+    requires md { length md.now ≤ 256 }
+    requires key { (1 ≤ length key.now) × (length key.now ≤ 1024) }
+    requires value { length value.items ≤ 4096 }
+    ensures md { IfOk result (λ entry. entry.md ≡ md.now) }
+    ensures key { IfOk result (λ entry. entry.key ≡ key.now) }
+    ensures value { IfOk result (λ entry. entry.value ≡ value.items) }
+{
+    let value = EntryValue::new(Octets::from_vec(value));
+    let md = Octets::from_slice(alloc, md)?;
+    let key = Octets::from_slice(alloc, key)?;
+    Ok(Entry {
+        md: Metadata::new(md),
+        key: Key::new(key),
+        value,
+    })
 }
 
 // Reads an entry with its value, behind entries with these keys.
@@ -81,13 +135,7 @@ fn read_entry<'a, D: Disk, H: Hash32>(
 {
     let slot = read_slot(source.log, at, id, &source.lengths, keys)?;
     let octets = read_value(alloc, hash, disk, &slot.value)?;
-    let md = Octets::from_slice(alloc, slot.md)?;
-    let key = Octets::from_slice(alloc, slot.key)?;
-    let entry = Entry {
-        md: Metadata::new(md),
-        key: Key::new(key),
-        value: EntryValue::new(Octets::from_vec(octets)),
-    };
+    let entry = entry_of(alloc, slot.md, slot.key, octets)?;
     Ok(EntryRead {
         digest: digest_over(hash, &entry, &slot.value.hval),
         entry,
@@ -125,27 +173,10 @@ pub(crate) fn read_entries<D: Disk, H: Hash32>(
     ensures cause { HasOpenCause (D.faults disk.old) (D.faults disk.new) result }
 {
     let mut keys = Keys::new(alloc);
-    let mut entries = room_for(alloc, count as usize);
-    let mut digests = room_for(alloc, count as usize);
-    let mut refs = room_for(alloc, count as usize);
-    let mut end = at;
-    while entries.len() < count as usize {
-        let read = read_entry(alloc, hash, disk, source, id, end, &mut keys)?;
-        let EntryRead {
-            entry,
-            digest,
-            value,
-            end: next,
-        } = read;
-        entries.push(entry)?;
-        refs.push(value)?;
-        digests.push(digest)?;
-        end = next;
+    let mut read = EntriesRead::with_room(alloc, count as usize, at);
+    while read.entries.len() < count as usize {
+        let next = read_entry(alloc, hash, disk, source, id, read.end, &mut keys)?;
+        read.add(next)?;
     }
-    Ok(EntriesRead {
-        entries,
-        digests,
-        refs,
-        end,
-    })
+    Ok(read)
 }

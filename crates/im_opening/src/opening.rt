@@ -64,8 +64,13 @@ fn open_files<D: Disk, H: Hash32, F: FnOnce(&H, &mut D) -> Result<Opened, OpenEr
 {
     sync(disk)?;
     let opened = read(hash, disk)?;
-    repair(disk, &opened)?;
-    Ok(opened)
+    match repair(disk, &opened) {
+        Ok(()) => Ok(opened),
+        Err(error) => {
+            drop(opened);
+            Err(OpenError::from(error))
+        }
+    }
 }
 
 /// Opens a disk: makes its files durable, reads and checks them, closes the gate behind the batches that count

@@ -21,9 +21,21 @@ pub(crate) fn first_plan<H: Hash32>(
     progress: &Progress,
 ) -> Result<Plan, AllocError> {
     let before = Plan::empty(alloc);
-    let leads = survey(alloc, log, &Start::of_all(hash))?;
-    let leaves = leaves_behind(alloc, progress, &before, leads.as_slice())?;
+    let plan = first_plan_behind(alloc, hash, log, progress, &before);
     drop(before);
+    plan
+}
+
+// The same, behind a plan of nothing.
+fn first_plan_behind<H: Hash32>(
+    alloc: Global,
+    hash: &H,
+    log: &[u8],
+    progress: &Progress,
+    before: &Plan,
+) -> Result<Plan, AllocError> {
+    let leads = survey(alloc, log, &Start::of_all(hash))?;
+    let leaves = leaves_behind(alloc, progress, before, leads.as_slice())?;
     Ok(Plan::of(leads, leaves, 0, Values::empty(alloc)))
 }
 

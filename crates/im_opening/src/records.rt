@@ -1,4 +1,4 @@
-ghost use Rattle.std.specs.Prelude.{◌≡◌, ◌≤◌, ◌<◌, ◌+◌, length, map, take, List, Some, IfErr, IfOk, OnOk, IfSome};
+ghost use Rattle.std.specs.Prelude.{◌≡◌, ◌≤◌, ◌<◌, ◌+◌, ◌∷◌, ◌++◌, [], length, map, take, List, Some, IfErr, IfOk, OnOk, IfSome};
 ghost use Rattle.im_disk.specs.Disk.{Told, seen};
 ghost use Rattle.im_format.specs.Damages.{record_checks, records_checks};
 ghost use Rattle.im_levels.specs.Leveled.{IsLeveled};
@@ -40,6 +40,31 @@ pub(crate) struct Progress {
     pub bl_root: D32,
     pub tree: Tree,
     pub place: u64,
+}
+
+impl Progress {
+    // Adds a record that ends at a place, and its header, whose tree has this root. Its only error is want of memory.
+    fn add(
+        &mut self,
+        next: Record,
+        header: Header,
+        bl_root: D32,
+        place: u64,
+    ) -> Result<(), AllocError>
+        ensures records { OnOk result (self.new.records.items ≡ self.old.records.items ++ next ∷ []) }
+        ensures headers { OnOk result (self.new.headers.items ≡ self.old.headers.items ++ header ∷ []) }
+        ensures alhs { OnOk result (self.new.alhs.items ≡ self.old.alhs.items ++ next.alh ∷ []) }
+        ensures linked { OnOk result ((self.new.bl ≡ next.tx.bl) × (self.new.bl_root ≡ bl_root) × (self.new.tree ≡ self.old.tree)) }
+        ensures place { OnOk result (self.new.place ≡ place) }
+    {
+        self.bl = next.tx.bl;
+        self.bl_root = bl_root;
+        self.place = place;
+        self.alhs.push(next.alh)?;
+        self.records.push(next)?;
+        self.headers.push(header)?;
+        Ok(())
+    }
 }
 
 // Lets the tree over the first Alh grow to so many of them, and gives its root. Where it doesn't grow, that is
@@ -111,28 +136,36 @@ fn read_record<D: Disk, H: Hash32>(
 {
     let id = progress.alhs.len() as u64 + 1;
     let read = read_transaction(alloc, hash, disk, source, id, progress.place, progress.bl)?;
+    let alhs = progress.alhs.as_slice();
+    let bl_root = match grow(hash, &mut progress.tree, progress.bl_root, alhs, read.tx.bl) {
+        Ok(bl_root) => bl_root,
+        Err(error) => {
+            drop(read);
+            return Err(OpenError::from(error));
+        }
+    };
     let TransactionRead {
         tx,
         digests,
         refs,
         end,
     } = read;
-    let alhs = progress.alhs.as_slice();
-    let bl_root = grow(hash, &mut progress.tree, progress.bl_root, alhs, tx.bl)?;
     let header = header_behind(alloc, hash, progress, &tx, bl_root, digests.as_slice());
-    let digest = alh(hash, &header);
-    let place = read_alh(source.log, end, &digest)?;
-    progress.alhs.push(digest)?;
-    progress.bl = tx.bl;
-    progress.bl_root = bl_root;
-    progress.place = place;
-    let refs = Refs::from_vec(refs);
-    progress.records.push(Record {
+    drop(digests);
+    let next = Record {
         tx,
-        refs,
-        alh: digest,
-    })?;
-    progress.headers.push(header)?;
+        refs: Refs::from_vec(refs),
+        alh: alh(hash, &header),
+    };
+    let place = match read_alh(source.log, end, &next.alh) {
+        Ok(place) => place,
+        Err(damage) => {
+            drop(next);
+            drop(header);
+            return Err(OpenError::from(damage));
+        }
+    };
+    progress.add(next, header, bl_root, place)?;
     Ok(())
 }
 

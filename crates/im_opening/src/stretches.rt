@@ -152,16 +152,17 @@ pub(crate) fn read_batches<D: Disk, H: Hash32>(
     let window = Window::empty(alloc);
     let mut reading = Reading::new(alloc);
     'stretches: loop {
-        if let Some(behind) = read_stretch(
-            alloc,
-            hash,
-            disk,
-            commits,
-            source,
-            &window,
-            &mut reading,
-        )? {
-            return Ok(all_read(reading, behind));
+        match read_stretch(alloc, hash, disk, commits, source, &window, &mut reading) {
+            Ok(None) => {}
+            Ok(Some(behind)) => {
+                drop(window);
+                return Ok(all_read(reading, behind));
+            }
+            Err(error) => {
+                drop(window);
+                drop(reading);
+                return Err(error);
+            }
         }
     }
 }
@@ -182,11 +183,75 @@ pub(crate) fn read_batches_on<R: Threads + Sync, D: Disk, H: Hash32 + Sync>(
     ensures told { D.told disk.new ≡ D.told disk.old }
     ensures cause { HasOpenCause (D.faults disk.old) (D.faults disk.new) result }
 {
-    let mut window = Window::empty(alloc);
-    let mut spent: Option<Window> = None;
-    let mut rows = Rows::new(alloc);
     let mut reading = Reading::new(alloc);
-    let mut plan = first_plan(alloc, hash, source.log, &reading.progress)?;
+    match read_windows(rt, alloc, hash, disk, commits, source, &mut reading) {
+        Ok(behind) => Ok(all_read(reading, behind)),
+        Err(error) => {
+            drop(reading);
+            Err(error)
+        }
+    }
+}
+
+// What is hashed ahead: the window that is read, the one that was read before, the rows of the tree, and the plan of the next
+// window.
+#[derive(Drop)]
+struct Hashing {
+    window: Window,
+    spent: Option<Window>,
+    rows: Rows,
+    plan: Plan,
+}
+
+impl Hashing {
+    // Nothing yet, before the window of a plan is filled.
+    fn new(alloc: Global, plan: Plan) -> Self
+        ensures { (hash : Hash) → IsKnown hash result.window }
+    {
+        Hashing {
+            window: Window::empty(alloc),
+            spent: None,
+            rows: Rows::new(alloc),
+            plan,
+        }
+    }
+
+    // Goes on to the window that was filled, and to the next plan, where there is one.
+    fn go_on(&mut self, filled: Window, next: &mut Option<Plan>)
+        ensures { self.new.window ≡ filled }
+    {
+        let read = mem::replace(&mut self.window, filled);
+        drop(mem::replace(&mut self.spent, Some(read)));
+        if let Some(next) = next.take() {
+            drop(mem::replace(&mut self.plan, next));
+        }
+    }
+}
+
+// Reads batches, a window at a time, while the next is hashed, and tells why none counts behind them.
+fn read_windows<R: Threads + Sync, D: Disk, H: Hash32 + Sync>(
+    rt: &R,
+    alloc: Global,
+    hash: &H,
+    disk: &mut D,
+    commits: &[u8],
+    source: &RecordSource,
+    reading: &mut Reading,
+) -> Result<Uncounted, OpenError>
+    requires shows { IfSome (D.told disk.old) (λ t. Shows (seen t) source.now.log.now source.now.lengths) }
+    requires commits { IfSome (D.told disk.old) (λ t. commits.now ≡ seen t 1) }
+    requires reached { IsReadTo (H.digest hash.now) commits.now source.now.log.now reading.old }
+    requires left { IsLeft (H.digest hash.now) (D.told disk.old) reading.old }
+    ensures reached { OnOk result (IsReadTo (H.digest hash.now) commits.now source.now.log.now reading.new) }
+    ensures left { OnOk result (IsLeft (H.digest hash.now) (D.told disk.old) reading.new) }
+    ensures behind { IfOk result (λ why. IsUncounted commits.now reading.new.gate why) }
+    ensures last { OnOk result (Counts commits.now reading.new.gate → ⊥) }
+    ensures unfit { (t : Told) → D.told disk.old ≡ Some t → IfErr result (Tells (image_checks (H.digest hash.now) (seen t))) }
+    ensures told { D.told disk.new ≡ D.told disk.old }
+    ensures cause { HasOpenCause (D.faults disk.old) (D.faults disk.new) result }
+{
+    let plan = first_plan(alloc, hash, source.log, &reading.progress)?;
+    let mut hashing = Hashing::new(alloc, plan);
     'stretches: loop {
         let (filled, behind) = read_beside(
             rt,
@@ -195,29 +260,31 @@ pub(crate) fn read_batches_on<R: Threads + Sync, D: Disk, H: Hash32 + Sync>(
             disk,
             commits,
             source,
-            &window,
-            &plan,
-            &mut spent,
-            &mut rows,
-            &mut reading,
+            &hashing.window,
+            &hashing.plan,
+            &mut hashing.spent,
+            &mut hashing.rows,
+            reading,
         );
-        if let Some(behind) = behind? {
-            drop(filled);
-            drop(window);
-            drop(spent);
-            drop(plan);
-            return Ok(all_read(reading, behind));
+        match behind {
+            Ok(Some(behind)) => {
+                drop(filled);
+                drop(hashing);
+                return Ok(behind);
+            }
+            Err(error) => {
+                drop(filled);
+                drop(hashing);
+                return Err(error);
+            }
+            Ok(None) => match filled {
+                Ok(filled) => hashing.go_on(filled, &mut reading.next),
+                Err(error) => {
+                    drop(hashing);
+                    return Err(OpenError::from(error));
+                }
+            },
         }
-        let filled = filled?;
-        spent = Some(mem::replace(&mut window, filled));
-        take_over(&mut plan, &mut reading.next);
-    }
-}
-
-// Puts a plan in the place of one before it, where there is one.
-fn take_over(plan: &mut Plan, next: &mut Option<Plan>) {
-    if let Some(next) = next.take() {
-        drop(mem::replace(plan, next));
     }
 }
 

@@ -1,4 +1,4 @@
-use Rattle.std.proofs.Common.{arith, ◌≡◌, ◌+◌, ℕ, length, sym, ◌∙◌, ap, subst, Ok, Err, ne_eqb, if◌then◌else◌}
+use Rattle.std.proofs.Common.{arith, ◌≡◌, ◌+◌, ℕ, length, refl, sym, ◌∙◌, ap, subst, Ok, Err, ne_eqb, if◌then◌else◌}
 use Rattle.im_clog.specs.Marks.{mark_at}
 use Rattle.im_disk.specs.Disk.{seen}
 use Rattle.std.proofs.lemmas.Bool.{eq-eqb}
@@ -9,7 +9,7 @@ use Rattle.im_opening.specs.Reach.{reached_of}
 use Rattle.im_format.specs.declared.damages.Damage.{Damage}
 use Rattle.im_opening.specs.declared.errors.OpenError.TheVariants.{Damaged}
 use Rattle.im_opening.proofs.BatchFinds.{end-finds, mark-tells, records-tell}
-use Rattle.im_opening.proofs.Finding.{at-told, judge-err}
+use Rattle.im_opening.proofs.Finding.{at-told, cause-err, cause-ok, cause-other, judge-err, ok-leaves}
 use Rattle.im_opening.proofs.batches.read_batch.Goals as goal
 
 pub returns-in_err-check_mark-clause-first : goal.returns-in_err-check_mark-clause-first
@@ -71,3 +71,19 @@ returns-clause-first g c t is =
           (c.in_ok-read_records.ensures.first t is).is
           ∙ ap (λ b. if b then Ok tt else Err d) (eq-eqb m.end now.place c.if-mark-progress.false);
     }
+
+pub returns-in_err-check_mark-clause-cause : goal.returns-in_err-check_mark-clause-cause
+returns-in_err-check_mark-clause-cause g c =
+    let d = c.in_err-check_mark.field-0.0 in
+    cause-err _ _ (Damaged d) _ (cause-other {U = Unit {0}} _ _ (Damaged d) refl (λ e. absurd (cc (e)))) c.from_residual.ensures.1
+
+pub returns-in_err-read_records-clause-cause : goal.returns-in_err-read_records-clause-cause
+returns-in_err-read_records-clause-cause g c =
+    cause-err _ _ c.in_err-read_records.field-0.0 _ c.in_err-read_records.ensures.cause c.from_residual-in_err-read_records.ensures.1
+
+pub returns-then-mark-progress-clause-cause : goal.returns-then-mark-progress-clause-cause
+returns-then-mark-progress-clause-cause g c =
+    cause-other _ _ (Damaged c.damage-found.result) (ok-leaves _ _ tt c.in_ok-read_records.ensures.cause) (λ e. absurd (cc (e)))
+
+pub returns-clause-cause : goal.returns-clause-cause
+returns-clause-cause g c = cause-ok _ _ _ (ok-leaves _ _ tt c.in_ok-read_records.ensures.cause)

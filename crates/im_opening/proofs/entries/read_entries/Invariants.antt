@@ -11,17 +11,17 @@ abbrev pub invariant-loop-alloc : goal.invariant-loop-alloc
 invariant-loop-alloc g l = record {
   told : g.D.Disk.told l.disk ≡ g.D.Disk.told l.initial.disk;
   faults : g.D.Disk.faults l.disk ≡ g.D.Disk.faults l.initial.disk;
-  place : l.end ≤ length l.source.log.now;
-  few : length l.entries.items ≤ l.count;
-  keys : l.keys ≡ map (λ e. e.key) l.entries.items;
-  digests : l.digests.items ≡ map (entry_digest (g.H.Hash32.digest l.hash)) l.entries.items;
-  are : All IsEntry l.entries.items;
-  apart : AreApart [] l.entries.items;
-  refer : AreReferences (g.H.Hash32.digest l.hash) l.id l.entries.items l.refs.items;
-  whole : l.end ≡ l.initial.end + length (entries_octets l.entries.items l.refs.items);
+  place : l.read.end ≤ length l.source.log.now;
+  few : length l.read.entries.items ≤ l.count;
+  keys : l.keys ≡ map (λ e. e.key) l.read.entries.items;
+  digests : l.read.digests.items ≡ map (entry_digest (g.H.Hash32.digest l.hash)) l.read.entries.items;
+  are : All IsEntry l.read.entries.items;
+  apart : AreApart [] l.read.entries.items;
+  refer : AreReferences (g.H.Hash32.digest l.hash) l.id l.read.entries.items l.read.refs.items;
+  whole : l.read.end ≡ l.fn.at + length (entries_octets l.read.entries.items l.read.refs.items);
   left : (t : Told) → g.D.Disk.told l.initial.disk ≡ Some t
-      → EntriesLeft (g.H.Hash32.digest l.hash) (seen t) l.id l.initial.end l.count l.entries.items l.refs.items l.end;
+      → EntriesLeft (g.H.Hash32.digest l.hash) (seen t) l.id l.fn.at l.count l.read.entries.items l.read.refs.items l.read.end;
 }
 
 abbrev pub decreases-loop-alloc : goal.decreases-loop-alloc
-decreases-loop-alloc g l = l.count - length l.entries.items
+decreases-loop-alloc g l = l.count - length l.read.entries.items

@@ -6,7 +6,7 @@ use Rattle.im_format.specs.Batches.{Counts}
 use Rattle.im_opening.specs.Parts.{Shows}
 use Rattle.im_opening.specs.Stretches.{AreAllRead, IsLeft}
 use Rattle.im_opening.specs.declared.stretches.BatchesRead.{BatchesRead}
-use Rattle.im_opening.proofs.Finding.{at-some, at-told, judge-err, ok-leaves}
+use Rattle.im_opening.proofs.Finding.{at-some, at-told, ok-leaves}
 use Rattle.im_opening.proofs.StretchLemmas.{all-fine, all-reached}
 use Rattle.im_opening.proofs.stretches.read_batches.Goals as goal
 
@@ -40,40 +40,39 @@ read_stretch-requires-clause-left g c =
 pub stretches-preserved : goal.stretches-preserved
 stretches-preserved g c =
     let inv = c.stretches.invariant in
-    let ens = c.in_ok-behind.ensures in
+    let ens = c.in-Ok-None.ensures in
     record {
       told = ens.told ∙ inv.told;
-      faults = ok-leaves _ _ c.in_ok-behind.field-0 ens.cause ∙ inv.faults;
+      faults = ok-leaves _ _ c.in-Ok-None.field-0 ens.cause ∙ inv.faults;
       reached = ens.reached;
       left = subst (λ o. IsLeft (g.H.Hash32.digest c.args.hash.now) o c.read_stretch.new.reading) inv.told ens.left;
     }
 
-pub returns-in_err-behind-clause-first : goal.returns-in_err-behind-clause-first
-returns-in_err-behind-clause-first g c t is =
-    judge-err _ _ c.in_err-behind.field-0.0 c.from_residual.ensures.1 (c.in_err-behind.ensures.unfit t (c.stretches.invariant.told ∙ is))
+pub returns-in-Err-clause-first : goal.returns-in-Err-clause-first
+returns-in-Err-clause-first g c t is = record { is = c.in-Err.ensures.unfit t (c.stretches.invariant.told ∙ is) }
 
-pub returns-in-Some-clause-all : goal.returns-in-Some-clause-all
-returns-in-Some-clause-all g c =
+pub returns-in-Ok-Some-clause-all : goal.returns-in-Ok-Some-clause-all
+returns-in-Ok-Some-clause-all g c =
     let hash = g.H.Hash32.digest c.args.hash.now in
     let was = g.D.Disk.told c.args.disk.now in
     let commits = c.args.commits.now in
     let log = c.args.source.now.log.now in
-    let ens = c.in_ok-behind.ensures in
+    let ens = c.in-Ok-Some.ensures in
     let r = c.read_stretch.new.reading in
     let left : IsLeft hash was r = subst (λ o. IsLeft hash o r) c.stretches.invariant.told ens.left in
-    let why = at-some (λ why. IsUncounted commits r.gate why) c.in_ok-behind.field-0 c.in-Some.behind ens.behind c.in-Some.is in
-    let last = at-some (λ why. Counts commits r.gate → ⊥) c.in_ok-behind.field-0 c.in-Some.behind ens.last c.in-Some.is in
+    let why = at-some (λ why. IsUncounted commits r.gate why) c.in-Ok-Some.field-0 c.in-Ok-Some.behind ens.behind c.in-Ok-Some.field-0-is in
+    let last = at-some (λ why. Counts commits r.gate → ⊥) c.in-Ok-Some.field-0 c.in-Ok-Some.behind ens.last c.in-Ok-Some.field-0-is in
     let A : BatchesRead → Type 0 = λ read. AreAllRead hash was commits log read in
     subst A (sym c.all_read.ensures)
-    (all-reached hash was commits log r c.in-Some.behind ens.reached left why last (λ t is. at-told (λ t. commits ≡ seen t 1) was t c.requires.commits is))
+    (all-reached hash was commits log r c.in-Ok-Some.behind ens.reached left why last (λ t is. at-told (λ t. commits ≡ seen t 1) was t c.requires.commits is))
 
-pub returns-in-Some-clause-first : goal.returns-in-Some-clause-first
-returns-in-Some-clause-first g c t is =
+pub returns-in-Ok-Some-clause-first : goal.returns-in-Ok-Some-clause-first
+returns-in-Ok-Some-clause-first g c t is =
     let hash = g.H.Hash32.digest c.args.hash.now in
     let was = g.D.Disk.told c.args.disk.now in
     let commits = c.args.commits.now in
-    let ens = c.in_ok-behind.ensures in
+    let ens = c.in-Ok-Some.ensures in
     let r = c.read_stretch.new.reading in
     let left : IsLeft hash was r = subst (λ o. IsLeft hash o r) c.stretches.invariant.told ens.left in
-    let last = at-some (λ why. Counts commits r.gate → ⊥) c.in_ok-behind.field-0 c.in-Some.behind ens.last c.in-Some.is in
+    let last = at-some (λ why. Counts commits r.gate → ⊥) c.in-Ok-Some.field-0 c.in-Ok-Some.behind ens.last c.in-Ok-Some.field-0-is in
     record { is = all-fine hash was commits r t left last (at-told (λ t. commits ≡ seen t 1) was t c.requires.commits is) is }
