@@ -9,6 +9,7 @@ use im_sqlmodel::answers::SqlError;
 use im_sqlmodel::tables::Nameable;
 use im_sqlparse::parse;
 use im_sqlparse::statements::{Form, Stmt};
+use im_sqltype::rows::Row;
 use im_sqltype::values::Value;
 use sqlite_items::Items;
 use std::alloc::{AllocError, Global};
@@ -24,7 +25,7 @@ enum Told {
 
 // The operator's place counts from the text's first octet.
 #[rattlefmt::skip]
-const JUDGED: [(&str, Told); 9] = [
+static JUDGED: &[(&str, Told)] = &[
     ("SELECT * FROM t WHERE q = 1", Told::NoColumn(b"q")),
     ("SELECT * FROM t WHERE v = 1", Told::Compare(24)),
     ("SELECT * FROM t WHERE 1 = 'a'", Told::Compare(24)),
@@ -36,9 +37,9 @@ const JUDGED: [(&str, Told); 9] = [
     ("SELECT * FROM t", Told::Nothing),
 ];
 
-// Of the row `(NULL, 'a')`.
+// Whether the row `(NULL, 'a')` meets the condition.
 #[rattlefmt::skip]
-const MET: [(&str, bool); 9] = [
+static MET: &[(&str, bool)] = &[
     ("SELECT * FROM t WHERE id < 5", true),
     ("SELECT * FROM t WHERE NOT id < 5", false),
     ("SELECT * FROM t WHERE id = NULL", true),
@@ -60,7 +61,7 @@ fn is_told(fault: &Option<SqlError>, told: Told) -> bool {
 }
 
 // Whether this is told of the condition of a SELECT.
-fn is_judged_so(
+fn is_fault_told(
     alloc: Global,
     scope: &[Nameable],
     stmt: &Stmt,
@@ -75,12 +76,58 @@ fn is_judged_so(
     Ok(so)
 }
 
+// The same of the SELECT that a text is.
+fn is_told_of(alloc: Global, scope: &[Nameable], text: &str, told: Told) -> Result<bool, Fail> {
+    let stmt = parse(alloc, text)?;
+    let so = is_fault_told(alloc, scope, &stmt, told);
+    drop(stmt);
+    Ok(so?)
+}
+
+// The same over the columns of the table.
+fn is_judged_so(alloc: Global, text: &str, told: Told) -> Result<bool, Fail> {
+    let scope = sample_scope(alloc)?;
+    let so = is_told_of(alloc, scope.as_slice(), text, told);
+    drop(scope);
+    so
+}
+
 // Whether a row meets the condition of a SELECT.
 fn is_met(scope: &[Nameable], stmt: &Stmt, row: &[Value]) -> bool {
     match stmt.form() {
         Form::Select(select) => meets(scope, &select.filter, row),
         _ => false,
     }
+}
+
+// The row.
+fn sample_row(alloc: Global) -> Result<Row, AllocError> {
+    let letter = Octets::from_slice(alloc, b"a")?;
+    Ok(Row::from_vec(vec![in alloc; Value::Null, Value::Varchar(letter)]?))
+}
+
+// The same of the SELECT that a text is.
+fn is_met_by(alloc: Global, scope: &[Nameable], text: &str, row: &[Value]) -> Result<bool, Fail> {
+    let stmt = parse(alloc, text)?;
+    let met = is_met(scope, &stmt, row);
+    drop(stmt);
+    Ok(met)
+}
+
+// The same of the row over these columns.
+fn is_met_over(alloc: Global, scope: &[Nameable], text: &str) -> Result<bool, Fail> {
+    let row = sample_row(alloc)?;
+    let met = is_met_by(alloc, scope, text, row.as_slice());
+    drop(row);
+    met
+}
+
+// The same over the columns of the table.
+fn is_met_by_the_row(alloc: Global, text: &str) -> Result<bool, Fail> {
+    let scope = sample_scope(alloc)?;
+    let met = is_met_over(alloc, scope.as_slice(), text);
+    drop(scope);
+    met
 }
 
 // The columns of the table that may be named.
@@ -93,29 +140,16 @@ fn sample_scope(alloc: Global) -> Result<Items<Nameable>, AllocError> {
 
 #[test]
 fn what_is_wrong_with_a_condition_is_told_from_the_left(rt: HostRuntime) -> Result<(), Fail> {
-    let scope = sample_scope(rt.alloc())?;
     for (text, told) in JUDGED {
-        let stmt = parse(rt.alloc(), text)?;
-        let so = is_judged_so(rt.alloc(), scope.as_slice(), &stmt, told)?;
-        drop(stmt);
-        assert!(rt; so, "{text}");
+        assert!(rt; is_judged_so(rt.alloc(), text, *told)?, "{text}");
     }
-    drop(scope);
     Ok(())
 }
 
 #[test]
 fn null_is_a_value_and_the_least(rt: HostRuntime) -> Result<(), Fail> {
-    let scope = sample_scope(rt.alloc())?;
-    let letter = Octets::from_slice(rt.alloc(), b"a")?;
-    let row = [Value::Null, Value::Varchar(letter)];
     for (text, wanted) in MET {
-        let stmt = parse(rt.alloc(), text)?;
-        let met = is_met(scope.as_slice(), &stmt, &row);
-        drop(stmt);
-        assert!(rt; met == wanted, "{text}");
+        assert!(rt; is_met_by_the_row(rt.alloc(), text)? == *wanted, "{text}");
     }
-    drop(row);
-    drop(scope);
     Ok(())
 }

@@ -6,7 +6,7 @@ use std::alloc::{AllocError, Global};
 use std::test::Fail;
 
 #[rattlefmt::skip]
-const STATEMENTS: [&str; 15] = [
+static STATEMENTS: &[&str] = &[
     "SELECT*FROM t",
     "select * from T ;",
     "SELECT\t_REV , a FROM(HISTORY OF t)",
@@ -25,7 +25,7 @@ const STATEMENTS: [&str; 15] = [
 ];
 
 #[rattlefmt::skip]
-const FAULTS: [(&str, usize, SyntaxKind); 50] = [
+static FAULTS: &[(&str, usize, SyntaxKind)] = &[
     ("SELECT * bbbbbbbbbbbbbbbbbbbbbbbbbbbbbbbbbbbbbbbbbbbbbbbbb", 9, SyntaxKind::Expect),
     ("SELECT 99999999999999999999999", 7, SyntaxKind::Expect),
     ("SELECT aaaaaaaaaaaaaaaaaaaaaaaaaaaaaaaaaaaaaaaaaaaaaaaaa FROM t", 7, SyntaxKind::Name),
@@ -102,56 +102,72 @@ fn statements_are_read(rt: HostRuntime) -> Result<(), Fail> {
 fn the_first_fault_is_told(rt: HostRuntime) -> Result<(), Fail> {
     for (text, at, kind) in FAULTS {
         assert!(rt;
-            fault(rt.alloc(), text)? == Some(SqlSyntax { at, kind }),
+            fault(rt.alloc(), text)?
+                == Some(SqlSyntax {
+                    at: *at,
+                    kind: *kind
+                }),
             "{text}"
         );
     }
     Ok(())
 }
 
-// A text, with another one so many times between its front and its back.
-fn repeated(
+// Writes a text, with another one so many times between its front and its back.
+fn write_repeated(
+    text: &mut String,
+    front: &str,
+    part: &str,
+    times: usize,
+    back: &str,
+) -> Result<(), AllocError> {
+    text.push_str(front)?;
+    for _ in 0..times {
+        text.push_str(part)?;
+    }
+    text.push_str(back)
+}
+
+// What is wrong with such a text, if anything is.
+fn fault_of(
     alloc: Global,
     front: &str,
     part: &str,
     times: usize,
     back: &str,
-) -> Result<String, AllocError> {
-    let mut text = String::from_str(alloc, front)?;
-    for _ in 0..times {
-        text.push_str(part)?;
-    }
-    text.push_str(back)?;
-    Ok(text)
+) -> Result<Option<SqlSyntax>, AllocError> {
+    let mut text = String::new(alloc);
+    write_repeated(&mut text, front, part, times, back)?;
+    fault(alloc, text.as_str())
 }
+
+// A front, a part and a back; what is wrong where the part stands 65 times between them, and where; and whether 64 times are
+// no fault.
+#[rattlefmt::skip]
+static REPEATED: &[(&str, &str, &str, SyntaxKind, usize, bool)] = &[
+    ("CREATE TABLE t (", "c INTEGER,", "PRIMARY KEY c)", SyntaxKind::Number, 16 + 64 * 10, true),
+    ("DELETE FROM t WHERE ", "NOT ", "a = 1", SyntaxKind::Deep, 20 + 64 * 4, true),
+    ("DELETE FROM t WHERE ", "(", "", SyntaxKind::Deep, 20 + 64, false),
+];
 
 #[test]
 fn limits_are_64_columns_and_64_deep(rt: HostRuntime) -> Result<(), Fail> {
-    let column = (
-        SyntaxKind::Number,
-        "CREATE TABLE t (",
-        "c INTEGER,",
-        16 + 64 * 10,
-        "PRIMARY KEY c)",
-    );
-    let not = (
-        SyntaxKind::Deep,
-        "DELETE FROM t WHERE ",
-        "NOT ",
-        20 + 64 * 4,
-        "a = 1",
-    );
-    let open = (SyntaxKind::Deep, "DELETE FROM t WHERE ", "(", 20 + 64, "");
-    for (kind, front, part, at, back) in [column, not, open] {
-        let text = repeated(rt.alloc(), front, part, 65, back)?;
+    for (front, part, back, kind, at, fits) in REPEATED {
+        let beyond = fault_of(rt.alloc(), front, part, 65, back)?;
         assert!(rt;
-            fault(rt.alloc(), text.as_str())? == Some(SqlSyntax { at, kind }),
+            beyond
+                == Some(SqlSyntax {
+                    at: *at,
+                    kind: *kind
+                }),
             "{part}"
         );
-    }
-    for (front, part, back) in [(column.1, column.2, column.4), (not.1, not.2, not.4)] {
-        let text = repeated(rt.alloc(), front, part, 64, back)?;
-        assert!(rt; fault(rt.alloc(), text.as_str())? == None, "{part}");
+        if *fits {
+            assert!(rt;
+                fault_of(rt.alloc(), front, part, 64, back)? == None,
+                "{part}"
+            );
+        }
     }
     Ok(())
 }

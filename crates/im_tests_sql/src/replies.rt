@@ -11,38 +11,64 @@ use sqlite_items::Items;
 use std::alloc::{AllocError, Global};
 use std::test::Fail;
 
-fn text(alloc: Global, octets: &[u8]) -> Result<Value, AllocError> {
-    Ok(Value::Varchar(Octets::from_slice(alloc, octets)?))
-}
-
-// A row of each kind of value, and one of those that aren't printed as they stand.
-fn two_rows(alloc: Global) -> Result<SqlRows, AllocError> {
-    let blob = Value::Blob(Octets::from_slice(alloc, b"\x00\xff")?);
+// A row of each kind of value.
+fn row_of_kinds(alloc: Global) -> Result<Row, AllocError> {
+    let blob = Octets::from_slice(alloc, b"\x00\xff")?;
     let kinds = vec![in alloc;
         Value::Null,
         Value::Integer(i64::MIN),
         Value::Boolean(true),
         Value::Boolean(false),
-        blob,
+        Value::Blob(blob),
     ]?;
-    let quote = text(alloc, b"it's")?;
-    let backslash = text(alloc, b"a\\b")?;
-    let others = text(alloc, b"\x00\x0a\x1f \x7e\x7f\xc3\xa9")?;
-    let texts = vec![in alloc; quote, backslash, others]?;
-    let rows = vec![in alloc; Row::from_vec(kinds), Row::from_vec(texts)]?;
-    Ok(Items::from_vec(rows))
+    Ok(Row::from_vec(kinds))
+}
+
+// Texts that aren't printed as they stand.
+static TEXTS: &[&[u8]] = &[b"it's", b"a\\b", b"\x00\x0a\x1f \x7e\x7f\xc3\xa9"];
+
+// A row of these texts.
+fn row_of_texts(alloc: Global) -> Result<Row, AllocError> {
+    let mut values = Vec::new(alloc);
+    for text in TEXTS {
+        values.push(Value::Varchar(Octets::from_slice(alloc, text)?))?;
+    }
+    Ok(Row::from_vec(values))
+}
+
+// Adds one row of each of the two.
+fn push_both(alloc: Global, rows: &mut Vec<Row>) -> Result<(), AllocError> {
+    rows.push(row_of_kinds(alloc)?)?;
+    rows.push(row_of_texts(alloc)?)?;
+    Ok(())
+}
+
+// A row of each kind of value, and one of those that aren't printed as they stand.
+fn two_rows(alloc: Global) -> Result<SqlRows, AllocError> {
+    let mut rows = Vec::new(alloc);
+    match push_both(alloc, &mut rows) {
+        Ok(()) => Ok(Items::from_vec(rows)),
+        Err(error) => {
+            drop(rows);
+            Err(error)
+        }
+    }
+}
+
+// Whether rows are printed so.
+fn are_printed(alloc: Global, rows: SqlRows, text: &[u8]) -> Result<bool, AllocError> {
+    let printed = rows_text(alloc, &rows);
+    drop(rows);
+    Ok(printed?.as_slice() == text)
 }
 
 #[test]
 fn rows_are_printed_on_one_line(rt: HostRuntime) -> Result<(), Fail> {
     let alloc = rt.alloc();
-    let told = rows_text(alloc, &two_rows(alloc)?)?;
-    assert!(rt;
-        told.as_slice()
-            == b"rows 2 (NULL, -9223372036854775808, true, false, x'00ff') ('it''s', 'a\\\\b', '\\x00\\x0a\\x1f ~\\x7f\xc3\xa9')".as_slice()
-    );
-    let none = rows_text(alloc, &Items::from_vec(Vec::new(alloc)))?;
-    assert!(rt; none.as_slice() == b"rows 0".as_slice());
+    let text =
+        b"rows 2 (NULL, -9223372036854775808, true, false, x'00ff') ('it''s', 'a\\\\b', '\\x00\\x0a\\x1f ~\\x7f\xc3\xa9')";
+    assert!(rt; are_printed(alloc, two_rows(alloc)?, text)?);
+    assert!(rt; are_printed(alloc, Items::from_vec(Vec::new(alloc)), b"rows 0")?);
     Ok(())
 }
 

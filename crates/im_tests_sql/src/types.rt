@@ -3,6 +3,7 @@
 use im_octet::octets::Octets;
 use im_sqltype::kinds::ValueKind;
 use im_sqltype::reading::{ReadError, read_row, read_value};
+use im_sqltype::rows::Row;
 use im_sqltype::texts::{row_text, value_text};
 use im_sqltype::values::Value;
 use std::alloc::{AllocError, Global};
@@ -20,7 +21,7 @@ enum Sample {
 
 // The values of each kind are in rising order.
 #[rattlefmt::skip]
-const SAMPLES: [(ValueKind, Sample, &[u8]); 20] = [
+static SAMPLES: &[(ValueKind, Sample, &[u8])] = &[
     (ValueKind::Integer, Sample::Null, &[0]),
     (ValueKind::Integer, Sample::Integer(-9223372036854775808), &[1, 0, 0, 0, 0, 0, 0, 0, 0]),
     (ValueKind::Integer, Sample::Integer(-2), &[1, 127, 255, 255, 255, 255, 255, 255, 254]),
@@ -44,7 +45,7 @@ const SAMPLES: [(ValueKind, Sample, &[u8]); 20] = [
 ];
 
 // No value of the kind has these texts.
-const OTHERS: [(ValueKind, &[u8]); 11] = [
+static OTHERS: &[(ValueKind, &[u8])] = &[
     (ValueKind::Integer, &[]),
     (ValueKind::Integer, &[1, 128, 0, 0, 0, 0, 0, 0]),
     (ValueKind::Integer, &[1, 128, 0, 0, 0, 0, 0, 0, 0, 0]),
@@ -68,60 +69,102 @@ fn value_of(alloc: Global, sample: Sample) -> Result<Value, AllocError> {
     })
 }
 
+// Whether a value has this text.
+fn is_written(alloc: Global, value: &Value, text: &[u8]) -> Result<bool, AllocError> {
+    let written = value_text(alloc, value)?;
+    let same = written.as_slice() == text;
+    drop(written);
+    Ok(same)
+}
+
+// Whether a value of this kind is read from this text.
+fn is_read(alloc: Global, kind: ValueKind, value: &Value, text: &[u8]) -> Result<bool, ReadError> {
+    let read = read_value(alloc, kind, text)?;
+    let same = read == *value;
+    drop(read);
+    Ok(same)
+}
+
 // Whether a value has this text, and is read back from it.
 fn is_kept(alloc: Global, kind: ValueKind, sample: Sample, text: &[u8]) -> Result<bool, Fail> {
     let value = value_of(alloc, sample)?;
-    let written = value_text(alloc, &value)?;
-    let read = read_value(alloc, kind, text)?;
-    let kept = written.as_slice() == text && read == value;
+    let written = is_written(alloc, &value, text);
+    let read = is_read(alloc, kind, &value, text);
     drop(value);
-    drop(read);
-    Ok(kept)
+    Ok(written? && read?)
+}
+
+// Whether a value is below the second.
+fn is_less(alloc: Global, one: &Value, other: Sample) -> Result<bool, AllocError> {
+    let other = value_of(alloc, other)?;
+    let less = *one < other;
+    drop(other);
+    Ok(less)
 }
 
 // Whether the first value is below the second.
 fn is_below(alloc: Global, one: Sample, other: Sample) -> Result<bool, AllocError> {
     let one = value_of(alloc, one)?;
-    let other = value_of(alloc, other)?;
-    let below = one < other;
+    let below = is_less(alloc, &one, other);
     drop(one);
-    drop(other);
-    Ok(below)
+    below
+}
+
+static ROW: &[Sample] = &[Sample::Integer(1), Sample::Varchar(b"a"), Sample::Null];
+
+// The row of these values.
+fn sample_row(alloc: Global) -> Result<Row, AllocError> {
+    let mut values = Vec::new(alloc);
+    for sample in ROW {
+        values.push(value_of(alloc, *sample)?)?;
+    }
+    Ok(Row::from_vec(values))
+}
+
+// Its text.
+const ROW_TEXT: [u8; 14] = [1, 128, 0, 0, 0, 0, 0, 0, 1, 1, 97, 0, 0, 0];
+
+// Whether a row has its text.
+fn is_row_written(alloc: Global, row: &[Value]) -> Result<bool, AllocError> {
+    let written = row_text(alloc, row)?;
+    let same = written.as_slice() == ROW_TEXT.as_slice();
+    drop(written);
+    Ok(same)
+}
+
+// Whether a row is read from its text.
+fn is_row_read(alloc: Global, row: &[Value]) -> Result<bool, ReadError> {
+    let kinds = [ValueKind::Integer, ValueKind::Varchar, ValueKind::Blob];
+    let read = read_row(alloc, &kinds, &ROW_TEXT)?;
+    let same = read.as_slice() == row;
+    drop(read);
+    Ok(same)
 }
 
 // Whether the row of 1, `a` and NULL has its text, and is read back from it.
 fn a_row_is_kept(alloc: Global) -> Result<bool, Fail> {
-    let text: [u8; 14] = [1, 128, 0, 0, 0, 0, 0, 0, 1, 1, 97, 0, 0, 0];
-    let one = value_of(alloc, Sample::Integer(1))?;
-    let other = value_of(alloc, Sample::Varchar(b"a"))?;
-    let row = [one, other, Value::Null];
-    let written = row_text(alloc, &row)?;
-    let read = read_row(
-        alloc,
-        &[ValueKind::Integer, ValueKind::Varchar, ValueKind::Blob],
-        &text,
-    )?;
-    let kept = written.as_slice() == text.as_slice() && read.as_slice() == row.as_slice();
+    let row = sample_row(alloc)?;
+    let written = is_row_written(alloc, row.as_slice());
+    let read = is_row_read(alloc, row.as_slice());
     drop(row);
-    drop(read);
-    Ok(kept)
+    Ok(written? && read?)
 }
 
 #[test]
 fn values_have_their_texts_and_are_read_back(rt: HostRuntime) -> Result<(), Fail> {
     let mut before = None;
     for (kind, sample, text) in SAMPLES {
-        assert!(rt; is_kept(rt.alloc(), kind, sample, text)?);
+        assert!(rt; is_kept(rt.alloc(), *kind, *sample, text)?);
         match before {
-            Some((other_kind, other)) if other_kind == kind => {
-                assert!(rt; is_below(rt.alloc(), other, sample)?);
+            Some((other_kind, other)) if other_kind == *kind => {
+                assert!(rt; is_below(rt.alloc(), other, *sample)?);
             }
             _ => {}
         }
-        before = Some((kind, sample));
+        before = Some((*kind, *sample));
     }
     for (kind, text) in OTHERS {
-        let read = read_value(rt.alloc(), kind, text);
+        let read = read_value(rt.alloc(), *kind, text);
         assert!(rt; read.err() == Some(ReadError::NotText));
     }
     assert!(rt; a_row_is_kept(rt.alloc())?);
