@@ -60,9 +60,13 @@ impl<'a, R: Files> FileKeeper<'a, R> {
     {
         let mut file = appending(self.rt, self.path)?;
         self.bring_name()?;
-        let (length, lacks_end) = end_of(&mut file)?;
+        let length = file.metadata()?.len();
+        let lacks_end = lacks_end(&mut file, length)?;
         let line = line_of(self.alloc, text)?;
-        put_or_cut(&mut file, length, lacks_end, &line)?;
+        if let Err(error) = put(&mut file, lacks_end, &line) {
+            let _ = file.set_len(length).and_then(|_| file.sync_data());
+            return Err(KeeperError::from(error));
+        }
         Ok(())
     }
 
@@ -110,29 +114,14 @@ impl From<io::Error> for KeeperError {
 
 // The texts of a file's lines, and none where there is no file.
 fn read_file<R: Files>(rt: &R, alloc: Global, path: &str) -> Result<Vec<Octets>, KeeperError> {
-    let octets = octets_of(rt, alloc, path)?;
-    Ok(texts_of(alloc, &octets)?)
-}
-
-// The octets of a file, and none where there is no file.
-fn octets_of<R: Files>(rt: &R, alloc: Global, path: &str) -> io::Result<Vec<u8>> {
+    let mut file = match fs::open(rt, path) {
+        Ok(file) => file,
+        Err(error) if error.kind() == ErrorKind::NotFound => return Ok(Vec::new(alloc)),
+        Err(error) => return Err(KeeperError::from(error)),
+    };
     let mut octets = Vec::new(alloc);
-    match fs::open(rt, path) {
-        Ok(mut file) => {
-            file.read_to_end(&mut octets)?;
-        }
-        Err(error) => unless_absent(error)?,
-    }
-    Ok(octets)
-}
-
-// The error, unless it says that there is no such file.
-fn unless_absent(error: io::Error) -> io::Result<()> {
-    if error.kind() != ErrorKind::NotFound {
-        return Err(error);
-    }
-    drop(error);
-    Ok(())
+    file.read_to_end(&mut octets)?;
+    Ok(texts_of(alloc, &octets)?)
 }
 
 // Opens a file to add to it and to look at its end, and makes it where there is none.
@@ -140,13 +129,6 @@ fn appending<R: Files>(rt: &R, path: &str) -> io::Result<R::File> {
     let mut how = OpenOptions::new();
     how.read(true).append(true).create(true);
     how.open(rt, path)
-}
-
-// The length of a file, and whether its last line lacks its LF.
-fn end_of<F: Read + Seek + OpenFile>(file: &mut F) -> io::Result<(u64, bool)> {
-    let length = file.metadata()?.len();
-    let lacks_end = lacks_end(file, length)?;
-    Ok((length, lacks_end))
 }
 
 // Whether a file of this length has a last line that lacks its LF.
@@ -158,21 +140,6 @@ fn lacks_end<F: Read + Seek>(file: &mut F, length: u64) -> io::Result<bool> {
     file.seek(SeekFrom::Start(length - 1))?;
     let read = file.read(&mut last)?;
     Ok(read == 1 && last[0] != LF)
-}
-
-// Writes a line behind the end of a file of this length. After an error the file is as long as it was, unless cutting it back
-// fails too.
-fn put_or_cut<F: Write + OpenFile>(
-    file: &mut F,
-    length: u64,
-    lacks_end: bool,
-    line: &[u8],
-) -> io::Result<()> {
-    let answer = put(file, lacks_end, line);
-    if answer.is_err() {
-        let _ = file.set_len(length).and_then(|_| file.sync_data());
-    }
-    answer
 }
 
 // Writes a line to a file, behind the LF that the last one lacks, and brings both to the disk.
