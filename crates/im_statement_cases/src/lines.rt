@@ -10,6 +10,7 @@ use crate::wrong::{Fault, Wrong};
 use im_sql_words::octets::octets;
 use im_text::numbers::read_number;
 use std::alloc::Global;
+use std::mem;
 
 /// A line for each line of a file: what it is answered.
 pub fn read(alloc: Global, lines: &str) -> Result<String, Fault> {
@@ -18,80 +19,84 @@ pub fn read(alloc: Global, lines: &str) -> Result<String, Fault> {
     let mut number = 0u64;
     for line in lines.split_terminator('\n') {
         number = number.saturating_add(1);
-        session = match taken(alloc, &mut out, session, line) {
-            Ok(session) => session,
-            Err(wrong) => return Err(wrong.at(number)),
-        };
+        if let Err(wrong) = take(alloc, &mut out, &mut session, line) {
+            drop(session);
+            return Err(wrong.at(number));
+        }
     }
     drop(session);
     Ok(out)
 }
 
-// Adds what a line is answered and an LF, and gives the session behind it.
-fn taken(alloc: Global, out: &mut String, session: Session, line: &str) -> Result<Session, Wrong> {
+// Adds what a line is answered and an LF.
+fn take(alloc: Global, out: &mut String, session: &mut Session, line: &str) -> Result<(), Wrong> {
     let (word, rest) = line.split_once(' ').unwrap_or((line, ""));
-    let session = match word {
-        "new" => anew(alloc, out, session)?,
-        "put" => with_put(alloc, out, session, rest)?,
-        "sql" => with_statement(alloc, out, session, rest)?,
-        "at" => read_at(alloc, out, session, rest)?,
-        "kept" => tested(alloc, out, session)?,
-        _ => return Err(Wrong::Line),
-    };
-    out.push('\n')?;
-    Ok(session)
+    answer(alloc, out, session, word, rest)?;
+    Ok(out.push('\n')?)
 }
 
-fn anew(alloc: Global, out: &mut String, session: Session) -> Result<Session, Wrong> {
-    drop(session);
-    out.push_str("new")?;
-    Ok(Session::new(alloc))
+fn answer(
+    alloc: Global,
+    out: &mut String,
+    session: &mut Session,
+    word: &str,
+    rest: &str,
+) -> Result<(), Wrong> {
+    match word {
+        "new" => anew(alloc, out, session),
+        "put" => place_put(alloc, out, session, rest),
+        "sql" => place_statement(alloc, out, session, rest),
+        "at" => read_at(alloc, out, session, rest),
+        "kept" => test(alloc, out, session),
+        _ => Err(Wrong::Line),
+    }
+}
+
+fn anew(alloc: Global, out: &mut String, session: &mut Session) -> Result<(), Wrong> {
+    drop(mem::replace(session, Session::new(alloc)));
+    Ok(out.push_str("new")?)
 }
 
 // `put KEY=VALUE !KEY ..`
-fn with_put(
+fn place_put(
     alloc: Global,
     out: &mut String,
-    session: Session,
+    session: &mut Session,
     words: &str,
-) -> Result<Session, Wrong> {
-    let prepared = put(alloc, words)?;
-    let session = session.placed(alloc, prepared)?;
-    out.push_str("put")?;
-    Ok(session)
+) -> Result<(), Wrong> {
+    session.place(alloc, put(alloc, words)?)?;
+    Ok(out.push_str("put")?)
 }
 
 // `sql TEXT`: what it asks to be placed is placed.
-fn with_statement(
+fn place_statement(
     alloc: Global,
     out: &mut String,
-    session: Session,
+    session: &mut Session,
     digits: &str,
-) -> Result<Session, Wrong> {
-    let judged = judge_text(alloc, &session, digits, session.len())?;
-    push_judged(out, &judged)?;
+) -> Result<(), Wrong> {
+    let judged = judge_text(alloc, session, digits, session.len())?;
+    if let Err(error) = push_judged(out, &judged) {
+        drop(judged);
+        return Err(error.into());
+    }
     match to_place(judged) {
-        Some(prepared) => session.placed(alloc, prepared),
-        None => Ok(session),
+        Some(prepared) => session.place(alloc, prepared),
+        None => Ok(()),
     }
 }
 
 // `at N TEXT`: nothing is placed.
-fn read_at(
-    alloc: Global,
-    out: &mut String,
-    session: Session,
-    words: &str,
-) -> Result<Session, Wrong> {
+fn read_at(alloc: Global, out: &mut String, session: &Session, words: &str) -> Result<(), Wrong> {
     let (number, digits) = words.split_once(' ').ok_or(Wrong::Line)?;
     let n = read_number(number.as_bytes()).ok_or(Wrong::Number)?;
     if n > session.len() {
         return Err(Wrong::Number);
     }
-    let judged = judge_text(alloc, &session, digits, n)?;
-    push_judged(out, &judged)?;
+    let judged = judge_text(alloc, session, digits, n)?;
+    let pushed = push_judged(out, &judged);
     drop(judged);
-    Ok(session)
+    Ok(pushed?)
 }
 
 // What the text of these hex digits comes to after the first `n` transactions.
@@ -106,10 +111,9 @@ fn judge_text(alloc: Global, session: &Session, digits: &str, n: u64) -> Result<
 }
 
 // `kept`: whether the keys are SQL's after all transactions.
-fn tested(alloc: Global, out: &mut String, session: Session) -> Result<Session, Wrong> {
-    match not_kept(alloc, &session)? {
-        Some(tx) => write!(out, "unkept {tx}")?,
-        None => out.push_str("kept")?,
+fn test(alloc: Global, out: &mut String, session: &Session) -> Result<(), Wrong> {
+    match not_kept(alloc, session)? {
+        Some(tx) => Ok(write!(out, "unkept {tx}")?),
+        None => Ok(out.push_str("kept")?),
     }
-    Ok(session)
 }

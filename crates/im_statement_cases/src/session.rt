@@ -31,7 +31,7 @@ impl Model for Session {
 }
 
 impl Session {
-    ghost use Rattle.std.specs.Prelude.{◌≡◌, ◌∷◌, ◌++◌, [], length, IfOk};
+    ghost use Rattle.std.specs.Prelude.{◌≡◌, ◌∷◌, ◌++◌, [], length, IfOk, OnOk};
     ghost use Rattle.im_model.specs.History.{IsHistory};
     ghost use Rattle.im_book.specs.Booked.{last_bl};
     ghost use Rattle.im_index.specs.Indexed.{IsSnapshotOf};
@@ -61,13 +61,13 @@ impl Session {
         self.index.snapshot(alloc, self.index.taken())
     }
 
-    /// The session behind what is placed.
+    /// Places what is asked for behind all transactions.
     ///
     /// # Errors
     ///
     /// `Refused` where a precondition doesn't hold, or there are as many transactions as there may be. `Memory` where memory
-    /// runs out.
-    pub fn placed(self, alloc: Global, prepared: Prepared) -> Result<Self, Wrong> {
+    /// runs out. Then nothing is placed.
+    pub fn place(&mut self, alloc: Global, prepared: Prepared) -> Result<(), Wrong> {
         if place_refusal(alloc, &self.transactions, prepared.pres())?.is_some() {
             return Err(Wrong::Refused);
         }
@@ -78,26 +78,18 @@ impl Session {
             entries,
             bl: 0,
         };
-        self.with(alloc, tx)
+        self.push(alloc, tx)
     }
 
-    // The session behind one more transaction.
-    fn with(self, alloc: Global, tx: Transaction) -> Result<Self, Wrong>
-        requires history { IsHistory (self ++ tx ∷ []) }
+    // Adds one more transaction, or nothing where memory runs out.
+    fn push(&mut self, alloc: Global, tx: Transaction) -> Result<(), Wrong>
+        requires history { IsHistory (self.old ++ tx ∷ []) }
         requires tree { tx.bl ≡ 0 }
-        ensures { IfOk result (λ session. session ≡ self ++ tx ∷ []) }
+        ensures { OnOk result (self.new ≡ self.old ++ tx ∷ []) }
     {
-        let Session {
-            transactions,
-            index,
-        } = self;
-        let mut transactions = transactions;
-        let mut index = index;
-        index.take(alloc, &tx)?;
-        transactions.push(tx)?;
-        Ok(Session {
-            transactions,
-            index,
-        })
+        self.transactions.reserve(1)?;
+        self.index.take(alloc, &tx)?;
+        self.transactions.push_reserved(tx);
+        Ok(())
     }
 }
