@@ -1,6 +1,6 @@
 //! What is placed: entries, and the preconditions that no key of some is written behind the number that was read.
 
-ghost use Rattle.std.specs.Prelude.{◌≡◌, ◌<◌, ◌-◌, ◌^◌, ◌∷◌, [], length, map, filter, IfOk};
+ghost use Rattle.std.specs.Prelude.{◌≡◌, ◌<◌, ◌-◌, ◌^◌, ◌∷◌, ◌++◌, [], length, map, filter, IfOk, OnOk};
 ghost use Rattle.im_draft.specs.declared.preconditions.Pre.TheVariants.{Since};
 ghost use Rattle.im_sqlmodel.specs.Creations as spec;
 ghost use Rattle.im_sqlmodel.specs.Tables.{IsTable};
@@ -139,15 +139,24 @@ fn is_guarded(key: &[u8]) -> bool
     key.starts_with(&[0, 4]) || key.starts_with(&[0, 6])
 }
 
+// Adds the key of one that is written, where it is guarded.
+fn push_guarded(alloc: Global, keys: &mut Vec<Octets>, one: &Written) -> Result<(), AllocError>
+    ensures { OnOk result (keys.new.items ≡ keys.old.items ++ filter rules.is_guarded (one.now.key ∷ [])) }
+{
+    if is_guarded(one.key.as_slice()) {
+        let key = Octets::from_slice(alloc, one.key.as_slice())?;
+        keys.push(key)?;
+    }
+    Ok(())
+}
+
 // The key of the next index, and those of what is written that are guarded.
 fn guarded(alloc: Global, next: Octets, written: &[Written]) -> Result<Vec<Octets>, AllocError>
     ensures { IfOk result (λ keys. keys.items ≡ next ∷ filter rules.is_guarded (map (λ w. w.key) written.now)) }
 {
     let mut keys = vec![in alloc; next]?;
     for one in written {
-        if is_guarded(one.key.as_slice()) {
-            keys.push(Octets::from_slice(alloc, one.key.as_slice())?)?;
-        }
+        push_guarded(alloc, &mut keys, one)?;
     }
     Ok(keys)
 }
