@@ -1,4 +1,6 @@
 -- The places of digests that are looked up one after the other.
+use Rattle.std.specs.BTreeMap.{BTreeMap, IsEmpty}
+use Rattle.std.specs.Borrow.{Bor}
 use Rattle.std.specs.Map.{update}
 use Rattle.std.specs.Str.{bytes_eq}
 use Rattle.std.proofs.Common.{◌≡◌, ◌≢◌, ◌⊎◌, inl, inr, ◌<◌, ◌≤◌, ◌+◌, ℕ, List, [], length, map, get_or, arith, refl, sym, ◌∙◌, ap, subst, true, false, Bool, Option, Some, None, cond, Contains}
@@ -9,7 +11,7 @@ use Rattle.std.proofs.lemmas.Slice.Eq.{bytes_eq-Decides}
 use Rattle.im_octet.proofs.Common.{some-is}
 use Rattle.im_digest.specs.Digests.{Hash}
 use Rattle.im_pairs.specs.Pairs.{IsPair, HasPair}
-use Rattle.im_hashed.specs.Places.{string_at}
+use Rattle.im_hashed.specs.Places.{place_in, string_at}
 
 -- a look-up gives, for the digest of each of the first n strings, the place of an equal one, and for no other digest any
 pub record ArePlaces (hash : Hash) (strings : List (List ℕ)) (n : ℕ) (find : List ℕ → Option ℕ) : Type 0 where
@@ -28,11 +30,15 @@ put-cases find put digest n =
     ] refl
 
 -- no place at first
-pub places-none : (hash : Hash) (strings : List (List ℕ)) (find : List ℕ → Option ℕ) → ((digest : List ℕ) → find digest ≡ None) → ArePlaces hash strings 0 find
+places-none : (hash : Hash) (strings : List (List ℕ)) (find : List ℕ → Option ℕ) → ((digest : List ℕ) → find digest ≡ None) → ArePlaces hash strings 0 find
 places-none hash strings find none = record {
   found = λ digest i e. absurd (let odd : None ≡ Some i = sym (none digest) ∙ e in cc);
   known = λ i less. absurd (omega arith);
 }
+
+-- none in an empty map
+pub places-empty : (hash : Hash) (strings : List (List ℕ)) (places : BTreeMap (Bor (List ℕ)) ℕ) → IsEmpty places → ArePlaces hash strings 0 (place_in places)
+places-empty hash strings places empty = places-none hash strings (place_in places) (λ digest. rw empty refl)
 
 -- where the digest of string n stood at the place of an equal one, or nowhere
 known-suc : (hash : Hash) (strings : List (List ℕ)) (n : ℕ) (put : List ℕ) (find next : List ℕ → Option ℕ) → put ≡ hash (string_at strings n)

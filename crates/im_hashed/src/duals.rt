@@ -26,8 +26,7 @@ pub(crate) fn add_dual<H: Hash32>(
     let alh = add_header(alloc, hash, out, &dual.source)?;
     add_header(alloc, hash, out, &dual.target)?;
     add_trees(alloc, hash, out, dual, &alh)?;
-    add_chains(alloc, hash, out, dual)?;
-    Ok(())
+    add_chains(alloc, hash, out, dual)
 }
 
 // What the type of a number says.
@@ -53,8 +52,7 @@ fn add_trees<H: Hash32>(
     let last = dual.last_inclusion.as_slice();
     add_inclusion(alloc, hash, out, dual.source.id, size, alh, inclusion)?;
     add_consistency(alloc, hash, out, dual.source.bl_tx_id, size, list)?;
-    add_last(alloc, hash, out, size, &dual.target_bl_tx_alh, last)?;
-    Ok(())
+    add_last(alloc, hash, out, size, &dual.target_bl_tx_alh, last)
 }
 
 // Adds the strings of the source's path, where it is due.
@@ -107,8 +105,7 @@ fn add_chains<H: Hash32>(
     let terms = dual.linear_advance.terms.as_slice();
     let paths = dual.linear_advance.inclusions.as_slice();
     add_linear(alloc, hash, out, start(dual.source.id, size), linear)?;
-    add_advance(alloc, hash, out, dual.source.bl_tx_id, size, terms, paths)?;
-    Ok(())
+    add_advance(alloc, hash, out, dual.source.bl_tx_id, size, terms, paths)
 }
 
 // The number that the linear terms begin with.

@@ -31,8 +31,7 @@ pub fn add_message<H: Hash32>(
         Message::Dual { dual } => add_dual(alloc, hash, out, dual),
         Message::Advance { dual, anchor } => {
             add_dual(alloc, hash, out, dual)?;
-            add_anchor(alloc, hash, out, anchor)?;
-            Ok(())
+            add_anchor(alloc, hash, out, anchor)
         }
         Message::Item {
             dual,
@@ -42,8 +41,7 @@ pub fn add_message<H: Hash32>(
         } => {
             add_dual(alloc, hash, out, dual)?;
             let width = dual.source.nentries;
-            add_item(alloc, hash, out, entry, *index, width, path.as_slice())?;
-            Ok(())
+            add_item(alloc, hash, out, entry, *index, width, path.as_slice())
         }
     }
 }

@@ -1,9 +1,16 @@
-use Rattle.std.proofs.Common.{◌+◌, [], get_or, arith, refl, drop, ap, ◌∙◌}
+use Rattle.std.proofs.Common.{◌+◌, ◌++◌, [], get_or, arith, refl, drop, ap, ◌∙◌}
 use Rattle.std.proofs.lemmas.List.{drop_all}
 use Rattle.im_model.specs.Chains.{chain_strings}
 use Rattle.im_model.proofs.Steps.{links-none}
+use Rattle.im_hashed.proofs.AddLemmas.{same-same}
 use Rattle.im_hashed.proofs.WalkLemmas.{chain-step, remains-done}
 use Rattle.im_hashed.proofs.chains.add_chain.Goals as goal
+
+pub loop-inner-init : goal.loop-inner-init
+loop-inner-init g c = record {
+  counted = omega arith;
+  remains = same-same (c.args.out.now.items ++ chain_strings (g.H.Hash32.digest c.args.hash.now) c.args.start.now c.args.from c.args.inners.now);
+}
 
 pub loop-inner-preserved : goal.loop-inner-preserved
 loop-inner-preserved g c = record {

@@ -3,19 +3,30 @@ use Rattle.std.specs.Prelude.{IfSome}
 use Rattle.im_pairs.specs.Pairs.{IsPair}
 use Rattle.im_hashed.specs.Places.{place_in, string_at}
 use Rattle.im_hashed.specs.declared.pairs.Pair.{Pair}
-use Rattle.im_hashed.proofs.PlaceLemmas.{places-suc, pair-found, none-found, digest-at, string-there, all-there, earlier-there}
+use Rattle.im_hashed.proofs.PlaceLemmas.{places-suc, pair-found, none-found, places-empty, digest-at, string-there, all-there, earlier-there}
 use Rattle.im_hashed.proofs.pairs.find_pair.Goals as goal
+
+pub loop-k-init : goal.loop-k-init
+loop-k-init g c = places-empty (g.H.Hash32.digest c.args.hash.now) c.args.strings.now c.new-places.result c.new-places.ensures.empty
 
 pub unlike-requires-clause-earlier : goal.unlike-requires-clause-earlier
 unlike-requires-clause-earlier g c =
     let less = string-there (g.H.Hash32.digest c.args.hash.now) c.args.strings.now c.deref-digest-items.result.now c.loop-k.k (c.deref-digest-items.ensures.value ∙ c.in_ok-digests.ensures) c.loop-k-test.true in
     earlier-there (g.H.Hash32.digest c.args.hash.now) c.args.strings.now c.loop-k.k c.as_slice.result.now (place_in c.loop-k.places) c.in_ok-earlier.earlier less c.loop-k.invariant c.in_ok-earlier.ensures.earlier
 
+pub unlike-requires-clause-here : goal.unlike-requires-clause-here
+unlike-requires-clause-here g c =
+    string-there (g.H.Hash32.digest c.args.hash.now) c.args.strings.now c.deref-digest-items.result.now c.loop-k.k (c.deref-digest-items.ensures.value ∙ c.in_ok-digests.ensures) c.loop-k-test.true
+
 pub pair_at-requires-clause-one : goal.pair_at-requires-clause-one
 pair_at-requires-clause-one g c =
     let less = string-there (g.H.Hash32.digest c.args.hash.now) c.args.strings.now c.deref-digest-items.result.now c.loop-k.k (c.deref-digest-items.ensures.value ∙ c.in_ok-digests.ensures) c.loop-k-test.true in
     subst (λ (o : Option ℕ). IfSome o (λ i. i < length c.args.strings.now)) c.in-Some.ensures.some.0
     (earlier-there (g.H.Hash32.digest c.args.hash.now) c.args.strings.now c.loop-k.k c.as_slice.result.now (place_in c.loop-k.places) c.in_ok-earlier.earlier less c.loop-k.invariant c.in_ok-earlier.ensures.earlier)
+
+pub pair_at-requires-clause-other : goal.pair_at-requires-clause-other
+pair_at-requires-clause-other g c =
+    string-there (g.H.Hash32.digest c.args.hash.now) c.args.strings.now c.deref-digest-items.result.now c.loop-k.k (c.deref-digest-items.ensures.value ∙ c.in_ok-digests.ensures) c.loop-k-test.true
 
 pub returns-in-Some-clause-found : goal.returns-in-Some-clause-found
 returns-in-Some-clause-found g c =
