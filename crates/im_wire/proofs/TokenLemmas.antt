@@ -1,5 +1,6 @@
 -- The tokens of an object in parts.
-use Rattle.std.proofs.Common.{◌≡◌, List, [], ◌∷◌, ◌++◌, refl, append_assoc}
+use Rattle.std.proofs.Common.{◌≡◌, ◌<◌, ◌+◌, List, [], ◌∷◌, ◌++◌, length, map, drop, get_or, refl, sym, ap, ◌∙◌, append_assoc}
+use Rattle.std.proofs.lemmas.List.{at_drop_more}
 use Rattle.json.specs.Token.{Token, begin_object, end_object}
 use Rattle.json.specs.Print.{print}
 use Rattle.serde_json.specs.Data.{Data, string}
@@ -12,26 +13,41 @@ use Rattle.im_proof.specs.declared.proofs.AdvanceProof.{AdvanceProof}
 use Rattle.im_proof.specs.declared.proofs.DualProof.{DualProof}
 use Rattle.im_wire.specs.declared.messages.Message.TheVariants.{State, Dual, Advance, Item}
 use Rattle.im_wire.specs.Texts.{hex_data, number_data, digests_data, digest_lists_data, header_data, entry_data, advance_proof_data, dual_proof_data, anchor_data, message_data}
-use Rattle.im_wire.specs.Tokens.{tokens_of, field_tokens, header_front_tokens, header_middle_tokens, header_back_tokens, entry_tokens, dual_front_tokens, dual_middle_tokens, dual_back_tokens, item_tokens}
+use Rattle.im_wire.specs.Tokens.{tokens_of, tail_tokens, field_tokens, header_front_tokens, header_middle_tokens, header_back_tokens, entry_tokens, dual_front_tokens, dual_middle_tokens, dual_back_tokens, item_tokens}
+
+-- what two parts add
+pub added2 : (o t1 t2 a b : List Token) → t1 ≡ o ++ a → t2 ≡ t1 ++ b → t2 ≡ o ++ (a ++ b)
+added2 o t1 t2 a b e1 e2 = rw (e2, e1) (append_assoc o a b)
 
 -- what three parts add
 pub added3 : (o t1 t2 t3 a b c : List Token) → t1 ≡ o ++ a → t2 ≡ t1 ++ b → t3 ≡ t2 ++ c → t3 ≡ o ++ (a ++ (b ++ c))
 added3 o t1 t2 t3 a b c e1 e2 e3 = rw (e3, e2, e1) (simp append_assoc)
 
 -- what an object of one part adds
-pub joined1 : (o t0 t1 t2 a : List Token) (x y : Token) → t0 ≡ o ++ x ∷ [] → t1 ≡ t0 ++ a → t2 ≡ t1 ++ y ∷ []
-    → t2 ≡ o ++ x ∷ (a ++ y ∷ [])
-joined1 o t0 t1 t2 a x y e0 e1 e2 = rw (e2, e1, e0) (simp append_assoc)
+pub joined1 : (o t0 t1 t2 a w : List Token) (x y : Token) → w ≡ x ∷ (a ++ y ∷ []) → t0 ≡ o ++ x ∷ [] → t1 ≡ t0 ++ a → t2 ≡ t1 ++ y ∷ []
+    → t2 ≡ o ++ w
+joined1 o t0 t1 t2 a w x y is e0 e1 e2 = rw (e2, e1, e0, is) (simp append_assoc)
 
 -- of two parts
-pub joined2 : (o t0 t1 t2 t3 a b : List Token) (x y : Token) → t0 ≡ o ++ x ∷ [] → t1 ≡ t0 ++ a → t2 ≡ t1 ++ b → t3 ≡ t2 ++ y ∷ []
-    → t3 ≡ o ++ x ∷ (a ++ (b ++ y ∷ []))
-joined2 o t0 t1 t2 t3 a b x y e0 e1 e2 e3 = rw (e3, e2, e1, e0) (simp append_assoc)
+pub joined2 : (o t0 t1 t2 t3 a b w : List Token) (x y : Token) → w ≡ x ∷ (a ++ (b ++ y ∷ [])) → t0 ≡ o ++ x ∷ [] → t1 ≡ t0 ++ a → t2 ≡ t1 ++ b
+    → t3 ≡ t2 ++ y ∷ [] → t3 ≡ o ++ w
+joined2 o t0 t1 t2 t3 a b w x y is e0 e1 e2 e3 = rw (e3, e2, e1, e0, is) (simp append_assoc)
 
 -- of three parts
-pub joined3 : (o t0 t1 t2 t3 t4 a b c : List Token) (x y : Token) → t0 ≡ o ++ x ∷ [] → t1 ≡ t0 ++ a → t2 ≡ t1 ++ b → t3 ≡ t2 ++ c → t4 ≡ t3 ++ y ∷ []
-    → t4 ≡ o ++ x ∷ (a ++ (b ++ (c ++ y ∷ [])))
-joined3 o t0 t1 t2 t3 t4 a b c x y e0 e1 e2 e3 e4 = rw (e4, e3, e2, e1, e0) (simp append_assoc)
+pub joined3 : (o t0 t1 t2 t3 t4 a b c w : List Token) (x y : Token) → w ≡ x ∷ (a ++ (b ++ (c ++ y ∷ []))) → t0 ≡ o ++ x ∷ [] → t1 ≡ t0 ++ a → t2 ≡ t1 ++ b
+    → t3 ≡ t2 ++ c → t4 ≡ t3 ++ y ∷ [] → t4 ≡ o ++ w
+joined3 o t0 t1 t2 t3 t4 a b c w x y is e0 e1 e2 e3 e4 = rw (e4, e3, e2, e1, e0, is) (simp append_assoc)
+
+-- an array's item is put behind the others
+pub item_put : {A : Type 0} (said : A → Data) (xs : List A) (i : ℕ) (x : A) (before after whole : List Token) → i < length xs
+    → after ≡ before ++ tokens_of (said (get_or xs i x))
+    → before ++ tail_tokens (map said (drop i xs)) ≡ whole → after ++ tail_tokens (map said (drop (i + 1) xs)) ≡ whole
+unfolding tokens_of tail_tokens
+item_put {A} said xs i x before after whole less put so_far =
+    ap (λ (ts : List Token). ts ++ tail_tokens (map said (drop (i + 1) xs))) put
+    ∙ append_assoc before (tokens_of (said (get_or xs i x))) (tail_tokens (map said (drop (i + 1) xs)))
+    ∙ sym (at_drop_more (λ (ys : List A). before ++ tail_tokens (map said ys)) xs i x less)
+    ∙ so_far
 
 -- a header's tokens
 pub header_parts : (h : Header) → tokens_of (header_data h) ≡ begin_object ∷ (header_front_tokens h ++ (header_middle_tokens h ++ (header_back_tokens h ++ end_object ∷ [])))

@@ -31,8 +31,7 @@ fn put_state(alloc: Global, out: &mut Writer, header: &Header) -> Result<(), All
     out.begin_object()?;
     put_header_field(alloc, out, "header", header)?;
     put_text_field(out, "type", "state")?;
-    out.end_object()?;
-    Ok(())
+    out.end_object()
 }
 
 // Adds a dual proof.
@@ -43,8 +42,7 @@ fn put_dual(alloc: Global, out: &mut Writer, dual: &DualProof) -> Result<(), All
     out.begin_object()?;
     put_dual_proof_field(alloc, out, "dual", dual)?;
     put_text_field(out, "type", "dual")?;
-    out.end_object()?;
-    Ok(())
+    out.end_object()
 }
 
 // Adds an advance.
@@ -61,8 +59,7 @@ fn put_advance(
     put_anchor_field(alloc, out, "anchor", anchor)?;
     put_dual_proof_field(alloc, out, "dual", dual)?;
     put_text_field(out, "type", "advance")?;
-    out.end_object()?;
-    Ok(())
+    out.end_object()
 }
 
 // Adds the members of an item between its dual proof and its type.
@@ -79,8 +76,7 @@ fn put_item_fields(
 {
     put_entry_field(alloc, out, "entry", entry)?;
     put_number_field(out, "index", u64::from(index))?;
-    put_digests_field(out, "path", path)?;
-    Ok(())
+    put_digests_field(out, "path", path)
 }
 
 // Adds an item.
@@ -99,8 +95,7 @@ fn put_item(
     put_dual_proof_field(alloc, out, "dual", dual)?;
     put_item_fields(alloc, out, entry, index, path)?;
     put_text_field(out, "type", "item")?;
-    out.end_object()?;
-    Ok(())
+    out.end_object()
 }
 
 // Adds a message.

@@ -16,8 +16,7 @@ fn put_advance_proof(out: &mut Writer, advance: &AdvanceProof) -> Result<(), All
     out.begin_object()?;
     put_digest_lists_field(out, "inclusions", &advance.inclusions)?;
     put_digests_field(out, "terms", &advance.terms)?;
-    out.end_object()?;
-    Ok(())
+    out.end_object()
 }
 
 // Adds a member that is a linear advance.
@@ -42,8 +41,7 @@ fn put_dual_front(out: &mut Writer, dual: &DualProof) -> Result<(), AllocError>
 {
     put_digests_field(out, "consistency", &dual.consistency)?;
     put_digests_field(out, "inclusion", &dual.inclusion)?;
-    put_digests_field(out, "lastInclusion", &dual.last_inclusion)?;
-    Ok(())
+    put_digests_field(out, "lastInclusion", &dual.last_inclusion)
 }
 
 // Adds the next two members.
@@ -53,8 +51,7 @@ fn put_dual_middle(out: &mut Writer, dual: &DualProof) -> Result<(), AllocError>
     ensures before { out.new.before ≡ out.old.before }
 {
     put_digests_field(out, "linear", &dual.linear)?;
-    put_advance_proof_field(out, "linearAdvance", &dual.linear_advance)?;
-    Ok(())
+    put_advance_proof_field(out, "linearAdvance", &dual.linear_advance)
 }
 
 // Adds the last three members.
@@ -65,8 +62,7 @@ fn put_dual_back(alloc: Global, out: &mut Writer, dual: &DualProof) -> Result<()
 {
     put_header_field(alloc, out, "source", &dual.source)?;
     put_header_field(alloc, out, "target", &dual.target)?;
-    put_digest_field(out, "targetBlTxAlh", &dual.target_bl_tx_alh)?;
-    Ok(())
+    put_digest_field(out, "targetBlTxAlh", &dual.target_bl_tx_alh)
 }
 
 // Adds a dual proof.
@@ -78,8 +74,7 @@ fn put_dual_proof(alloc: Global, out: &mut Writer, dual: &DualProof) -> Result<(
     put_dual_front(out, dual)?;
     put_dual_middle(out, dual)?;
     put_dual_back(alloc, out, dual)?;
-    out.end_object()?;
-    Ok(())
+    out.end_object()
 }
 
 // Adds a member that is a dual proof.

@@ -16,8 +16,7 @@ fn put_header_front(out: &mut Writer, header: &Header) -> Result<(), AllocError>
 {
     put_digest_field(out, "blRoot", &header.bl_root)?;
     put_number_field(out, "blTxId", header.bl_tx_id)?;
-    put_digest_field(out, "eh", &header.eh)?;
-    Ok(())
+    put_digest_field(out, "eh", &header.eh)
 }
 
 // Adds the next three members.
@@ -28,8 +27,7 @@ fn put_header_middle(alloc: Global, out: &mut Writer, header: &Header) -> Result
 {
     put_number_field(out, "id", header.id)?;
     put_hex_field(alloc, out, "md", header.md.as_slice())?;
-    put_number_field(out, "nentries", u64::from(header.nentries))?;
-    Ok(())
+    put_number_field(out, "nentries", u64::from(header.nentries))
 }
 
 // Adds the last three members.
@@ -40,8 +38,7 @@ fn put_header_back(out: &mut Writer, header: &Header) -> Result<(), AllocError>
 {
     put_digest_field(out, "prevAlh", &header.prev_alh)?;
     put_signed_field(out, "ts", header.ts)?;
-    put_number_field(out, "version", u64::from(header.version))?;
-    Ok(())
+    put_number_field(out, "version", u64::from(header.version))
 }
 
 // Adds a header.
@@ -53,8 +50,7 @@ pub(crate) fn put_header(alloc: Global, out: &mut Writer, header: &Header) -> Re
     put_header_front(out, header)?;
     put_header_middle(alloc, out, header)?;
     put_header_back(out, header)?;
-    out.end_object()?;
-    Ok(())
+    out.end_object()
 }
 
 // Adds a member that is a header.
@@ -80,8 +76,7 @@ fn put_entry_fields(alloc: Global, out: &mut Writer, entry: &Entry) -> Result<()
 {
     put_hex_field(alloc, out, "key", entry.key.as_slice())?;
     put_hex_field(alloc, out, "md", entry.md.as_slice())?;
-    put_hex_field(alloc, out, "value", entry.value.as_slice())?;
-    Ok(())
+    put_hex_field(alloc, out, "value", entry.value.as_slice())
 }
 
 // Adds an entry.
@@ -91,8 +86,7 @@ fn put_entry(alloc: Global, out: &mut Writer, entry: &Entry) -> Result<(), Alloc
 {
     out.begin_object()?;
     put_entry_fields(alloc, out, entry)?;
-    out.end_object()?;
-    Ok(())
+    out.end_object()
 }
 
 // Adds a member that is an entry.
