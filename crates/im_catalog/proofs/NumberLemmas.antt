@@ -2,7 +2,7 @@
 use Rattle.std.specs.Str.{bytes_eq}
 use Rattle.std.proofs.Common.{◌≡◌, ◌≤◌, ◌<◌, ◌+◌, ℕ, Bool, true, false, cond, not, List, [], ◌∷◌, ◌++◌, map, filter, inl, inr, Option, Some, unwrap_or, refl, sym, ap, ◌∙◌, subst, append_assoc, arith}
 use Rattle.std.proofs.lemmas.Bool.{cases_Bool}
-use Rattle.std.proofs.lemmas.List.{append-nil, map-append}
+use Rattle.std.proofs.lemmas.List.{append-nil}
 use Rattle.std.proofs.lemmas.List.Elements.{filter-append}
 use Rattle.std.proofs.lemmas.List.Sums.{sum_by-append, sum_by-cons, sum_by_push}
 use Rattle.std.proofs.lemmas.Slice.Eq.{bytes_eq-Decides}
@@ -13,7 +13,7 @@ use Rattle.im_sqltype.specs.Orders.{octets_cmp}
 use Rattle.im_sqlmodel.specs.Rows.{numbered}
 use Rattle.im_sqlmodel.specs.Sorts.{sorted}
 use Rattle.im_sqlmodel.proofs.SortLemmas.{sorted-all}
-use Rattle.im_catalog.specs.Numbered.{pair_of, pairs_of, Counted, counted_in, number_of, Counts}
+use Rattle.im_catalog.specs.Numbered.{pairs_of, Counted, counted_in, number_of, Counts}
 use Rattle.im_catalog.specs.declared.histories.Numbered.{Numbered}
 
 abbrev unit_of : Bool → ℕ
@@ -88,20 +88,13 @@ counted-put versions v old new number has is puts key = elim (cases_Bool (bytes_
 abbrev is_kept : ℕ × Version → Bool
 is_kept p = not p.1.deleted
 
-pub live-put : (vs : List Version) (v : Version) (live : List Numbered) (one : Numbered) → v.deleted ≡ false → pair_of one ≡ (count_by (is_of v.key) vs + 1, v)
-    → pairs_of live ≡ filter is_kept (numbered [] vs) → pairs_of (live ++ one ∷ []) ≡ filter is_kept (numbered [] (vs ++ v ∷ []))
-live-put vs v live one alive is so =
-    map-append pair_of live (one ∷ [])
-    ∙ ap (λ (ps : List (ℕ × Version)). ps ++ pair_of one ∷ []) so
-    ∙ ap (λ (p : ℕ × Version). filter is_kept (numbered [] vs) ++ p ∷ []) is
-    ∙ ap (λ (b : Bool). filter is_kept (numbered [] vs) ++ cond (not b) ((count_by (is_of v.key) vs + 1, v) ∷ []) []) (sym alive)
-    ∙ sym (filter-append is_kept (numbered [] vs) ((count_by (is_of v.key) vs + 1, v) ∷ []))
-    ∙ ap (filter is_kept) (sym (numbered-push [] vs v))
-
-pub live-skip : (vs : List Version) (v : Version) (live : List Numbered) → v.deleted ≡ true
-    → pairs_of live ≡ filter is_kept (numbered [] vs) → pairs_of live ≡ filter is_kept (numbered [] (vs ++ v ∷ []))
-live-skip vs v live gone so =
-    so ∙ sym (append-nil (filter is_kept (numbered [] vs)))
-    ∙ ap (λ (b : Bool). filter is_kept (numbered [] vs) ++ cond (not b) ((count_by (is_of v.key) vs + 1, v) ∷ []) []) (sym gone)
+-- one more version, with its number
+pub live-put : (vs : List Version) (v : Version) (live more : List Numbered) (number : ℕ) → number ≡ count_by (is_of v.key) vs + 1
+    → pairs_of more ≡ pairs_of live ++ filter is_kept ((number, v) ∷ [])
+    → pairs_of live ≡ filter is_kept (numbered [] vs) → pairs_of more ≡ filter is_kept (numbered [] (vs ++ v ∷ []))
+live-put vs v live more number is put so =
+    put
+    ∙ ap (λ (ps : List (ℕ × Version)). ps ++ filter is_kept ((number, v) ∷ [])) so
+    ∙ ap (λ (n : ℕ). filter is_kept (numbered [] vs) ++ filter is_kept ((n, v) ∷ [])) is
     ∙ sym (filter-append is_kept (numbered [] vs) ((count_by (is_of v.key) vs + 1, v) ∷ []))
     ∙ ap (filter is_kept) (sym (numbered-push [] vs v))

@@ -48,9 +48,8 @@ zip-pairs R items rows i r row l e zip here =
     zip-more R (pairs_of items) rows i (pair_of r) row
     (let long : length (pairs_of items) ≡ length items = length-map items pair_of in omega (arith, l, long)) (pair-at items i r l e) zip here
 
-pub zip-all : (R : ℕ × Version → List Value → Type 0) (vs : List Version) (items : List Numbered) (rows : List (List Value)) (i : ℕ) → length items ≤ i → pairs_of items ≡ in_order vs
-    → AllZip R (take i (pairs_of items)) rows → AllZip R (in_order vs) rows
-zip-all R vs items rows i past same zip =
-    subst (λ (ps : List (ℕ × Version)). AllZip R ps rows) same
-    (subst (λ (ps : List (ℕ × Version)). AllZip R ps rows)
-    (take_all i (pairs_of items) (let long : length (pairs_of items) ≡ length items = length-map items pair_of in omega (arith, past, long))) zip)
+pub zip-all : (R : ℕ × Version → List Value → Type 0) (items : List Numbered) (rows : List (List Value)) (i : ℕ) → length items ≤ i
+    → AllZip R (take i (pairs_of items)) rows → AllZip R (pairs_of items) rows
+zip-all R items rows i past zip =
+    subst (λ (ps : List (ℕ × Version)). AllZip R ps rows)
+    (take_all i (pairs_of items) (let long : length (pairs_of items) ≡ length items = length-map items pair_of in omega (arith, past, long))) zip

@@ -1,7 +1,7 @@
 //! The history of a table's rows: each version of a row's key has a number from 1, and each that isn't a deletion is
 //! a row, with its number behind its columns.
 
-ghost use Rattle.std.specs.Prelude.{◌≡◌, ◌≤◌, ◌<◌, ◌+◌, ◌-◌, ◌^◌, ℕ, [], List, length, take, filter, not, All, IfOk, OnOk};
+ghost use Rattle.std.specs.Prelude.{◌≡◌, ◌≤◌, ◌<◌, ◌+◌, ◌-◌, ◌^◌, ◌++◌, ◌∷◌, ℕ, [], List, length, take, filter, not, All, IfOk, OnOk};
 ghost use Rattle.std.specs.List.{AllZip, count_by};
 ghost use Rattle.im_model.specs.History.{IsHistory};
 ghost use Rattle.im_model.specs.declared.transactions.Transaction.{Transaction};
@@ -13,6 +13,7 @@ ghost use Rattle.im_sqlmodel.specs.Sorts.{sorted};
 ghost use Rattle.im_sqlmodel.specs.Tables as spec;
 ghost use Rattle.im_catalog.specs.Numbered.{pair_of, pairs_of, number_of, Counts};
 ghost use Rattle.im_catalog.specs.Rows.{HasRowText, IsRowIfLive};
+ghost use Rattle.im_catalog.specs.declared.histories.Numbered.{Numbered as TheNumbered};
 
 use crate::keys::rows_prefix;
 use crate::rows::{kinds_of, said_row};
@@ -61,9 +62,18 @@ fn revisions_of(alloc: Global, table: &Table, changes: &[Version]) -> Result<Vec
 {
     let mut numbered = live_numbered(alloc, changes)?;
     sort_by_key(&mut numbered)?;
+    rows_of(alloc, table, numbered.as_slice())
+}
+
+// The row of each, with its number behind it.
+fn rows_of(alloc: Global, table: &Table, numbered: &[Numbered<'_>]) -> Result<Vec<Row>, AllocError>
+    requires numbers { All (λ (n : TheNumbered). n.number < 2 ^ 63) numbered.now }
+    requires texts { All (λ (n : TheNumbered). HasRowText table.now n.version.now.key n.version.now.value) numbered.now }
+    ensures { IfOk result (λ rows. AllZip (IsRevision table.now) (pairs_of numbered.now) rows.items) }
+{
     let kinds = kinds_of(alloc, table)?;
     let mut rows = Vec::with_capacity(alloc, numbered.len())?;
-    for one in &numbered {
+    for one in numbered {
         let row = revision_of(alloc, table, kinds.as_slice(), *one)?;
         rows.push(row)?;
     }
@@ -78,11 +88,24 @@ fn live_numbered(alloc: Global, changes: &[Version]) -> Result<Vec<Numbered<'_>>
     let mut live = Vec::new(alloc);
     for version in changes {
         let number = next_number(&mut numbers, version.key.as_slice())?;
-        if !version.deleted {
-            live.push(Numbered { number, version })?;
-        }
+        push_live(&mut live, number, version)?;
     }
     Ok(live)
+}
+
+// Adds a version with its number, where it isn't a deletion.
+fn push_live<'v>(
+    live: &mut Vec<Numbered<'v>>,
+    number: u64,
+    version: &'v Version,
+) -> Result<(), AllocError>
+    ensures { OnOk result (pairs_of live.new.items ≡ pairs_of live.old.items ++ filter (λ p. not p.1.deleted) ((number, version.now) ∷ [])) }
+{
+    if version.deleted {
+        return Ok(());
+    }
+    live.push(Numbered { number, version })?;
+    Ok(())
 }
 
 // The number of the next version of a key, which is counted.

@@ -1,15 +1,10 @@
-use Rattle.std.proofs.Common.{◌≡◌, ◌+◌, ◌++◌, ◌∷◌, [], ℕ, List, filter, not, take, sym, ap, subst, ◌∙◌, Vec, Global}
+use Rattle.std.proofs.Common.{◌≡◌, ◌+◌, ◌++◌, ◌∷◌, [], ℕ, List, filter, not, take, sym, ap, subst, ◌∙◌}
 use Rattle.std.proofs.lemmas.List.{take_more}
 use Rattle.im_versions.specs.declared.versions.Version.{Version}
 use Rattle.im_sqlmodel.specs.Rows.{numbered}
 use Rattle.im_catalog.specs.Numbered.{pairs_of, number_of, Counts}
-use Rattle.im_catalog.specs.declared.histories.Numbered.{Numbered}
-use Rattle.im_catalog.proofs.NumberLemmas.{HasCounted, counted-put, live-put, live-skip}
+use Rattle.im_catalog.proofs.NumberLemmas.{HasCounted, counted-put, live-put}
 use Rattle.im_catalog.proofs.histories.live_numbered.Goals as goal
-use Rattle.im_catalog.proofs.histories.live_numbered.Goals.{then-not-version+in_ok-push, else-not-version}
-
-abbrev paired : Version → ℕ → ℕ × Version
-paired v n = (n, v)
 
 pub loop-version-preserved : goal.loop-version-preserved
 loop-version-preserved c =
@@ -21,12 +16,7 @@ loop-version-preserved c =
     let counted = subst (λ (k : List ℕ). Counts c.loop-version.numbers c.next_number.new.numbers k c.in_ok-number.number) c.as_slice.ensures c.in_ok-number.ensures.counted in (
       subst (λ (ws : List Version). HasCounted ws c.next_number.new.numbers) (sym more)
           (counted-put vs v c.loop-version.numbers c.next_number.new.numbers c.in_ok-number.number c.loop-version.invariant.0 number counted),
-      subst (λ (ws : List Version). pairs_of c.if-not-version.live.items ≡ filter (λ p. not p.1.deleted) (numbered [] ws)) (sym more)
-          (elim c.if-not-version.branch [
-            | then-not-version+in_ok-push w ↦
-                ap (λ (u : Vec Numbered Global). pairs_of u.items) w.live-is ∙ ap pairs_of w.in_ok-push.ensures.items
-                ∙ live-put vs v c.loop-version.live.items _ w.if-not-version.true (ap (paired v) (number ∙ ap (λ (n : ℕ). n + 1) (c.loop-version.invariant.0 v.key))) c.loop-version.invariant.1
-            | else-not-version w ↦
-                ap (λ (u : Vec Numbered Global). pairs_of u.items) w.live-is ∙ live-skip vs v c.loop-version.live.items w.if-not-version.false c.loop-version.invariant.1
-          ]),
+      subst (λ (ws : List Version). pairs_of c.push_live.new.live.items ≡ filter (λ p. not p.1.deleted) (numbered [] ws)) (sym more)
+          (live-put vs v c.loop-version.live.items c.push_live.new.live.items c.in_ok-number.number (number ∙ ap (λ (n : ℕ). n + 1) (c.loop-version.invariant.0 v.key))
+          c.in_ok-push_live.ensures c.loop-version.invariant.1),
     )
