@@ -38,15 +38,19 @@ fn list(alloc: Global, lasts: &[u8]) -> Result<Digests, AllocError> {
     Ok(Digests::from_vec(digests))
 }
 
-// The advance over the transactions 1 to 3, with this inner digest of transaction 2. In the tree the path of
-// 1 has 43 and e6 beside it, and that of 2 has a0 and e6.
+// In the tree the path of transaction 1 has 43 and e6 beside it, and that of 2 has a0 and e6.
+fn paths(alloc: Global) -> Result<DigestLists, AllocError> {
+    let mut paths = Vec::new(alloc);
+    paths.push(list(alloc, &[0x43, 0xe6])?)?;
+    paths.push(list(alloc, &[0xa0, 0xe6])?)?;
+    Ok(DigestLists::from_vec(paths))
+}
+
+// The advance over the transactions 1 to 3, with this inner digest of transaction 2.
 fn advance(alloc: Global, told: u8) -> Result<AdvanceProof, AllocError> {
     let terms = list(alloc, &[0xa0, told, 0xa1])?;
-    let paths = [list(alloc, &[0x43, 0xe6])?, list(alloc, &[0xa0, 0xe6])?];
-    Ok(AdvanceProof {
-        terms,
-        inclusions: DigestLists::from_vec(Vec::from_array(alloc, paths)?),
-    })
+    let inclusions = paths(alloc)?;
+    Ok(AdvanceProof { terms, inclusions })
 }
 
 // Under the sum of octets (in hex) the Alh of the transactions 1 to 3 are a0, 42 and e6, and their inner

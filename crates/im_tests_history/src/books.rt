@@ -9,6 +9,7 @@ use crate::values::{are, digest, setting};
 use im_book::book::Book;
 use im_digest::{D32, Sum};
 use im_entry::digests::entry_root;
+use im_model::headers::Header;
 use im_model::transactions::Transaction;
 use std::alloc::{AllocError, Global};
 use std::test::Fail;
@@ -60,6 +61,23 @@ fn three_over_growing_trees(alloc: Global) -> Result<Vec<Transaction>, Fail>
     Ok(history)
 }
 
+// Whether these are a header's digests.
+fn has_digests(header: &Header, root: u8, before: u8, eh: u8) -> bool {
+    header.bl_root == digest(root) && header.prev_alh == digest(before) && header.eh == digest(eh)
+}
+
+// Whether a header has the number k, and stands over the tree of all before it.
+fn has_numbers(header: &Header, k: u64) -> bool
+    requires { 1 ≤ k }
+{
+    header.id == k
+        && header.ts == 0
+        && header.bl_tx_id == k - 1
+        && header.version == 1
+        && header.nentries == 1
+        && header.md.as_slice().is_empty()
+}
+
 // Whether header k of a book, over the tree of all before it, has this root of its tree, this Alh before it, and
 // this root of its entries.
 fn has(book: &Book, k: u64, root: u8, before: u8, eh: u8) -> bool
@@ -68,12 +86,7 @@ fn has(book: &Book, k: u64, root: u8, before: u8, eh: u8) -> bool
     requires last { k ≤ length book.now.transactions }
 {
     let header = book.header(k);
-    (header.id, header.ts, header.bl_tx_id) == (k, 0, k - 1)
-        && (header.version, header.nentries) == (1, 1)
-        && header.bl_root == digest(root)
-        && header.prev_alh == digest(before)
-        && header.eh == digest(eh)
-        && header.md.as_slice().is_empty()
+    has_numbers(header, k) && has_digests(header, root, before, eh)
 }
 
 // The first entry adds up to 92 in hex: 1, its key 6b and its value's digest 26; the others to 9e: 1, 6b and 32.

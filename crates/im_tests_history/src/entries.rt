@@ -98,6 +98,19 @@ fn an_entry_is_copied_whole(alloc: Global) -> Result<bool, Fail> {
     Ok(whole)
 }
 
+// Whether a header has all parts of the one below.
+fn is_that_header(header: &Header) -> bool {
+    header.id == 7
+        && header.ts == -8
+        && header.bl_tx_id == 6
+        && header.version == 1
+        && header.nentries == 9
+        && header.bl_root == digest(1)
+        && header.prev_alh == digest(2)
+        && header.eh == digest(3)
+        && header.md.as_slice() == b"md".as_slice()
+}
+
 fn a_header_is_copied_whole(alloc: Global) -> Result<bool, AllocError> {
     let md = Octets::from_slice(alloc, b"md")?;
     let header = Header {
@@ -114,12 +127,7 @@ fn a_header_is_copied_whole(alloc: Global) -> Result<bool, AllocError> {
     let copied = header.try_clone(alloc);
     drop(header);
     let copy = copied?;
-    let whole = (copy.id, copy.ts, copy.bl_tx_id) == (7, -8, 6)
-        && (copy.version, copy.nentries) == (1, 9)
-        && copy.bl_root == digest(1)
-        && copy.prev_alh == digest(2)
-        && copy.eh == digest(3)
-        && copy.md.as_slice() == b"md".as_slice();
+    let whole = is_that_header(&copy);
     drop(copy);
     Ok(whole)
 }

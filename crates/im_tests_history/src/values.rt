@@ -58,10 +58,13 @@ pub(crate) fn entry_of(alloc: Global, write: &Write) -> Result<Entry, Fail> {
     if md.len() > 256 || key.is_empty() || key.len() > 1024 || value.len() > 4096 {
         return Err(Fail::from("an entry is beyond the limits"));
     }
+    let md = Octets::from_slice(alloc, md)?;
+    let key = Octets::from_slice(alloc, key)?;
+    let value = Octets::from_slice(alloc, value)?;
     Ok(Entry {
-        md: Metadata::new(Octets::from_slice(alloc, md)?),
-        key: Key::new(Octets::from_slice(alloc, key)?),
-        value: EntryValue::new(Octets::from_slice(alloc, value)?),
+        md: Metadata::new(md),
+        key: Key::new(key),
+        value: EntryValue::new(value),
     })
 }
 
