@@ -115,9 +115,11 @@ pub(crate) fn answer_set<H: Hash32, D: Disk, C: Clock, N: TipName, R: Wait>(
         let reply = reserved_text(alloc, i as u64)?;
         return Ok(Answer { number, reply });
     }
-    match prepare(alloc, drafts, pres) {
+    let made = prepare(alloc, drafts, pres);
+    match made {
         Ok(prepared) => commit(rt, alloc, store, pass, prepared),
         Err(why) => {
+            drop(made);
             let number = store.tip(pass);
             let reply = refused_text(alloc, why)?;
             Ok(Answer { number, reply })

@@ -1,4 +1,4 @@
-use Rattle.std.proofs.Common.{rules, ◌≡◌, ◌++◌, ◌∷◌, [], ◌∙◌, ℕ, List, length, Result, OnOk, refl, ap, sym, subst, append_assoc}
+use Rattle.std.proofs.Common.{◌≡◌, ◌++◌, ◌∷◌, [], ◌∙◌, ℕ, List, length, Result, OnOk, refl, ap, sym, subst, append_assoc}
 use Rattle.std.specs.Prelude.{IfErr}
 use Rattle.im_digest.specs.Digests.{Hash}
 use Rattle.im_report.specs.Report.{Answered, answer_line}
@@ -20,7 +20,7 @@ loop-line-init g c =
     record {
       can = tt;
       finite = tt;
-      all = search rules;
+      all = sym c.into_iter-line-iterator.ensures.into_iter_gives.0;
       pass = ready.pass;
       weight = ready.weight;
       number = refl;
@@ -82,6 +82,6 @@ pub returns-clause-ran : goal.returns-clause-ran
 returns-clause-ran g c =
     let i = c.loop-line.invariant in
     let rest = c.loop-line.line-iterator.rest in
-    let none : length rest.items ≡ 0 = search rules in
+    let none : length rest.items ≡ 0 = sym rest.ok.0 ∙ c.in-None.ensures.steps.0 in
     run_whole g.N.TipName.digest (start_of c.args.session.now) c.loop-line.session.pass c.loop-line.session.texts.items c.args.lines.items c.loop-line.yielded
     (all_of c.args.lines.items c.loop-line.yielded rest.items i.all none) i.run

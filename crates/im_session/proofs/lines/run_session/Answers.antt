@@ -1,4 +1,4 @@
-use Rattle.std.proofs.Common.{rules, ◌≡◌, List, subst}
+use Rattle.std.proofs.Common.{◌≡◌, List, Vec, Global, ap, subst}
 use Rattle.im_script.specs.declared.commands.Line.{Line}
 use Rattle.im_session.specs.Runs.{HasRun, start_of}
 use Rattle.im_session.proofs.lines.run_session.Goals as goal
@@ -6,7 +6,7 @@ use Rattle.im_session.proofs.lines.run_session.Goals as goal
 pub returns : goal.returns
 returns g c =
     let r = c.run_lines-session.ensures in
-    let lines : c.replace-lines.result.items ≡ c.args.session.now.lines.items = search rules in
+    let lines : c.replace-lines.result.items ≡ c.args.session.now.lines.items = ap (λ (v : Vec Line Global). v.items) c.replace-lines.ensures.value in
     record {
       done = record {
         pass = r.pass.0;

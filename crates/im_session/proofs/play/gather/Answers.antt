@@ -1,4 +1,4 @@
-use Rattle.std.proofs.Common.{rules, ◌≡◌, ◌++◌, ◌∷◌, [], ◌∙◌, List, length, refl, ap, sym, subst, arith, append_assoc, length-append}
+use Rattle.std.proofs.Common.{◌≡◌, ◌++◌, ◌∷◌, [], ◌∙◌, List, length, refl, ap, sym, subst, arith, append_assoc, length-append}
 use Rattle.std.specs.List.{All}
 use Rattle.im_session.proofs.GatherLemmas.{TakesIn, all_of, gathered_many, gathered_none, gathered_push, inside, middle}
 use Rattle.im_session.specs.Gathered.{AreGathered}
@@ -12,7 +12,7 @@ pub loop-session-init : goal.loop-session-init
 loop-session-init g c = record {
   can = tt;
   finite = tt;
-  all = search rules;
+  all = sym c.into_iter-session-iterator.ensures.into_iter_gives.0;
   main = c.requires.pass;
   number = refl;
   gathered = subst (λ (es : List Ended). AreGathered g.N.TipName.table c.args.main.now c.args.main.now [] es) (sym c.requires.room.1) (gathered_none g.N.TipName.table c.args.main.now c.requires.pass);
@@ -90,5 +90,5 @@ pub returns : goal.returns
 returns g c =
     let i = c.loop-session.invariant in
     let rest = c.loop-session.session-iterator.rest in
-    let none : length rest.items ≡ 0 = search rules in
+    let none : length rest.items ≡ 0 = sym rest.ok.0 ∙ c.in-None.ensures.steps.0 in
     subst (λ (ss : List Session). AreGathered g.N.TipName.table c.args.main.now c.loop-session.main ss c.loop-session.ended.items) (all_of c.args.sessions.items c.loop-session.yielded rest.items i.all none) i.gathered

@@ -1,4 +1,4 @@
-use Rattle.std.proofs.Common.{rules, ◌≡◌, ◌+◌, ◌++◌, ◌∷◌, [], ◌∙◌, ℕ, List, length, map, refl, ap, sym, subst, arith, append_assoc, length-append}
+use Rattle.std.proofs.Common.{◌≡◌, ◌+◌, ◌++◌, ◌∷◌, [], ◌∙◌, ℕ, List, length, map, refl, ap, sym, subst, arith, append_assoc, length-append}
 use Rattle.std.specs.List.{All}
 use Rattle.std.proofs.lemmas.List.{length-map}
 use Rattle.im_script.specs.declared.commands.Line.{Line}
@@ -13,7 +13,7 @@ pub loop-mine-init : goal.loop-mine-init
 loop-mine-init g c = record {
   can = tt;
   finite = tt;
-  all = search rules;
+  all = sym c.into_iter-mine-iterator.ensures.into_iter_gives.0;
   number = refl;
   left = handed_none g.N.TipName.table c.args.main.now c.requires.pass;
   ready = subst (All (IsReady g.N.TipName.found g.N.TipName.table)) (sym c.requires.none.0) (λ i d lt. absurd (omega arith));
@@ -78,7 +78,7 @@ loop-mine-preserved g c =
     handed_push table first old new (length c.loop-mine.yielded) i.left p.left.0 (omega (arith, i.left.weight, more, c.requires.room.1)) p.left.1 p.same.0 p.same.1 p.gains.own p.gains.leaves p.gains.faults in
     let count : length c.loop-mine.yielded + 1 ≡ length (c.loop-mine.yielded ++ mine ∷ []) = omega (arith, length-append c.loop-mine.yielded (mine ∷ [])) in
     let begun = begun_push g.N.TipName.found table first c.loop-mine.sessions.items c.push_reserved.new.self.items _ c.loop-mine.yielded mine c.push_reserved.ensures.items i.ready i.begins i.lines
-    (record { kept = c.requires.found; pass = p.given.0; weight = p.given.1; none = p.none.0; linked_none = p.none.1; told_none = p.none.2; texts = search rules }) (p.copy.0 ∙ i.left.seen, p.copy.1 ∙ i.left.least) (search rules) in
+    (record { kept = c.requires.found; pass = p.given.0; weight = p.given.1; none = p.none.0; linked_none = p.none.1; told_none = p.none.2; texts = c.new.ensures.items }) (p.copy.0 ∙ i.left.seen, p.copy.1 ∙ i.left.least) c.into_vec.ensures in
     record {
       can = tt;
       finite = tt;
@@ -96,12 +96,12 @@ pub returns-clause-left : goal.returns-clause-left
 returns-clause-left g c =
     let i = c.loop-mine.invariant in
     let rest = c.loop-mine.mine-iterator.rest in
-    let none : length rest.items ≡ 0 = search rules in
+    let none : length rest.items ≡ 0 = sym rest.ok.0 ∙ c.in-None.ensures.steps.0 in
     subst (λ (ls : List (List Line)). AreHanded g.N.TipName.table c.args.main.now c.loop-mine.main (length ls)) (all_of c.args.lines.items c.loop-mine.yielded rest.items i.all none) i.left
 
 pub returns-clause-lines : goal.returns-clause-lines
 returns-clause-lines g c =
     let i = c.loop-mine.invariant in
     let rest = c.loop-mine.mine-iterator.rest in
-    let none : length rest.items ≡ 0 = search rules in
+    let none : length rest.items ≡ 0 = sym rest.ok.0 ∙ c.in-None.ensures.steps.0 in
     i.lines ∙ all_of c.args.lines.items c.loop-mine.yielded rest.items i.all none

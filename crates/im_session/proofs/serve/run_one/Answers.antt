@@ -13,7 +13,7 @@ pub returns-then-is_empty-clause-ran : goal.returns-then-is_empty-clause-ran
 returns-then-is_empty-clause-ran g c =
     let written = g.K.Sink.written c.args.sink.now in
     let faults : ℕ = g.K.Sink.faults c.args.sink.now in
-    let same : c.as_slice.result.now ≡ c.args.phase = search rules in
+    let same : c.as_slice.result.now ≡ c.args.phase = c.as_slice.ensures in
     let empty : length c.as_slice.result.now ≡ 0 = search rules in
     let none : c.args.phase ≡ [] = sym same ∙ nil_from_length c.as_slice.result.now empty in
     subst (λ (ls : List Line). RunsPhase g.N.TipName.digest c.args.links c.args.main.now c.args.main.now ls written written faults faults (Ok tt)) (sym none)

@@ -28,7 +28,7 @@ pub loop-phase-init : goal.loop-phase-init
 loop-phase-init g c = record {
   can = tt;
   finite = tt;
-  all = search rules;
+  all = sym c.into_iter-phase-iterator.ensures.into_iter_gives.0;
   main = c.requires.pass;
   well = well_none g.N.TipName.digest c.args.links c.args.main.now (g.K.Sink.written c.args.sink.now) (g.K.Sink.faults c.args.sink.now);
 }
@@ -37,7 +37,7 @@ loop-phase-init g c = record {
 pub loop-phase-preserved : goal.loop-phase-preserved
 loop-phase-preserved g c =
     let i = c.loop-phase.invariant in
-    let told : c.run_one.result ≡ Ok tt = search rules in
+    let told : c.run_one.result ≡ Ok tt = c.in_ok-run_one.was in
     record {
       can = tt;
       finite = tt;
@@ -54,7 +54,7 @@ returns-in_err-run_one-clause-ran g c =
     let all : c.args.script.phases.items ≡ c.loop-phase.yielded ++ c.in-Some.phase ∷ rest =
     i.all ∙ ap (λ (l : List (List Line)). c.loop-phase.yielded ++ l) c.in-Some.ensures.steps.0 in
     let why : Stopped = c.in_err-run_one.field-0.0 in
-    let stopped : c.run_one.result ≡ Err why = search rules in
+    let stopped : c.run_one.result ≡ Err why = c.in_err-run_one.was in
     let same : c.from_residual.result ≡ Err why = search rules in
     subst (λ (end : Result Unit Stopped). RunsPhases g.N.TipName.digest c.args.links c.args.main.now c.run_one.new.main c.args.script.phases.items (g.K.Sink.written c.args.sink.now)
     (g.K.Sink.written c.run_one.new.sink) (g.K.Sink.faults c.args.sink.now) (g.K.Sink.faults c.run_one.new.sink) end) (sym same)
@@ -65,5 +65,5 @@ pub returns-clause-ran : goal.returns-clause-ran
 returns-clause-ran g c =
     let i = c.loop-phase.invariant in
     let rest = c.loop-phase.phase-iterator.rest in
-    let none : length rest.items ≡ 0 = search rules in
+    let none : length rest.items ≡ 0 = sym rest.ok.0 ∙ c.in-None.ensures.steps.0 in
     well_done c.args.script.phases.items (i.all ∙ ap (λ (l : List (List Line)). c.loop-phase.yielded ++ l) (nil_from_length rest.items none) ∙ append-nil c.loop-phase.yielded) i.well

@@ -1,4 +1,4 @@
-use Rattle.std.proofs.Common.{rules, ◌≡◌, ◌∷◌, [], List, length, ap, subst, sym, arith}
+use Rattle.std.proofs.Common.{◌≡◌, ◌++◌, ◌∷◌, [], ◌∙◌, List, length, ap, subst, sym, arith}
 use Rattle.im_session.proofs.ServeLemmas.{serves_of}
 use Rattle.im_session.specs.Served.{Serves}
 use Rattle.im_session.specs.Statements.{IsFoundKept}
@@ -25,7 +25,7 @@ returns g c =
     let now : KnownPass = c.run_phases-end.new.main in
     let disk = c.close-disk.result.0 in
     let clock = c.close-disk.result.1 in
-    let passes : c.push_reserved.new.self.items ≡ now ∷ [] = search rules in
+    let passes : c.push_reserved.new.self.items ≡ now ∷ [] = c.push_reserved.ensures.items ∙ ap (λ (ps : List KnownPass). ps ++ now ∷ []) c.requires.passes.0 in
     let closes = subst (λ (ps : List KnownPass). ClosesStore KeepsSql g.D.Disk.told g.D.Disk.faults n.digest n.logs n.found n.synced n.faults n.time n.given ps disk (g.C.Clock.constant clock) (g.C.Clock.given clock)) passes
     c.close-disk.ensures in
     let store = c.named-store.ensures in

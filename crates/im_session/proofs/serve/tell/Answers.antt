@@ -1,4 +1,4 @@
-use Rattle.std.proofs.Common.{rules, ◌≡◌, ◌<◌, ◌∙◌, ℕ, List, ap, ap₂, length, sym, subst, take, Option, Result, OnErr, OnOk}
+use Rattle.std.proofs.Common.{◌≡◌, ◌<◌, ◌∙◌, ℕ, List, ap, ap₂, length, sym, subst, take, refl, Option, Result, Ok, Err, OnErr, OnOk}
 use Rattle.std.specs.Io.KnownBytes.{Appends}
 use Rattle.std.specs.List.{flat_map}
 use Rattle.im_counts.specs.Counts.{Rose}
@@ -6,8 +6,10 @@ use Rattle.im_edge.specs.declared.sink.WriteFault.{WriteFault as TheFault}
 use Rattle.im_report.specs.Sessions.{phase_text}
 use Rattle.im_session.proofs.ServeLemmas.{front_first, front_many, told_part, told_stop, told_whole}
 use Rattle.im_session.specs.Phases.{EndsPhase}
+use Rattle.im_session.specs.Served.{EndsBy}
 use Rattle.im_session.specs.Written.{first_texts, stop_of}
 use Rattle.im_session.specs.declared.errors.LineError.{LineError}
+use Rattle.im_session.specs.declared.serve.Stopped.TheVariants as stops
 use Rattle.im_session.specs.declared.sessions.Ended.{Ended}
 use Rattle.im_session.proofs.serve.tell.Goals as goal
 
@@ -16,8 +18,8 @@ pub returns-in-Some-clause-wrote : goal.returns-in-Some-clause-wrote
 returns-in-Some-clause-wrote g c = λ outcomes texts ends.
     let order : List ℕ = c.as_slice-lines.result.now in
     let ended : List Ended = c.as_slice-sessions.result.now in
-    let lines : order ≡ c.args.played.order.items = search rules in
-    let sessions : ended ≡ c.args.played.ended.items = search rules in
+    let lines : order ≡ c.args.played.order.items = c.as_slice-lines.ensures.value in
+    let sessions : ended ≡ c.args.played.ended.items = c.as_slice-sessions.ensures.value in
     let count : ℕ = c.front_of-count.result.count in
     let text : List ℕ = flat_map (λ t. t) (first_texts (take count order) ended) in
     let is : text ≡ phase_text outcomes = ap (flat_map (λ t. t)) (front_first order ended count c.front_of-count.ensures.many) ∙ (ap₂ (λ (o : List ℕ) (e : List Ended). flat_map (λ t. t) (first_texts o e)) lines sessions ∙ texts) in
@@ -35,8 +37,8 @@ pub returns-in-Ok-clause-wrote : goal.returns-in-Ok-clause-wrote
 returns-in-Ok-clause-wrote g c = λ outcomes texts ends.
     let order : List ℕ = c.as_slice-lines.result.now in
     let ended : List Ended = c.as_slice-sessions.result.now in
-    let lines : order ≡ c.args.played.order.items = search rules in
-    let sessions : ended ≡ c.args.played.ended.items = search rules in
+    let lines : order ≡ c.args.played.order.items = c.as_slice-lines.ensures.value in
+    let sessions : ended ≡ c.args.played.ended.items = c.as_slice-sessions.ensures.value in
     let count : ℕ = c.front_of-count.result.count in
     let text : List ℕ = flat_map (λ t. t) (first_texts (take count order) ended) in
     let is : text ≡ phase_text outcomes = ap (flat_map (λ t. t)) (front_first order ended count c.front_of-count.ensures.many) ∙ (ap₂ (λ (o : List ℕ) (e : List Ended). flat_map (λ t. t) (first_texts o e)) lines sessions ∙ texts) in
@@ -54,8 +56,8 @@ pub returns-in-Err-clause-wrote : goal.returns-in-Err-clause-wrote
 returns-in-Err-clause-wrote g c = λ outcomes texts ends.
     let order : List ℕ = c.as_slice-lines.result.now in
     let ended : List Ended = c.as_slice-sessions.result.now in
-    let lines : order ≡ c.args.played.order.items = search rules in
-    let sessions : ended ≡ c.args.played.ended.items = search rules in
+    let lines : order ≡ c.args.played.order.items = c.as_slice-lines.ensures.value in
+    let sessions : ended ≡ c.args.played.ended.items = c.as_slice-sessions.ensures.value in
     let count : ℕ = c.front_of-count.result.count in
     let text : List ℕ = flat_map (λ t. t) (first_texts (take count order) ended) in
     let is : text ≡ phase_text outcomes = ap (flat_map (λ t. t)) (front_first order ended count c.front_of-count.ensures.many) ∙ (ap₂ (λ (o : List ℕ) (e : List Ended). flat_map (λ t. t) (first_texts o e)) lines sessions ∙ texts) in
@@ -73,3 +75,22 @@ returns-in-Err-clause-wrote g c = λ outcomes texts ends.
 pub write_front-wrote-requires-clause-many : goal.write_front-wrote-requires-clause-many
 write_front-wrote-requires-clause-many g c =
     front_many c.as_slice-lines.result.now c.as_slice-sessions.result.now c.front_of-count.result.count c.front_of-count.ensures.many c.front_of-count.ensures.within
+
+-- and so the script ends
+stop_is : (order lines : List ℕ) (ended sessions : List Ended) (why stop : Option LineError) → why ≡ stop_of lines sessions → lines ≡ order → sessions ≡ ended → why ≡ stop → stop ≡ stop_of order ended
+stop_is order lines ended sessions why stop is same_order same_ended same = sym same ∙ (is ∙ ap₂ stop_of same_order same_ended)
+
+pub returns-in-Some-clause-by : goal.returns-in-Some-clause-by
+returns-in-Some-clause-by g c =
+    let stop = stop_is c.args.played.order.items _ c.args.played.ended.items _ _ _ c.front_of-count.ensures.why c.as_slice-lines.ensures.value c.as_slice-sessions.ensures.value c.in-Some.is in
+    subst (λ (why : Option LineError). EndsBy why (Err (stops.Line c.in-Some.why))) stop refl
+
+pub returns-in-Ok-clause-by : goal.returns-in-Ok-clause-by
+returns-in-Ok-clause-by g c =
+    let stop = stop_is c.args.played.order.items _ c.args.played.ended.items _ _ _ c.front_of-count.ensures.why c.as_slice-lines.ensures.value c.as_slice-sessions.ensures.value c.in-None.is in
+    subst (λ (why : Option LineError). EndsBy why (Ok tt)) stop (λ why is. cc)
+
+pub returns-in-Err-clause-by : goal.returns-in-Err-clause-by
+returns-in-Err-clause-by g c =
+    let stop = stop_is c.args.played.order.items _ c.args.played.ended.items _ _ _ c.front_of-count.ensures.why c.as_slice-lines.ensures.value c.as_slice-sessions.ensures.value c.in-None.is in
+    subst (λ (why : Option LineError). EndsBy why (Err stops.Write)) stop (λ why is. cc)
