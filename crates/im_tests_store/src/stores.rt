@@ -99,11 +99,20 @@ pub(crate) fn closed<N: TipName>(
     alloc: Global,
     store: Shared<'_, N>,
     pass: Pass,
-) -> Result<MemDisk, Fail>
+) -> Result<MemDisk, AllocError>
     requires { IsPassOf N.table pass }
 {
-    let (disk, _) = store.close(vec![in alloc; pass]?);
-    Ok(disk)
+    match vec![in alloc; pass] {
+        Ok(passes) => {
+            let (disk, _) = store.close(passes);
+            Ok(disk)
+        }
+        Err(failed) => {
+            drop(failed);
+            drop(store);
+            Err(AllocError)
+        }
+    }
 }
 
 // The rows of a store with one commit: what is told before it is indexed and linked, and after.
@@ -182,19 +191,25 @@ fn one_thread<N: TipName, R: Wait>(
     let first = number_of(store.commit(rt, alloc, &mut pass, set)) == 1;
     let tip = store.tip(&mut other) == 1;
     let settled = store.settle(rt, alloc, &mut other, 1).is_ok();
-    let grown = grows(rt, alloc, &store, &mut pass)?;
+    let grown = grows(rt, alloc, &store, &mut pass);
     let proved = proves(rt, alloc, &store, &mut other);
     let read = reads(rt, alloc, &store, &mut pass);
     store.end(&mut pass, other);
     let disk = closed(alloc, store, pass)?;
     let calls = disk.time() == 9;
     drop(disk);
-    Ok(first && tip && settled && grown && proved && read && calls)
+    Ok(first && tip && settled && grown? && proved && read && calls)
 }
 
 fn run_one<R: Threads + Wait + Sync>(rt: &R, alloc: Global) -> Result<bool, Fail> {
     let set = setting(alloc, b"k", b"v", Vec::new(alloc))?;
-    one_thread::<Brand, R>(rt, alloc, opened(rt, alloc, &Sum, &[])?, set)
+    match opened(rt, alloc, &Sum, &[]) {
+        Ok(opened) => one_thread::<Brand, R>(rt, alloc, opened, set),
+        Err(failed) => {
+            drop(set);
+            Err(failed)
+        }
+    }
 }
 
 #[test]
@@ -230,7 +245,14 @@ fn halts<N: TipName, R: Wait>(
 fn run_halts<R: Threads + Wait + Sync>(rt: &R, alloc: Global) -> Result<bool, Fail> {
     let one = setting(alloc, b"k", b"v", Vec::new(alloc))?;
     let two = setting(alloc, b"l", b"w", Vec::new(alloc))?;
-    halts::<Brand, R>(rt, alloc, opened(rt, alloc, &Sum, &[8])?, one, two)
+    match opened(rt, alloc, &Sum, &[8]) {
+        Ok(opened) => halts::<Brand, R>(rt, alloc, opened, one, two),
+        Err(failed) => {
+            drop(one);
+            drop(two);
+            Err(failed)
+        }
+    }
 }
 
 #[test]
@@ -282,7 +304,7 @@ fn leaves<N: TipName, R: Wait>(
 
 // The call that fails, or none (0); how many are made; and what stands at the gate then: a transaction whose gate isn't written,
 // one whose gate isn't made durable, and one that is.
-const GATES: [(u64, u64, u8); 3] = [(8, 8, 0), (9, 9, 1), (0, 9, 1)];
+static GATES: &[(u64, u64, u8)] = &[(8, 8, 0), (9, 9, 1), (0, 9, 1)];
 
 fn run_leaves<R: Threads + Wait + Sync>(
     rt: &R,
@@ -292,15 +314,13 @@ fn run_leaves<R: Threads + Wait + Sync>(
     gate: u8,
 ) -> Result<bool, Fail> {
     let set = setting(alloc, b"k", b"abc", Vec::new(alloc))?;
-    leaves::<Brand, R>(
-        rt,
-        alloc,
-        opened(rt, alloc, &Sum, &[fails])?,
-        set,
-        fails > 0,
-        calls,
-        gate,
-    )
+    match opened(rt, alloc, &Sum, &[fails]) {
+        Ok(opened) => leaves::<Brand, R>(rt, alloc, opened, set, fails > 0, calls, gate),
+        Err(failed) => {
+            drop(set);
+            Err(failed)
+        }
+    }
 }
 
 #[test]
@@ -309,7 +329,7 @@ fn a_commit_leaves_its_octets_and_a_gate_that_fails_is_a_fault(
 ) -> Result<(), Fail> {
     for (fails, calls, gate) in GATES {
         assert!(rt;
-            run_leaves(&rt, rt.alloc(), fails, calls, gate)?,
+            run_leaves(&rt, rt.alloc(), *fails, *calls, *gate)?,
             "call {fails}"
         );
     }

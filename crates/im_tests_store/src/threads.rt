@@ -136,12 +136,19 @@ fn run_two<R: Threads + Wait + Sync>(
 ) -> Result<[u64; 4], Fail> {
     let one = new_key(alloc, b'k')?;
     let two = new_key(alloc, key)?;
-    two_threads::<Brand, R>(rt, alloc, opened(rt, alloc, &Sum, &[fails])?, one, two)
+    match opened(rt, alloc, &Sum, &[fails]) {
+        Ok(opened) => two_threads::<Brand, R>(rt, alloc, opened, one, two),
+        Err(failed) => {
+            drop(one);
+            drop(two);
+            Err(failed)
+        }
+    }
 }
 
 // The key that is asked for beside k; the call that fails, or none (0); the numbers of both receipts, in either order, of which the greater is
 // durable; and how many calls failed. Of two who ask for one missing key one has it, and where the disk fails at once, neither has a receipt.
-const THREADS: [(u8, u64, u64, u64, u64); 3] = [
+static THREADS: &[(u8, u64, u64, u64, u64)] = &[
     (b'k', 0, 0, 1, 0),
     (b'l', 0, 1, 2, 0),
     (b'l', 4, 0, 0, 1),
@@ -150,9 +157,9 @@ const THREADS: [(u8, u64, u64, u64, u64); 3] = [
 #[test]
 fn two_threads_commit_over_one_store(rt: HostRuntime) -> Result<(), Fail> {
     for (key, fails, low, high, faults) in THREADS {
-        let told = run_two(&rt, rt.alloc(), key, fails)?;
+        let told = run_two(&rt, rt.alloc(), *key, *fails)?;
         assert!(rt;
-            told == [low, high, high, faults] || told == [high, low, high, faults],
+            told == [*low, *high, *high, *faults] || told == [*high, *low, *high, *faults],
             "key {key}, call {fails}"
         );
     }
