@@ -1,26 +1,28 @@
 //! What came of a run beside what is wanted: the first difference.
 
-use crate::lines::Run;
+use crate::lines::{CaseLine, Run};
 use crate::octets::{file_number, first_word, number, octets};
+use crate::shown::{Place, Shown, push_calls};
 use crate::stop::{Stop, differ};
 use crate::texts::line_at;
-use crate::{shown, wanting};
+use crate::wanting;
 use im_disk::memory::MemDisk;
 use im_octet::octets::Octets;
 use std::alloc::{AllocError, Global};
 
 /// Compares the exit status, and what is said on standard error.
 pub fn compare_end(run: Run, came: &[u8]) -> Result<(), Stop> {
-    let wanted = match run.last("!") {
-        Some(line) => wanting::end(run.scope(line), line.rest)?,
-        None => Vec::from_slice(run.alloc, b"0")?,
-    };
-    if wanted.as_slice() == came {
+    let wanted = wanting::run_end(run)?;
+    compare_texts(run.alloc, "end", &wanted, came)
+}
+
+// Compares two texts.
+fn compare_texts(alloc: Global, what: &str, wanted: &[u8], came: &[u8]) -> Result<(), Stop> {
+    if wanted == came {
         return Ok(());
     }
-    let wanted = shown::text_of(run.alloc, &wanted)?;
-    let came = shown::text_of(run.alloc, came)?;
-    Err(differ(run.alloc, "end", &wanted, &came))
+    let place = Place::Whole(what);
+    Err(differ(alloc, place, Shown::Text(wanted), Shown::Text(came)))
 }
 
 /// Compares two texts by lines.
@@ -29,15 +31,10 @@ pub fn compare_lines(alloc: Global, what: &str, wanted: &[u8], came: &[u8]) -> R
         return Ok(());
     }
     let (number, start) = line_at(wanted, same_front(wanted, came));
-    let what = numbered(alloc, what, number)?;
-    let wanted = shown::line(alloc, wanted, start)?;
-    let came = shown::line(alloc, came, start)?;
-    Err(differ(alloc, &what, &wanted, &came))
-}
-
-// A name with a number behind it.
-fn numbered(alloc: Global, what: &str, number: u64) -> Result<String, AllocError> {
-    format!(in alloc; "{what} {number}")
+    let place = Place::Numbered(what, number);
+    let wanted = Shown::Line(wanted, start);
+    let came = Shown::Line(came, start);
+    Err(differ(alloc, place, wanted, came))
 }
 
 // How many octets at the front are the same.
@@ -54,54 +51,65 @@ fn same_front(a: &[u8], b: &[u8]) -> usize {
 
 /// Compares the lines that the keeper holds, where some are wanted, and their number, where one is.
 pub fn compare_kept(run: Run, kept: &[Octets]) -> Result<(), Stop> {
+    compare_kept_lines(run, kept)?;
+    let place = Place::Whole("lines kept");
+    compare_count(run.alloc, place, run.number("lines"), kept.len() as u64)
+}
+
+// Compares the lines that the keeper holds, where some are wanted.
+fn compare_kept_lines(run: Run, kept: &[Octets]) -> Result<(), Stop> {
     let wanted = run.texts("kept")?;
-    if !wanted.is_empty() {
-        let mut came = Vec::new(run.alloc);
-        for line in kept {
-            came.extend_from_slice(line.as_slice())?;
-            came.push(b'\n')?;
-        }
-        compare_lines(run.alloc, "kept line", &wanted, &came)?;
+    if wanted.is_empty() {
+        return Ok(());
     }
-    compare_count(
-        run.alloc,
-        "lines kept",
-        run.number("lines"),
-        kept.len() as u64,
-    )
+    let came = kept_text(run.alloc, kept)?;
+    compare_lines(run.alloc, "kept line", &wanted, &came)
+}
+
+// Lines, each with an LF.
+fn kept_text(alloc: Global, kept: &[Octets]) -> Result<Vec<u8>, AllocError> {
+    let mut text = Vec::new(alloc);
+    for line in kept {
+        text.extend_from_slice(line.as_slice())?;
+        text.push(b'\n')?;
+    }
+    Ok(text)
 }
 
 /// Compares the changing calls that the disk got, where some are wanted, and their number, where one is.
 pub fn compare_calls(run: Run, disk: &MemDisk) -> Result<(), Stop> {
+    compare_call_lines(run, disk)?;
+    let place = Place::Whole("changing calls");
+    compare_count(run.alloc, place, run.number("calls"), disk.time())
+}
+
+// Compares the changing calls that the disk got, where some are wanted.
+fn compare_call_lines(run: Run, disk: &MemDisk) -> Result<(), Stop> {
     let wanted = wanting::calls(run)?;
-    if !wanted.is_empty() {
-        let mut came = String::new(run.alloc);
-        shown::push_calls(run.alloc, &mut came, disk.calls())?;
-        compare_lines(
-            run.alloc,
-            "changing call",
-            wanted.as_bytes(),
-            came.as_bytes(),
-        )?;
+    if wanted.is_empty() {
+        return Ok(());
     }
-    compare_count(
-        run.alloc,
-        "changing calls",
-        run.number("calls"),
-        disk.time(),
-    )
+    let mut came = String::new(run.alloc);
+    push_calls(&mut came, disk.calls())?;
+    let (wanted, came) = (wanted.as_bytes(), came.as_bytes());
+    compare_lines(run.alloc, "changing call", wanted, came)
 }
 
 /// Compares what files hold.
 pub fn compare_files(run: Run, disk: &MemDisk) -> Result<(), Stop> {
     for line in run.lines {
-        match line.mark {
-            "has" => compare_file(run.alloc, line.rest, disk)?,
-            "length" => compare_length(run.alloc, line.rest, disk)?,
-            _ => {}
-        }
+        compare_file_line(run.alloc, *line, disk)?;
     }
     Ok(())
+}
+
+// Compares what a line says of a file, where it says something of one.
+fn compare_file_line(alloc: Global, line: CaseLine, disk: &MemDisk) -> Result<(), Stop> {
+    match line.mark {
+        "has" => compare_file(alloc, line.rest, disk),
+        "length" => compare_length(alloc, line.rest, disk),
+        _ => Ok(()),
+    }
 }
 
 // Compares the octets of a file.
@@ -109,38 +117,40 @@ fn compare_file(alloc: Global, rest: &str, disk: &MemDisk) -> Result<(), Stop> {
     let (file, behind) = first_word(rest);
     let file = file_number(file)?;
     let wanted = octets(alloc, behind)?;
-    let came = disk.file(file);
-    if wanted.as_slice() == came {
+    compare_octets(alloc, file, &wanted, disk.file(file))
+}
+
+// Compares the octets of a file with these.
+fn compare_octets(alloc: Global, file: u8, wanted: &[u8], came: &[u8]) -> Result<(), Stop> {
+    if wanted == came {
         return Ok(());
     }
-    let at = same_front(&wanted, came);
-    let what = format!(in alloc; "file {file} from {at} on")?;
-    let wanted = shown::octets(alloc, wanted.get(at..).unwrap_or(&[]))?;
-    let came = shown::octets(alloc, came.get(at..).unwrap_or(&[]))?;
-    Err(differ(alloc, &what, &wanted, &came))
+    let at = same_front(wanted, came);
+    let wanted = Shown::Octets(wanted.get(at..).unwrap_or(&[]));
+    let came = Shown::Octets(came.get(at..).unwrap_or(&[]));
+    Err(differ(alloc, Place::From { file, at }, wanted, came))
 }
 
 // Compares how many octets a file has.
 fn compare_length(alloc: Global, rest: &str, disk: &MemDisk) -> Result<(), Stop> {
     let (file, behind) = first_word(rest);
     let file = file_number(file)?;
-    let what = numbered(alloc, "octets of file", u64::from(file))?;
+    let place = Place::Numbered("octets of file", u64::from(file));
     let came = disk.file(file).len() as u64;
-    compare_count(alloc, &what, number(behind).ok(), came)
+    compare_count(alloc, place, number(behind).ok(), came)
 }
 
 /// Compares a number, where one is wanted.
 pub fn compare_count(
     alloc: Global,
-    what: &str,
+    place: Place,
     wanted: Option<u64>,
     came: u64,
 ) -> Result<(), Stop> {
     match wanted {
         Some(wanted) if wanted != came => {
-            let wanted = wanted.to_string(alloc)?;
-            let came = came.to_string(alloc)?;
-            Err(differ(alloc, what, &wanted, &came))
+            let wanted = Shown::Number(wanted);
+            Err(differ(alloc, place, wanted, Shown::Number(came)))
         }
         _ => Ok(()),
     }

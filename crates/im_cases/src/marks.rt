@@ -12,15 +12,25 @@ use std::alloc::Global;
 pub fn check(scope: Scope, line: CaseLine) -> Result<(), Wrong> {
     let rest = line.rest;
     match line.mark {
-        ">" | ">-" | "<" | "<-" | "keep" | "kept" => drop(scope.text(rest)?),
-        "with" => drop(exchange_of(scope, rest)?),
-        "!" => drop(end(scope, rest)?),
-        "did" => push_call(scope.alloc, &mut String::new(scope.alloc), rest)?,
-        ">x" => drop(octets(scope.alloc, rest)?),
-        "file" | "has" | "cut" | "length" | "spoil" => check_file(scope.alloc, line.mark, rest)?,
-        _ => check_setting(line.mark, rest)?,
+        ">" | ">-" | "<" | "<-" | "keep" | "kept" => read(scope.text(rest)),
+        "with" => read(exchange_of(scope, rest)),
+        "!" => read(end(scope, rest)),
+        "did" => push_call(scope.alloc, &mut String::new(scope.alloc), rest),
+        ">x" => read(octets(scope.alloc, rest)),
+        "file" | "has" | "cut" | "length" | "spoil" => check_file(scope.alloc, line.mark, rest),
+        _ => check_setting(line.mark, rest),
     }
-    Ok(())
+}
+
+// Whether something could be read.
+fn read<T: Drop>(it: Result<T, Wrong>) -> Result<(), Wrong> {
+    match it {
+        Ok(it) => {
+            drop(it);
+            Ok(())
+        }
+        Err(wrong) => Err(wrong),
+    }
 }
 
 // Checks what is said of a file.
@@ -28,46 +38,38 @@ fn check_file(alloc: Global, mark: &str, rest: &str) -> Result<(), Wrong> {
     let (file, behind) = first_word(rest);
     file_number(file)?;
     match mark {
-        "file" | "has" => check_octets(alloc, behind),
-        "spoil" => {
-            let (at, behind) = first_word(behind);
-            number(at)?;
-            check_octets(alloc, behind)
-        }
-        _ => check_number(behind),
+        "file" | "has" => read(octets(alloc, behind)),
+        "spoil" => check_spoilt(alloc, behind),
+        _ => read(number(behind)),
     }
 }
 
-// Checks octets.
-fn check_octets(alloc: Global, text: &str) -> Result<(), Wrong> {
-    drop(octets(alloc, text)?);
-    Ok(())
-}
-
-// Checks a number.
-fn check_number(text: &str) -> Result<(), Wrong> {
-    number(text)?;
-    Ok(())
+// Checks a place in a file, and the octets that are put there.
+fn check_spoilt(alloc: Global, rest: &str) -> Result<(), Wrong> {
+    let (at, behind) = first_word(rest);
+    number(at)?;
+    read(octets(alloc, behind))
 }
 
 // Checks a line that says numbers, or words that are given.
 fn check_setting(mark: &str, rest: &str) -> Result<(), Wrong> {
     match mark {
-        "lines" | "calls" | "left" | "room" => check_number(rest),
-        "blocks" if number(rest)? > u64::from(u32::MAX) => Err(Wrong::Number),
-        "blocks" => Ok(()),
-        "clock" | "ticks" => {
-            time(rest)?;
-            Ok(())
-        }
-        ">|" => {
-            earlier(rest)?;
-            Ok(())
-        }
-        "keeper" => check_number(behind_fails(rest)?),
+        "lines" | "calls" | "left" | "room" => read(number(rest)),
+        "blocks" => check_blocks(rest),
+        "clock" | "ticks" => read(time(rest)),
+        ">|" => read(earlier(rest)),
+        "keeper" => read(number(behind_fails(rest)?)),
         "disk" => check_numbers(behind_fails(rest)?),
         _ => check_words(mark, rest.trim()),
     }
+}
+
+// Checks the number of blocks.
+fn check_blocks(rest: &str) -> Result<(), Wrong> {
+    if number(rest)? > u64::from(u32::MAX) {
+        return Err(Wrong::Number);
+    }
+    Ok(())
 }
 
 // Checks a line that says one word of a few.

@@ -50,12 +50,12 @@ fn push_word(alloc: Global, out: &mut Vec<u8>, word: &str) -> Result<(), Wrong> 
         return Ok(());
     }
     let (digits, count) = word.split_once('*').unwrap_or((word, "1"));
-    push_times(out, &hex(alloc, digits)?, number(count)?)
+    push_times(out, &hex(alloc, digits)?, count)
 }
 
-// Adds some octets so many times.
-fn push_times(out: &mut Vec<u8>, octets: &[u8], count: u64) -> Result<(), Wrong> {
-    for _ in 0..count {
+// Adds some octets as many times as a number says.
+fn push_times(out: &mut Vec<u8>, octets: &[u8], count: &str) -> Result<(), Wrong> {
+    for _ in 0..number(count)? {
         out.extend_from_slice(octets)?;
     }
     Ok(())

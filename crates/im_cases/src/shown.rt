@@ -1,4 +1,4 @@
-//! How octets, lines and changing calls are shown.
+//! What is shown of a difference: where it is, what is wanted there and what came; and how changing calls are shown.
 
 use crate::texts::{ZEROS, is_hex_octet};
 use im_disk::calls::Call;
@@ -8,36 +8,95 @@ use std::alloc::{AllocError, Global};
 // How many octets are shown.
 const MOST: usize = 64;
 
-/// Octets in hex: the first ones, and two dots where more stand behind them.
-pub fn octets(alloc: Global, octets: &[u8]) -> Result<String, AllocError> {
-    if octets.is_empty() {
-        return "nothing".to_string(alloc);
-    }
-    let mut out = hex::encode(alloc, octets.get(..MOST).unwrap_or(octets))?;
-    if octets.len() > MOST {
-        out.push_str("..")?;
-    }
-    Ok(out)
+/// Where a difference is.
+#[derive(Clone, Copy)]
+pub enum Place<'a> {
+    /// In this as a whole.
+    Whole(&'a str),
+    /// In the one of these that has this number.
+    Numbered(&'a str, u64),
+    /// In a file, from this place on.
+    From { file: u8, at: usize },
 }
 
-/// The line that begins at a place of a text: without its LF, and with a word where it lacks one.
-pub fn line(alloc: Global, text: &[u8], start: usize) -> Result<String, AllocError> {
-    let text = text.get(start..).unwrap_or(&[]);
-    match cut(text, b'\n') {
-        Some(([], _)) => "an empty line".to_string(alloc),
-        Some((line, _)) => text_of(alloc, line),
-        None if text.is_empty() => "nothing".to_string(alloc),
-        None => {
-            let mut out = text_of(alloc, text)?;
-            out.push_str(" (without an LF)")?;
-            Ok(out)
+impl Place<'_> {
+    /// Adds it.
+    pub fn push(self, out: &mut String) -> Result<(), AllocError> {
+        match self {
+            Place::Whole(what) => out.push_str(what),
+            Place::Numbered(what, number) => write!(out, "{what} {number}"),
+            Place::From { file, at } => write!(out, "file {file} from {at} on"),
         }
     }
 }
 
-/// A text, in which digests under the sum are shown as `<xx>`.
-pub fn text_of(alloc: Global, text: &[u8]) -> Result<String, AllocError> {
-    String::from_utf8_lossy(alloc, &shortened(alloc, text)?)
+/// What is wanted at a place, or what came there.
+#[derive(Clone, Copy)]
+pub enum Shown<'a> {
+    /// A text, in which digests under the sum are shown as `<xx>`.
+    Text(&'a [u8]),
+    /// The line that begins at a place of a text: without its LF, and with a word where it lacks one.
+    Line(&'a [u8], usize),
+    /// Octets in hex: the first ones, and two dots where more stand behind them.
+    Octets(&'a [u8]),
+    /// A number.
+    Number(u64),
+}
+
+impl Shown<'_> {
+    /// Adds it.
+    pub fn push(self, out: &mut String) -> Result<(), AllocError> {
+        match self {
+            Shown::Text(text) => push_text(out, text),
+            Shown::Line(text, start) => push_line(out, text.get(start..).unwrap_or(&[])),
+            Shown::Octets(octets) => push_octets(out, octets),
+            Shown::Number(number) => write!(out, "{number}"),
+        }
+    }
+}
+
+// Adds the first octets in hex, and two dots where more stand behind them.
+fn push_octets(out: &mut String, octets: &[u8]) -> Result<(), AllocError> {
+    if octets.is_empty() {
+        return out.push_str("nothing");
+    }
+    push_hex(out, octets.get(..MOST).unwrap_or(octets))?;
+    if octets.len() > MOST {
+        out.push_str("..")
+    } else {
+        Ok(())
+    }
+}
+
+// Adds octets in hex.
+fn push_hex(out: &mut String, octets: &[u8]) -> Result<(), AllocError> {
+    let digits = hex::encode(*out.allocator(), octets)?;
+    out.push_str(&digits)
+}
+
+// Adds the first line of a text.
+fn push_line(out: &mut String, text: &[u8]) -> Result<(), AllocError> {
+    match cut(text, b'\n') {
+        Some(([], _)) => out.push_str("an empty line"),
+        Some((line, _)) => push_text(out, line),
+        None if text.is_empty() => out.push_str("nothing"),
+        None => {
+            push_text(out, text)?;
+            out.push_str(" (without an LF)")
+        }
+    }
+}
+
+// Adds a text with `<xx>` in place of each digest under the sum.
+fn push_text(out: &mut String, text: &[u8]) -> Result<(), AllocError> {
+    let short = shortened(*out.allocator(), text)?;
+    push_lossy(out, &short)
+}
+
+// Adds a text that may not be UTF-8.
+fn push_lossy(out: &mut String, text: &[u8]) -> Result<(), AllocError> {
+    let text = String::from_utf8_lossy(*out.allocator(), text)?;
+    out.push_str(&text)
 }
 
 // A text with `<xx>` in place of each digest under the sum.
@@ -66,31 +125,25 @@ fn push_front(out: &mut Vec<u8>, text: &[u8]) -> Result<usize, AllocError> {
 }
 
 /// Adds the line of each changing call.
-pub fn push_calls(alloc: Global, out: &mut String, calls: &[Call]) -> Result<(), AllocError> {
+pub fn push_calls(out: &mut String, calls: &[Call]) -> Result<(), AllocError> {
     for call in calls {
-        match call {
-            Call::Wrote { file, at, piece } => push_write(
-                alloc,
-                out,
-                *file,
-                *at,
-                piece.as_slice(),
-            )?,
-            Call::Synced => out.push_str("sync\n")?,
-            Call::Tore { .. } | Call::Missed => out.push_str("fail\n")?,
-        }
+        push_call(out, call)?;
     }
     Ok(())
 }
 
+// Adds the line of a changing call.
+fn push_call(out: &mut String, call: &Call) -> Result<(), AllocError> {
+    match call {
+        Call::Wrote { file, at, piece } => push_write(out, *file, *at, piece.as_slice()),
+        Call::Synced => out.push_str("sync\n"),
+        Call::Tore { .. } | Call::Missed => out.push_str("fail\n"),
+    }
+}
+
 /// Adds the line of a write.
-pub fn push_write(
-    alloc: Global,
-    out: &mut String,
-    file: u8,
-    at: u64,
-    octets: &[u8],
-) -> Result<(), AllocError> {
-    let digits = hex::encode(alloc, octets)?;
-    writeln!(out, "write {file} {at} {digits}")
+pub fn push_write(out: &mut String, file: u8, at: u64, octets: &[u8]) -> Result<(), AllocError> {
+    write!(out, "write {file} {at} ")?;
+    push_hex(out, octets)?;
+    out.push('\n')
 }

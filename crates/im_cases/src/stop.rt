@@ -1,3 +1,4 @@
+use crate::shown::{Place, Shown};
 use crate::wrong::{Fault, Wrong};
 use im_edge::keeper::KeeperError;
 use std::alloc::{AllocError, AllocFailed, Global};
@@ -46,9 +47,24 @@ impl From<KeeperError> for Stop {
 }
 
 /// The stop at a difference.
-pub fn differ(alloc: Global, what: &str, wanted: &str, came: &str) -> Stop {
-    match format!(in alloc; "{what}: wanted {wanted}, came {came}") {
-        Ok(told) => Stop::Differs(told),
+pub fn differ(alloc: Global, place: Place, wanted: Shown, came: Shown) -> Stop {
+    let mut told = String::new(alloc);
+    match push_difference(&mut told, place, wanted, came) {
+        Ok(()) => Stop::Differs(told),
         Err(_) => Stop::Memory,
     }
+}
+
+// Adds what is told of a difference.
+fn push_difference(
+    out: &mut String,
+    place: Place,
+    wanted: Shown,
+    came: Shown,
+) -> Result<(), AllocError> {
+    place.push(out)?;
+    out.push_str(": wanted ")?;
+    wanted.push(out)?;
+    out.push_str(", came ")?;
+    came.push(out)
 }

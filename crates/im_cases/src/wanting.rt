@@ -7,6 +7,14 @@ use crate::texts::Scope;
 use crate::wrong::Wrong;
 use std::alloc::{AllocError, Global};
 
+/// The end that a run wants: exit status 0 where no line says another one.
+pub fn run_end(run: Run) -> Result<Vec<u8>, Wrong> {
+    match run.last("!") {
+        Some(line) => end(run.scope(line), line.rest),
+        None => Ok(Vec::from_slice(run.alloc, b"0")?),
+    }
+}
+
 /// The exit status that a line wants, and behind a blank the line on standard error, if one is wanted.
 pub fn end(scope: Scope, rest: &str) -> Result<Vec<u8>, Wrong> {
     let (code, text) = rest.split_once(' ').unwrap_or((rest, ""));
@@ -57,6 +65,11 @@ fn push_written(alloc: Global, out: &mut String, rest: &str) -> Result<(), Wrong
     let (file, behind) = first_word(rest);
     let (at, behind) = first_word(behind);
     let octets = octets(alloc, behind)?;
-    push_write(alloc, out, file_number(file)?, number(at)?, &octets)?;
+    push_octets_written(out, file, at, &octets)
+}
+
+// Adds the line of a write of these octets.
+fn push_octets_written(out: &mut String, file: &str, at: &str, octets: &[u8]) -> Result<(), Wrong> {
+    push_write(out, file_number(file)?, number(at)?, octets)?;
     Ok(())
 }
