@@ -7,6 +7,7 @@ pub mod HalvingLemmas
 pub mod HoldLemmas
 pub mod IndexLemmas
 pub mod LastLemmas
+pub mod LoopLemmas
 pub mod MapLemmas
 pub mod NewestLemmas
 pub mod OrderLemmas
