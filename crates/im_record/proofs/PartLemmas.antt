@@ -1,8 +1,8 @@
 -- What was added of a record before writing stopped.
 use Rattle.std.proofs.Common.{◌≡◌, ◌<◌, ◌+◌, ◌++◌, ◌∷◌, ℕ, List, length, take, drop, get_or, ap, sym, ◌∙◌, append_assoc}
 use Rattle.std.proofs.lemmas.List.{append_cancel_left, drop_more, take-append-drop}
-use Rattle.std.specs.Prelude.{OnErr, Result, Ok, Err}
-use Rattle.im_octet.proofs.PartLemmas.{part-is}
+use Rattle.std.specs.Prelude.{OnErr, Result, Ok, Err, is_ok, if◌then◌else◌}
+use Rattle.im_octet.proofs.PartLemmas.{part-is, part_three}
 use Rattle.im_model.specs.declared.entries.Entry.{Entry}
 use Rattle.im_format.specs.Records.{entries_octets, entry_octets}
 use Rattle.im_format.specs.declared.references.ValueRef.{ValueRef}
@@ -17,6 +17,16 @@ part_one_of_four old now one two three four e =
 pub part_two_of_four : (old now one two three four : List ℕ) → now ≡ old ++ one ++ two → (n : ℕ) × (now ≡ old ++ take n (one ++ two ++ three ++ four))
 part_two_of_four old now one two three four e =
     part-is old now (one ++ two) (three ++ four) (one ++ two ++ three ++ four) (e ∙ append_assoc old one two) (sym (append_assoc (one ++ two) three four))
+
+-- a text that was added behind others
+pub added-behind : (mid now x y front : List ℕ) → mid ≡ front → now ≡ mid ++ x → x ≡ y → now ≡ front ++ y
+added-behind mid now x y front before more is = more ∙ ap (λ (l : List ℕ). mid ++ l) is ∙ ap (λ (l : List ℕ). l ++ y) before
+
+-- and the first three of them, where the fourth isn't there
+pub part_three_of_four : {T E : Type 0} (r : Result T E) (old mid now last one two three four : List ℕ) → mid ≡ old ++ one ++ two ++ three
+    → now ≡ (if is_ok r then mid ++ last else mid) → OnErr r ((n : ℕ) × (now ≡ old ++ take n (one ++ two ++ three ++ four)))
+part_three_of_four (Ok x) old mid now last one two three four first second = tt
+part_three_of_four (Err e) old mid now last one two three four first second = part_three old now one two three four (second ∙ first)
 
 -- behind the entries before place i, of which these are the octets, a front part of the octets of the entry there
 pub part_reached : {T E : Type 0} (r : Result T E) (old mid now part : List ℕ) (entries : List Entry) (refs : List ValueRef) (i n : ℕ) (entry : Entry) (ref default : ValueRef)

@@ -69,7 +69,7 @@ pub fn push_record(out: &mut Vec<u8>, id: u64, kept: &Record) -> Result<(), Allo
 }
 
 // Adds `ID 8 | Ts 8 | BlTxID 8 | entry count 4`.
-#[tactic(auto, unfolding(im_format::specs::Records::head_octets), using(im_octet::proofs::PartLemmas::part_none, crate::proofs::PartLemmas::part_one_of_four, crate::proofs::PartLemmas::part_two_of_four, im_octet::proofs::PartLemmas::part_three))]
+#[tactic(auto, unfolding(im_format::specs::Records::head_octets))]
 fn push_head(out: &mut Vec<u8>, id: u64, tx: &Transaction) -> Result<(), AllocError>
     requires { length tx.now.entries < 2 ^ 32 }
     ensures whole { OnOk result (out.new.items ≡ out.old.items ++ head_octets id tx.now) }
@@ -104,7 +104,6 @@ fn push_entry(out: &mut Vec<u8>, entry: &Entry, reference: &ValueRef) -> Result<
 }
 
 // Adds `mdLen 2 | md | keyLen 2 | key`.
-#[tactic(auto, using(im_octet::proofs::PartLemmas::part_none, crate::proofs::PartLemmas::part_one_of_four, crate::proofs::PartLemmas::part_two_of_four, im_octet::proofs::PartLemmas::part_three))]
 fn push_fields(out: &mut Vec<u8>, entry: &Entry) -> Result<(), AllocError>
     ensures whole { OnOk result (out.new.items ≡ out.old.items ++ field2 (length entry.now.md) ++ entry.now.md ++ field2 (length entry.now.key) ++ entry.now.key) }
     ensures part { OnErr result ((n : ℕ) × (out.new.items ≡ out.old.items ++ take n (field2 (length entry.now.md) ++ entry.now.md ++ field2 (length entry.now.key) ++ entry.now.key))) }
@@ -118,7 +117,7 @@ fn push_fields(out: &mut Vec<u8>, entry: &Entry) -> Result<(), AllocError>
 }
 
 // Adds `hVal 32 | value length 4 | log 1 | place 8`.
-#[tactic(auto, unfolding(im_format::specs::Records::reference_octets), using(im_octet::proofs::PartLemmas::part_none, crate::proofs::PartLemmas::part_one_of_four, crate::proofs::PartLemmas::part_two_of_four, im_octet::proofs::PartLemmas::part_three))]
+#[tactic(auto, unfolding(im_format::specs::Records::reference_octets))]
 fn push_reference(out: &mut Vec<u8>, reference: &ValueRef) -> Result<(), AllocError>
     ensures whole { OnOk result (out.new.items ≡ out.old.items ++ reference_octets reference.now) }
     ensures part { OnErr result ((n : ℕ) × (out.new.items ≡ out.old.items ++ take n (reference_octets reference.now))) }
