@@ -1,7 +1,6 @@
 //! CREATE TABLE and CREATE INDEX.
 
 ghost use Rattle.std.specs.Prelude.{◌≡◌, ◌≤◌, ◌<◌, ◌-◌, ◌^◌, ◌⊎◌, ◌∷◌, [], List, length, take, map, not, nat_eq, All, IfOk};
-ghost use Rattle.std.specs.Option.{option_or};
 ghost use Rattle.im_model.specs.History.{IsHistory};
 ghost use Rattle.im_model.specs.declared.transactions.Transaction.{Transaction};
 ghost use Rattle.im_sqlparse.specs.Formed.{IsCreateTable, IsCreateIndex, IsDeclared, IsDefinition};
@@ -15,7 +14,7 @@ ghost use Rattle.im_sqlmodel.specs.declared.answers.SqlOut.TheVariants as out;
 ghost use Rattle.im_sqlmodel.specs.declared.rows.StoredRow.{StoredRow as TheStoredRow};
 ghost use Rattle.im_sql.specs.Writing.{Answers, table_entries};
 
-use crate::names::{column_fault, column_names, names_in, names_of, place_of, twice_fault};
+use crate::names::{column_names, names_fault, names_in, place_of, twice_fault};
 use crate::placing::{ask_since, two_keys};
 use im_catalog::catalogue::{count, indexes, table};
 use im_catalog::keys::{index_key, mark_key, rows_prefix, table_key, tables_key};
@@ -92,14 +91,10 @@ fn create_fault(alloc: Global, create: &CreateTable) -> Result<Option<SqlError>,
     ensures { IfOk result (λ fault. fault ≡ spec.create_fault create.now) }
 {
     let columns = names_in(alloc, create.columns.as_slice())?;
-    let key = names_of(alloc, create.key.as_slice())?;
     if let Some(fault) = twice_fault(alloc, columns.as_slice())? {
         return Ok(Some(fault));
     }
-    if let Some(fault) = column_fault(alloc, columns.as_slice(), key.as_slice())? {
-        return Ok(Some(fault));
-    }
-    twice_fault(alloc, key.as_slice())
+    names_fault(alloc, columns.as_slice(), create.key.as_slice())
 }
 
 // A column's type as values are judged by it.
@@ -235,7 +230,7 @@ fn create_index_of<V: KvView>(
         → IsTableOf (take n history) table.now → (result ≡ Err error.Memory) ⊎ spec.CreateIndexOf (take n history) create.now table.now result }
 {
     let columns = column_names(alloc, table)?;
-    if let Some(fault) = index_fault(alloc, columns.as_slice(), create.columns.as_slice())? {
+    if let Some(fault) = names_fault(alloc, columns.as_slice(), create.columns.as_slice())? {
         return Err(fault);
     }
     if has_rows(alloc, view, table, n)? {
@@ -265,21 +260,6 @@ fn ask_index(alloc: Global, table: &Table, index: &SqlIndex, n: u64) -> Result<S
     let written = index_written(alloc, table, index)?;
     let keys = two_keys(alloc, key, mark)?;
     ask_since(alloc, n, written, keys)
-}
-
-// What is wrong with the columns of a new index.
-fn index_fault(
-    alloc: Global,
-    columns: &[&[u8]],
-    names: &[Name],
-) -> Result<Option<SqlError>, AllocError>
-    ensures { IfOk result (λ fault. fault ≡ option_or (spec.column_fault (map (λ n. n.now) columns.now) names.now) (spec.twice_fault names.now)) }
-{
-    let names = names_of(alloc, names)?;
-    if let Some(fault) = column_fault(alloc, columns, names.as_slice())? {
-        return Ok(Some(fault));
-    }
-    twice_fault(alloc, names.as_slice())
 }
 
 // Whether the table has rows, by one `scan`.

@@ -13,7 +13,7 @@ ghost use Rattle.im_sqlmodel.specs.declared.tables.SqlIndex.{SqlIndex as TheInde
 ghost use Rattle.im_sqlmodel.specs.declared.tables.Table.{Table as TheTable};
 ghost use Rattle.im_sql.specs.Ranges.{IsInRange};
 
-use crate::names::{column_fault, column_names, names_of, place_of, twice_fault};
+use crate::names::{column_names, names_fault, place_of};
 use im_octet::octets::Octets;
 use im_sqlmodel::answers::SqlError;
 use im_sqlmodel::tables::{Column, Table};
@@ -41,14 +41,10 @@ pub(crate) fn insertion_fault(
     ensures { IfOk result (λ fault. fault ≡ spec.insertion_fault table.now insertion.now) }
 {
     let columns = column_names(alloc, table)?;
-    let names = names_of(alloc, insertion.columns.as_slice())?;
-    if let Some(fault) = column_fault(alloc, columns.as_slice(), names.as_slice())? {
+    if let Some(fault) = names_fault(alloc, columns.as_slice(), insertion.columns.as_slice())? {
         return Ok(Some(fault));
     }
-    if let Some(fault) = twice_fault(alloc, names.as_slice())? {
-        return Ok(Some(fault));
-    }
-    Ok(count_fault(insertion.rows.as_slice(), names.len()))
+    Ok(count_fault(insertion.rows.as_slice(), insertion.columns.len()))
 }
 
 // The first row that has another number of values than is wanted.

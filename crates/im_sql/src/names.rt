@@ -1,6 +1,7 @@
 //! Names in a statement: those that stand twice, and those of no column.
 
 ghost use Rattle.std.specs.Prelude.{◌≡◌, map, position, bytes_eq, IfOk};
+ghost use Rattle.std.specs.Option.{option_or};
 ghost use Rattle.im_sqlmodel.specs.Creations as spec;
 ghost use Rattle.im_sqlmodel.specs.Tables.{table_names};
 
@@ -83,4 +84,20 @@ pub(crate) fn column_fault(
         }
     }
     Ok(None)
+}
+
+/// The first of these names that is none of these columns', or else the first that stands twice. Its only error is want
+/// of memory.
+pub(crate) fn names_fault(
+    alloc: Global,
+    columns: &[&[u8]],
+    names: &[Name],
+) -> Result<Option<SqlError>, AllocError>
+    ensures { IfOk result (λ fault. fault ≡ option_or (spec.column_fault (map (λ n. n.now) columns.now) names.now) (spec.twice_fault names.now)) }
+{
+    let names = names_of(alloc, names)?;
+    if let Some(fault) = column_fault(alloc, columns, names.as_slice())? {
+        return Ok(Some(fault));
+    }
+    twice_fault(alloc, names.as_slice())
 }

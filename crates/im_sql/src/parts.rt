@@ -57,8 +57,22 @@ fn part_of<V: KvView>(
         → IsSqlSound (take before history) → IsTableOf (take before history) table
         → IfOk result (λ found. IfSome found (λ f. (f.table ≡ table) × spec.IsPart (take before history) (take n history) own.now f)) }
 {
-    let indexes = indexes(alloc, view, &table, before)?;
-    let Some(rows) = own_rows(alloc, view, own, &table, n)? else {
+    let indexes = match indexes(alloc, view, &table, before) {
+        Ok(indexes) => indexes,
+        Err(error) => {
+            drop(table);
+            return Err(error);
+        }
+    };
+    let rows = match own_rows(alloc, view, own, &table, n) {
+        Ok(rows) => rows,
+        Err(error) => {
+            drop(table);
+            drop(indexes);
+            return Err(error);
+        }
+    };
+    let Some(rows) = rows else {
         drop(table);
         drop(indexes);
         return Ok(None);

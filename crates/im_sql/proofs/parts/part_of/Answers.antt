@@ -11,7 +11,7 @@ returns g c = λ history stands few low sound of.
     let t = c.args.table in (
       refl,
       record {
-        indexes = c.in_ok-indexes.ensures history stands low sound of;
-        rows = subst (λ (o : Option (List StoredRow)). IfSome o (AllZip (IsStoredRow t) (live_own (take c.args.n history) (rows_prefix t.tid) c.args.own.now))) c.in-Some.is (c.in_ok-rows.ensures history stands few);
+        indexes = c.in-Ok.ensures history stands low sound of;
+        rows = subst (λ (o : Option (List StoredRow)). IfSome o (AllZip (IsStoredRow t) (live_own (take c.args.n history) (rows_prefix t.tid) c.args.own.now))) c.in-Some.is (c.in-Ok-own_rows.ensures history stands few);
       },
     )
