@@ -6,7 +6,9 @@ ghost use Rattle.im_session.specs.Answered.{IsAnswered, IsOfStatement, IsStateme
 ghost use Rattle.im_session.specs.Statements.{AsksBehind, HasCounted, IsFoundKept};
 ghost use Rattle.im_sqlparse.specs.Formed.{IsStatement};
 ghost use Rattle.im_sqlparse.specs.Statements.{statement_of};
+ghost use Rattle.im_sqlparse.specs.declared.errors.SqlSyntax.{SqlSyntax};
 ghost use Rattle.im_sqlparse.specs.declared.statements.Form.{Form as TheForm};
+ghost use Rattle.im_sqlreply.specs.Replies.{syntax_reply};
 ghost use Rattle.im_sqlreply.specs.Shown.{IsShown};
 ghost use Rattle.im_table.specs.Known.{KnownPass};
 ghost use Rattle.im_table.specs.Passes.{IsPassOf, Later};
@@ -173,17 +175,32 @@ pub(crate) fn answer_sql<H: Hash32, D: Disk, C: Clock, N: TipName, R: Wait>(
     ensures err { IfErr result (λ why. IsUnanswered pass.old pass.new (Sql text.now) why) }
 {
     let number = store.tip(pass);
-    match parse(alloc, text) {
+    let parsed = parse(alloc, text);
+    match parsed {
         Ok(stmt) => {
             what_is_read_is_formed();
             let answer = answer_statement(rt, alloc, store, pass, &stmt, number);
             drop(stmt);
             answer
         }
-        Err(ParseError::Syntax(fault)) => {
+        Err(error) => {
+            drop(parsed);
+            unread(alloc, error, number)
+        }
+    }
+}
+
+// The answer to a text that isn't read as a statement; want of memory has none.
+fn unread(alloc: Global, error: ParseError, number: u64) -> Result<Answer, LineError>
+    ensures number { IfOk result (λ answer. answer.number ≡ number) }
+    ensures ok { IfOk result (λ answer. (fault : SqlSyntax) × (error ≡ ParseError.Syntax fault) × (answer.reply.items ≡ syntax_reply fault)) }
+    ensures err { IfErr result (λ why. why ≡ LineError.Memory) }
+{
+    match error {
+        ParseError::Syntax(fault) => {
             let reply = syntax_text(alloc, fault)?;
             Ok(Answer { number, reply })
         }
-        Err(ParseError::Memory) => Err(LineError::Memory),
+        ParseError::Memory => Err(LineError::Memory),
     }
 }

@@ -1,13 +1,20 @@
-use Rattle.std.proofs.Common.{◌≡◌, subst, Result, Err}
+use Rattle.std.proofs.Common.{◌≡◌, ℕ, List, sym, subst, Result, Ok, Err}
+use Rattle.std.specs.Prelude.{IfOk}
 use Rattle.std.proofs.lemmas.Result.{IfErr-weaker, IfOk-weaker}
+use Rattle.im_digest.specs.Digests.{Hash}
 use Rattle.im_script.specs.declared.commands.Command.TheVariants.{Sql}
-use Rattle.im_session.proofs.ShowLemmas.{short_unanswered, shown_unanswered}
+use Rattle.im_session.proofs.ShowLemmas.{shown_unanswered}
 use Rattle.im_session.proofs.StatementLemmas.{counted_now, fault_answered}
+use Rattle.im_session.specs.Answered.{IsAnswered, IsUnanswered}
+use Rattle.im_session.specs.Statements.{HasCounted}
+use Rattle.im_session.specs.declared.answers.Answer.{Answer}
+use Rattle.im_session.specs.declared.errors.LineError.{LineError}
 use Rattle.im_sqlparse.specs.Statements.{Parses, statement_of}
 use Rattle.im_sqlparse.specs.declared.errors.ParseError.{ParseError}
 use Rattle.im_sqlparse.specs.declared.errors.ParseError.TheVariants.{Syntax}
 use Rattle.im_sqlparse.specs.declared.errors.SqlSyntax.{SqlSyntax}
 use Rattle.im_sqlparse.specs.declared.statements.Form.{Form}
+use Rattle.im_sqlreply.specs.Replies.{syntax_reply}
 use Rattle.im_store.proofs.GainLemmas.{gains_same, later_self}
 use Rattle.im_table.proofs.PassLemmas.{later_both}
 use Rattle.im_table.specs.Known.{KnownPass}
@@ -22,18 +29,23 @@ returns-in-Ok-clause-err g c =
     IfErr-weaker c.answer_statement-answer.result _ _ (λ why each. each old c.args.text.now counted c.in-Ok.ensures) c.answer_statement-answer.ensures.err
 
 -- the text isn't in the grammar
-parsed-fault : (said : Result Form SqlSyntax) (why : ParseError) (fault : SqlSyntax) → why ≡ Syntax fault → Parses said (Err why) → said ≡ Err fault
-parsed-fault said why fault is parsed = subst (λ (e : ParseError). Parses said (Err e)) is parsed
+unread_answered : (hash : Hash) (first now : KnownPass) (text : List ℕ) (error : ParseError) (n : ℕ) (given : Result Answer LineError) → HasCounted first now n → Parses (statement_of text) (Err error)
+    → IfOk given (λ answer. answer.number ≡ n) → IfOk given (λ answer. (fault : SqlSyntax) × (error ≡ Syntax fault) × (answer.reply.items ≡ syntax_reply fault)) → IfOk given (λ answer. IsAnswered hash first now (Sql text) answer)
+unread_answered hash first now text error n (Ok answer) counted parsed numbered told =
+    let fault : statement_of text ≡ Err told.0 = subst (λ (e : ParseError). Parses (statement_of text) (Err e)) told.1 parsed in
+    fault_answered hash first now now text told.0 answer (subst (λ (k : ℕ). HasCounted first now k) (sym numbered) counted) (later_self now) (gains_same now) fault told.2
+unread_answered hash first now text error n (Err why) counted parsed numbered told = tt
 
-pub returns-in_ok-reply-in-Err-Syntax-clause-ok : goal.returns-in_ok-reply-in-Err-Syntax-clause-ok
-returns-in_ok-reply-in-Err-Syntax-clause-ok g c =
+pub returns-in-Err-clause-ok : goal.returns-in-Err-clause-ok
+returns-in-Err-clause-ok g c =
+    let hash : Hash = g.N.TipName.digest in
     let old : KnownPass = c.args.pass.now in
     let tip : KnownPass = c.tip-number.new.pass in
+    let said : Result Form SqlSyntax = statement_of c.args.text.now in
     let t = c.tip-number.ensures in
     let counted = counted_now old tip c.tip-number.result t.later t.gains t.durable.1 t.durable.2 in
-    fault_answered g.N.TipName.digest old tip tip c.args.text.now c.in-Err-Syntax.fault (record { number = c.tip-number.result; reply = c.in_ok-reply-in-Err-Syntax.reply })
-    counted (later_self tip) (gains_same tip) (parsed-fault (statement_of c.args.text.now) c.in-Err-Syntax.field-0 c.in-Err-Syntax.fault (cc (c.in-Err-Syntax.field-0-is)) c.in-Err-Syntax.ensures)
-    c.in_ok-reply-in-Err-Syntax.ensures
+    let parsed : Parses said (Err c.in-Err.error) = subst (λ (r : Result Form ParseError). Parses said r) c.in-Err.is c.parse-parsed.ensures in
+    unread_answered hash old tip c.args.text.now c.in-Err.error c.tip-number.result c.unread.result counted parsed c.unread.ensures.number c.unread.ensures.ok
 
 pub returns-in-Ok-clause-ok : goal.returns-in-Ok-clause-ok
 returns-in-Ok-clause-ok g c =
@@ -48,9 +60,9 @@ returns-in-Ok-clause-later g c =
     later_both c.args.pass.now c.tip-number.new.pass c.answer_statement-answer.new.pass c.tip-number.ensures.later c.answer_statement-answer.ensures.later
 
 -- memory ran out
-pub returns-in_err-reply-in-Err-Syntax-clause-err : goal.returns-in_err-reply-in-Err-Syntax-clause-err
-returns-in_err-reply-in-Err-Syntax-clause-err g c =
-    short_unanswered c.args.pass.now c.tip-number.new.pass (Sql c.args.text.now) c.from_residual.result c.from_residual.ensures.1 c.tip-number.ensures.later c.tip-number.ensures.gains
-
-pub returns-in-Err-Memory-clause-err : goal.returns-in-Err-Memory-clause-err
-returns-in-Err-Memory-clause-err g c = shown_unanswered c.args.pass.now c.tip-number.new.pass (Sql c.args.text.now) c.tip-number.ensures.later c.tip-number.ensures.gains
+pub returns-in-Err-clause-err : goal.returns-in-Err-clause-err
+returns-in-Err-clause-err g c =
+    let t = c.tip-number.ensures in
+    IfErr-weaker c.unread.result _ _
+    (λ why is. subst (λ (w : LineError). IsUnanswered c.args.pass.now c.tip-number.new.pass (Sql c.args.text.now) w) (sym is) (shown_unanswered c.args.pass.now c.tip-number.new.pass (Sql c.args.text.now) t.later t.gains))
+    c.unread.ensures.err
