@@ -2,6 +2,7 @@
 
 ghost use Rattle.std.specs.Prelude.{◌≡◌};
 ghost use Rattle.std.specs.List.{list_any, list_all};
+ghost use Rattle.im_sqltype.specs.Orders.{value_cmp};
 ghost use Rattle.im_sqlmodel.specs.Conditions as spec;
 ghost use Rattle.im_expr.specs.Lent.{lent_value};
 
@@ -35,6 +36,21 @@ fn compares(operator: Operator, ordering: Ordering) -> bool
         Operator::Greater => ordering.is_gt(),
         Operator::AtLeast => !ordering.is_lt(),
     }
+}
+
+// Whether the values of two sides compare so.
+fn sides_compare(
+    scope: &[Nameable],
+    row: &[Value],
+    left: &Operand,
+    operator: Operator,
+    right: &Operand,
+) -> bool
+    ensures { result ≡ spec.compares operator (value_cmp (spec.operand_value scope.now row.now left.now) (spec.operand_value scope.now row.now right.now)) }
+{
+    let left = operand_value(scope, row, left);
+    let right = operand_value(scope, row, right);
+    compares(operator, compare(left, right))
 }
 
 // Whether one of these conditions, of at most so many levels, holds.
@@ -77,11 +93,7 @@ fn meets_by(scope: &[Nameable], row: &[Value], condition: &Condition, levels: us
             operator,
             right,
             ..
-        } => {
-            let left = operand_value(scope, row, left);
-            let right = operand_value(scope, row, right);
-            compares(*operator, compare(left, right))
-        }
+        } => sides_compare(scope, row, left, *operator, right),
         Condition::Nullness { column, negated } => {
             let null = is_null(value_named(scope, row, column.as_slice()));
             if *negated { !null } else { null }
