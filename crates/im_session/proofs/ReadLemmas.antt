@@ -1,7 +1,7 @@
 -- What is read behind the first transactions, and beyond the last.
 use Rattle.std.proofs.Common.{◌≡◌, ◌<◌, ◌≤◌, ◌∙◌, ℕ, List, [], length, take, arith, ap, subst, sym, inl, inr, unwrap_or, IfNone, IfOk, IfSome, Option, None, Some, Result, Ok, Err}
 use Rattle.std.proofs.lemmas.List.{length-take-le, take_all}
-use Rattle.core.specs.Result.{MatchResult}
+use Rattle.std.specs.Prelude.{MatchResult}
 use Rattle.im_index.specs.Indexed.{Indexed}
 use Rattle.im_model.specs.declared.transactions.Transaction.{Transaction}
 use Rattle.im_report.specs.Reads.{IsReadAt}
