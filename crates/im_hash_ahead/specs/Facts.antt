@@ -16,3 +16,4 @@ AreFacts hash facts = All (IsFact hash) facts
 pub record IsKnown (hash : Hash) (window : Window) : Type 0 where
   pub far : AreFacts hash window.far
   pub near : All (λ facts. AreFacts hash facts) window.near.items
+  pub next : AreFacts hash window.next

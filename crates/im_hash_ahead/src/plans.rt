@@ -2,6 +2,7 @@ use crate::leads::Lead;
 use crate::values::Values;
 use im_digest::D32;
 use std::alloc::Global;
+use std::mem;
 
 /// All that is needed to hash records that follow each other: what they say of themselves, the Alh that join the tree up to
 /// the last of them, and the values. Nothing rests on it, as nothing rests on `Lead`.
@@ -37,5 +38,30 @@ impl Plan {
             size,
             values,
         }
+    }
+}
+
+/// Two plans, one behind the other: that of the window that is filled, and that whose leaves join the tree meanwhile.
+#[derive(Drop)]
+pub struct Plans {
+    /// The plan of the window that is filled.
+    pub filled: Plan,
+    /// The plan behind it.
+    pub behind: Plan,
+}
+
+impl Plans {
+    /// A plan, before whose window none is filled. It takes no memory.
+    pub fn first(alloc: Global, plan: Plan) -> Self {
+        Plans {
+            filled: Plan::empty(alloc),
+            behind: plan,
+        }
+    }
+
+    /// Goes on by one plan.
+    pub fn go_on(&mut self, next: Plan) {
+        let filled = mem::replace(&mut self.behind, next);
+        drop(mem::replace(&mut self.filled, filled));
     }
 }

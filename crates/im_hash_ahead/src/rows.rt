@@ -21,15 +21,16 @@ impl Row {
         self.digests.get(index as usize).copied()
     }
 
-    // Keeps what later pairs are made of: the last digest, where its number is even, and so the first of a pair; else none.
-    fn rest(&mut self) {
+    // What later pairs are made of: the last digest, where its number is even, and so the first of a pair; else none.
+    fn rest(&self, alloc: Global) -> Result<Row, AllocError> {
         let count = self.digests.len();
         let kept = count % 2;
+        let mut digests = Vec::new(alloc);
         if kept == 1 {
-            self.digests[0] = self.digests[count - 1];
+            digests.push(self.digests[count - 1])?;
         }
-        self.digests.truncate(kept);
-        self.first = self.first.saturating_add((count - kept) as u64);
+        let first = self.first.saturating_add((count - kept) as u64);
+        Ok(Row { first, digests })
     }
 }
 
@@ -62,11 +63,13 @@ impl Rows {
         self.rows.get(level)?.at(number)
     }
 
-    /// Keeps of each level what the next leaves' subtrees and roots are made of: one digest at most.
-    pub(crate) fn rest(&mut self) {
-        for k in 0..self.rows.len() {
-            self.rows[k].rest();
+    /// What the next leaves' subtrees and roots are made of: one digest of each level at most.
+    pub(crate) fn rest(&self, alloc: Global) -> Result<Rows, AllocError> {
+        let mut rows = Vec::with_capacity(alloc, self.rows.len())?;
+        for row in &self.rows {
+            rows.push(row.rest(alloc)?)?;
         }
+        Ok(Rows { rows })
     }
 
     /// Adds leaves behind all others, and hashes each, and a node for each pair, once, in chunks by several threads. The

@@ -4,6 +4,7 @@ ghost use Rattle.im_hash_ahead.specs.Facts.{AreFacts, IsKnown};
 use crate::facts::Facts;
 use crate::leads::Lead;
 use std::alloc::Global;
+use std::mem;
 
 /// What was hashed ahead, of records that follow each other and of the tree over them.
 #[derive(Drop)]
@@ -18,6 +19,8 @@ pub struct Window {
     pub near: Vec<Facts>,
     /// What is hashed of the tree over their Alh.
     pub far: Facts,
+    /// What is hashed of the tree over the Alh of the records behind them.
+    pub next: Facts,
 }
 
 impl Window {
@@ -35,12 +38,20 @@ impl Window {
             size: 1,
             near: Vec::new(alloc),
             far: Facts::with_room(alloc, 0),
+            next: Facts::with_room(alloc, 0),
         }
     }
 
-    /// One that has this of these records, in chunks of this size.
-    pub fn of(leads: &[Lead], size: usize, near: Vec<Facts>, far: Facts) -> Self
-        ensures { (hash : Hash) → All (λ facts. AreFacts hash facts) near.items → AreFacts hash far → IsKnown hash result }
+    /// One that has this of these records, in chunks of this size, and this of the tree over the Alh of those behind them. It
+    /// has nothing yet of the tree over their own.
+    pub(crate) fn of(
+        alloc: Global,
+        leads: &[Lead],
+        size: usize,
+        near: Vec<Facts>,
+        next: Facts,
+    ) -> Self
+        ensures { (hash : Hash) → All (λ facts. AreFacts hash facts) near.items → AreFacts hash next → IsKnown hash result }
     {
         let first = match leads.first() {
             Some(lead) => lead.id.saturating_sub(1),
@@ -55,8 +66,16 @@ impl Window {
             until,
             size: size as u64,
             near,
-            far,
+            far: Facts::with_room(alloc, 0),
+            next,
         }
+    }
+
+    /// Takes what the window before has of the tree over the Alh of these records.
+    pub fn follow(&mut self, before: &mut Window)
+        ensures { (hash : Hash) → IsKnown hash self.old → IsKnown hash before.old → IsKnown hash self.new }
+    {
+        mem::swap(&mut self.far, &mut before.next);
     }
 
     /// What was hashed of the record behind so many.

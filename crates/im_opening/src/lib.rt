@@ -9,6 +9,7 @@ mod entries;
 pub mod errors;
 mod fetches;
 pub mod found;
+mod hashing;
 pub mod opening;
 mod plans;
 pub mod reading;

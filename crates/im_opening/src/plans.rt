@@ -9,7 +9,7 @@ use crate::source::RecordSource;
 use im_digest::{D32, Hash32};
 use im_disk::disk::{Disk, DiskError};
 use im_hash_ahead::leads::{Lead, Start, survey};
-use im_hash_ahead::plans::Plan;
+use im_hash_ahead::plans::{Plan, Plans};
 use im_hash_ahead::values::Values;
 use std::alloc::{AllocError, Global};
 
@@ -20,39 +20,39 @@ pub(crate) fn first_plan<H: Hash32>(
     log: &[u8],
     progress: &Progress,
 ) -> Result<Plan, AllocError> {
-    let before = Plan::empty(alloc);
-    let plan = first_plan_behind(alloc, hash, log, progress, &before);
-    drop(before);
+    let none = Plans::first(alloc, Plan::empty(alloc));
+    let plan = first_plan_behind(alloc, hash, log, progress, &none);
+    drop(none);
     plan
 }
 
-// The same, behind a plan of nothing.
+// The same, behind plans of nothing.
 fn first_plan_behind<H: Hash32>(
     alloc: Global,
     hash: &H,
     log: &[u8],
     progress: &Progress,
-    before: &Plan,
+    none: &Plans,
 ) -> Result<Plan, AllocError> {
     let leads = survey(alloc, log, &Start::of_all(hash))?;
-    let leaves = leaves_behind(alloc, progress, before, leads.as_slice())?;
+    let leaves = leaves_behind(alloc, progress, none, leads.as_slice())?;
     Ok(Plan::of(leads, leaves, 0, Values::empty(alloc)))
 }
 
-/// What is needed to hash the records behind those of a plan, where so much was read; where that has come by the plan already,
-/// those that were read last are behind it. Where memory is short it is a plan of nothing, and then nothing more is hashed ahead.
+/// What is needed to hash the records behind those of two plans, where so much was read; where that has come by the plans already,
+/// those that were read last are behind them. Where memory is short it is a plan of nothing, and then nothing more is hashed ahead.
 pub(crate) fn plan_behind<D: Disk>(
     alloc: Global,
     disk: &mut D,
     source: &RecordSource,
     progress: &Progress,
-    before: &Plan,
+    plans: &Plans,
 ) -> Result<Plan, DiskError>
     requires shows { IfSome (D.told disk.old) (λ t. Shows (seen t) source.now.log.now source.now.lengths) }
     ensures told { D.told disk.new ≡ D.told disk.old }
     ensures cause { HasCause (D.faults disk.old) (D.faults disk.new) result }
 {
-    match whole_plan_behind(alloc, disk, source, progress, before) {
+    match whole_plan_behind(alloc, disk, source, progress, plans) {
         Ok(plan) => Ok(plan),
         Err(DiskError::Memory) => Ok(Plan::empty(alloc)),
         Err(DiskError::Failed) => Err(DiskError::Failed),
@@ -65,16 +65,16 @@ fn whole_plan_behind<D: Disk>(
     disk: &mut D,
     source: &RecordSource,
     progress: &Progress,
-    before: &Plan,
+    plans: &Plans,
 ) -> Result<Plan, DiskError>
     requires shows { IfSome (D.told disk.old) (λ t. Shows (seen t) source.now.log.now source.now.lengths) }
     ensures told { D.told disk.new ≡ D.told disk.old }
     ensures cause { HasCause (D.faults disk.old) (D.faults disk.new) result }
 {
-    let leads = leads_behind(alloc, source.log, progress, before.leads.as_slice())?;
+    let leads = leads_behind(alloc, source.log, progress, plans.behind.leads.as_slice())?;
     let values = fetch(alloc, disk, source, leads.as_slice())?;
-    let leaves = leaves_behind(alloc, progress, before, leads.as_slice())?;
-    Ok(Plan::of(leads, leaves, before.size, values))
+    let leaves = leaves_behind(alloc, progress, plans, leads.as_slice())?;
+    Ok(Plan::of(leads, leaves, plans.behind.size, values))
 }
 
 // The records behind these, or behind all that was read, where all of these were.
@@ -108,20 +108,20 @@ fn start_behind(progress: &Progress, last: &Lead) -> Start {
     }
 }
 
-// The Alh that join the tree behind those of a plan, up to the size of the last record's tree, as they were read or as the
+// The Alh that join the tree behind those of two plans, up to the size of the last record's tree, as they were read or as the
 // records say.
 fn leaves_behind(
     alloc: Global,
     progress: &Progress,
-    before: &Plan,
+    plans: &Plans,
     leads: &[Lead],
 ) -> Result<Vec<D32>, AllocError> {
     let mut leaves = Vec::new(alloc);
     let Some(last) = leads.last() else {
         return Ok(leaves);
     };
-    for number in before.size..last.bl.min(last.id) {
-        let Some(alh) = alh_behind(progress, before, leads, number) else {
+    for number in plans.behind.size..last.bl.min(last.id) {
+        let Some(alh) = alh_behind(progress, plans, leads, number) else {
             break;
         };
         leaves.push(alh)?;
@@ -129,15 +129,15 @@ fn leaves_behind(
     Ok(leaves)
 }
 
-// The Alh of the record behind so many: as it was read, or as it says in a plan, or among the records behind that.
-fn alh_behind(progress: &Progress, before: &Plan, leads: &[Lead], number: u64) -> Option<D32> {
+// The Alh of the record behind so many: as it was read, or as it says in a plan, or among the records behind these.
+fn alh_behind(progress: &Progress, plans: &Plans, leads: &[Lead], number: u64) -> Option<D32> {
     if let Some(alh) = progress.alhs.get(number as usize) {
         return Some(*alh);
     }
-    match alh_among(before.leads.as_slice(), number) {
-        Some(alh) => Some(alh),
-        None => alh_among(leads, number),
-    }
+    let Plans { filled, behind } = plans;
+    alh_among(filled.leads.as_slice(), number)
+        .or_else(|| alh_among(behind.leads.as_slice(), number))
+        .or_else(|| alh_among(leads, number))
 }
 
 // The Alh of the record behind so many, as it says itself, where it is one of these.

@@ -11,7 +11,8 @@ ghost use Rattle.im_opening.specs.Stretches.{AreAllRead, IsLeft, IsReadTo, all_o
 
 use crate::batches::read_batch;
 use crate::errors::OpenError;
-use crate::plans::{first_plan, plan_behind};
+use crate::hashing::{Hashing, first_hashing};
+use crate::plans::plan_behind;
 use crate::records::Progress;
 use crate::source::RecordSource;
 use im_atree::trees::Tree;
@@ -20,7 +21,7 @@ use im_digest::Hash32;
 use im_disk::disk::Disk;
 use im_format::files::BATCH_OCTETS;
 use im_hash_ahead::filling::fill;
-use im_hash_ahead::plans::Plan;
+use im_hash_ahead::plans::{Plan, Plans};
 use im_hash_ahead::rows::Rows;
 use im_hash_ahead::windows::Window;
 use std::alloc::{AllocError, Global};
@@ -193,41 +194,6 @@ pub(crate) fn read_batches_on<R: Threads + Sync, D: Disk, H: Hash32 + Sync>(
     }
 }
 
-// What is hashed ahead: the window that is read, the one that was read before, the rows of the tree, and the plan of the next
-// window.
-#[derive(Drop)]
-struct Hashing {
-    window: Window,
-    spent: Option<Window>,
-    rows: Rows,
-    plan: Plan,
-}
-
-impl Hashing {
-    // Nothing yet, before the window of a plan is filled.
-    fn new(alloc: Global, plan: Plan) -> Self
-        ensures { (hash : Hash) → IsKnown hash result.window }
-    {
-        Hashing {
-            window: Window::empty(alloc),
-            spent: None,
-            rows: Rows::new(alloc),
-            plan,
-        }
-    }
-
-    // Goes on to the window that was filled, and to the next plan, where there is one.
-    fn go_on(&mut self, filled: Window, next: &mut Option<Plan>)
-        ensures { self.new.window ≡ filled }
-    {
-        let read = mem::replace(&mut self.window, filled);
-        drop(mem::replace(&mut self.spent, Some(read)));
-        if let Some(next) = next.take() {
-            drop(mem::replace(&mut self.plan, next));
-        }
-    }
-}
-
 // Reads batches, a window at a time, while the next is hashed, and tells why none counts behind them.
 fn read_windows<R: Threads + Sync, D: Disk, H: Hash32 + Sync>(
     rt: &R,
@@ -250,8 +216,45 @@ fn read_windows<R: Threads + Sync, D: Disk, H: Hash32 + Sync>(
     ensures told { D.told disk.new ≡ D.told disk.old }
     ensures cause { HasOpenCause (D.faults disk.old) (D.faults disk.new) result }
 {
-    let plan = first_plan(alloc, hash, source.log, &reading.progress)?;
-    let mut hashing = Hashing::new(alloc, plan);
+    let mut hashing = first_hashing(rt, alloc, hash, disk, source, &reading.progress)?;
+    let behind = read_each(
+        rt,
+        alloc,
+        hash,
+        disk,
+        commits,
+        source,
+        &mut hashing,
+        reading,
+    );
+    drop(hashing);
+    behind
+}
+
+// The same, from the window on that was filled last.
+fn read_each<R: Threads + Sync, D: Disk, H: Hash32 + Sync>(
+    rt: &R,
+    alloc: Global,
+    hash: &H,
+    disk: &mut D,
+    commits: &[u8],
+    source: &RecordSource,
+    hashing: &mut Hashing,
+    reading: &mut Reading,
+) -> Result<Uncounted, OpenError>
+    requires shows { IfSome (D.told disk.old) (λ t. Shows (seen t) source.now.log.now source.now.lengths) }
+    requires commits { IfSome (D.told disk.old) (λ t. commits.now ≡ seen t 1) }
+    requires known { IsKnown (H.digest hash.now) hashing.old.window }
+    requires reached { IsReadTo (H.digest hash.now) commits.now source.now.log.now reading.old }
+    requires left { IsLeft (H.digest hash.now) (D.told disk.old) reading.old }
+    ensures reached { OnOk result (IsReadTo (H.digest hash.now) commits.now source.now.log.now reading.new) }
+    ensures left { OnOk result (IsLeft (H.digest hash.now) (D.told disk.old) reading.new) }
+    ensures behind { IfOk result (λ why. IsUncounted commits.now reading.new.gate why) }
+    ensures last { OnOk result (Counts commits.now reading.new.gate → ⊥) }
+    ensures unfit { (t : Told) → D.told disk.old ≡ Some t → IfErr result (Tells (image_checks (H.digest hash.now) (seen t))) }
+    ensures told { D.told disk.new ≡ D.told disk.old }
+    ensures cause { HasOpenCause (D.faults disk.old) (D.faults disk.new) result }
+{
     'stretches: loop {
         let (filled, behind) = read_beside(
             rt,
@@ -261,7 +264,7 @@ fn read_windows<R: Threads + Sync, D: Disk, H: Hash32 + Sync>(
             commits,
             source,
             &hashing.window,
-            &hashing.plan,
+            &hashing.plans,
             &mut hashing.spent,
             &mut hashing.rows,
             reading,
@@ -269,18 +272,15 @@ fn read_windows<R: Threads + Sync, D: Disk, H: Hash32 + Sync>(
         match behind {
             Ok(Some(behind)) => {
                 drop(filled);
-                drop(hashing);
                 return Ok(behind);
             }
             Err(error) => {
                 drop(filled);
-                drop(hashing);
                 return Err(error);
             }
             Ok(None) => match filled {
                 Ok(filled) => hashing.go_on(filled, &mut reading.next),
                 Err(error) => {
-                    drop(hashing);
                     return Err(OpenError::from(error));
                 }
             },
@@ -288,8 +288,8 @@ fn read_windows<R: Threads + Sync, D: Disk, H: Hash32 + Sync>(
     }
 }
 
-// Reads batches up to the end of a window, and plans behind a plan, as `read_and_plan` does, while the window that was read
-// before is let go, and that plan's window is filled.
+// Reads batches up to the end of a window, and plans behind two plans, as `read_and_plan` does, while the window that was read
+// before is let go, and the first plan's window is filled.
 fn read_beside<R: Threads + Sync, D: Disk, H: Hash32 + Sync>(
     rt: &R,
     alloc: Global,
@@ -298,7 +298,7 @@ fn read_beside<R: Threads + Sync, D: Disk, H: Hash32 + Sync>(
     commits: &[u8],
     source: &RecordSource,
     window: &Window,
-    plan: &Plan,
+    plans: &Plans,
     spent: &mut Option<Window>,
     rows: &mut Rows,
     reading: &mut Reading,
@@ -322,13 +322,15 @@ fn read_beside<R: Threads + Sync, D: Disk, H: Hash32 + Sync>(
     ensures cause { HasOpenCause (D.faults disk.old) (D.faults disk.new) result.1 }
 {
     let log = source.log;
-    let mut hashes = || fill(rt, alloc, hash, log, plan, spent, rows);
-    let mut reads = || { read_and_plan(alloc, hash, disk, commits, source, window, plan, reading) };
+    let mut hashes = || fill(rt, alloc, hash, log, plans, spent, rows);
+    let mut reads = || {
+        read_and_plan(alloc, hash, disk, commits, source, window, plans, reading)
+    };
     join_mut(rt, &mut hashes, &mut reads)
 }
 
 // Reads batches up to the end of a window, as `read_stretch` does, and, where some may count behind them, plans what is hashed
-// behind a plan.
+// behind two plans.
 fn read_and_plan<D: Disk, H: Hash32>(
     alloc: Global,
     hash: &H,
@@ -336,7 +338,7 @@ fn read_and_plan<D: Disk, H: Hash32>(
     commits: &[u8],
     source: &RecordSource,
     window: &Window,
-    plan: &Plan,
+    plans: &Plans,
     reading: &mut Reading,
 ) -> Result<Option<Uncounted>, OpenError>
     requires shows { IfSome (D.told disk.old) (λ t. Shows (seen t) source.now.log.now source.now.lengths) }
@@ -356,7 +358,7 @@ fn read_and_plan<D: Disk, H: Hash32>(
     if let Some(behind) = read_stretch(alloc, hash, disk, commits, source, window, reading)? {
         return Ok(Some(behind));
     }
-    let planned = plan_behind(alloc, disk, source, &reading.progress, plan)?;
+    let planned = plan_behind(alloc, disk, source, &reading.progress, plans)?;
     drop(mem::replace(&mut reading.next, Some(planned)));
     Ok(None)
 }

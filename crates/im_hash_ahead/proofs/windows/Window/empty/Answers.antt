@@ -8,4 +8,5 @@ pub returns : goal.returns
 returns c hash = record {
   far = subst (AreFacts hash) (sym c.with_room.ensures) (All-nil (IsFact hash));
   near = subst (λ (l : List (List Fact)). All (AreFacts hash) l) (sym c.new.ensures.items) (All-nil (AreFacts hash));
+  next = subst (AreFacts hash) (sym c.with_room-2.ensures) (All-nil (IsFact hash));
 }

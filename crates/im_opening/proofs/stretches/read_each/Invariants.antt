@@ -1,7 +1,7 @@
 use Rattle.std.proofs.Common.{◌≡◌, ◌-◌, length}
 use Rattle.im_hash_ahead.specs.Facts.{IsKnown}
 use Rattle.im_opening.specs.Stretches.{IsLeft, IsReadTo}
-use Rattle.im_opening.proofs.stretches.read_windows.Given as goal
+use Rattle.im_opening.proofs.stretches.read_each.Given as goal
 
 abbrev pub invariant-stretches : goal.invariant-stretches
 invariant-stretches g l = record {
