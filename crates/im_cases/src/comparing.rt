@@ -2,7 +2,7 @@
 
 use crate::lines::{CaseLine, Run};
 use crate::octets::{file_number, first_word, number, octets};
-use crate::shown::{Place, Shown, push_calls};
+use crate::shown::{Place, Shown, calls_text};
 use crate::stop::{Stop, differ};
 use crate::texts::line_at;
 use crate::wanting;
@@ -13,16 +13,11 @@ use std::alloc::{AllocError, Global};
 /// Compares the exit status, and what is said on standard error.
 pub fn compare_end(run: Run, came: &[u8]) -> Result<(), Stop> {
     let wanted = wanting::run_end(run)?;
-    compare_texts(run.alloc, "end", &wanted, came)
-}
-
-// Compares two texts.
-fn compare_texts(alloc: Global, what: &str, wanted: &[u8], came: &[u8]) -> Result<(), Stop> {
-    if wanted == came {
+    if wanted.as_slice() == came {
         return Ok(());
     }
-    let place = Place::Whole(what);
-    Err(differ(alloc, place, Shown::Text(wanted), Shown::Text(came)))
+    let (wanted, came) = (Shown::Text(&wanted), Shown::Text(came));
+    Err(differ(run.alloc, Place::Whole("end"), wanted, came))
 }
 
 /// Compares two texts by lines.
@@ -39,31 +34,24 @@ pub fn compare_lines(alloc: Global, what: &str, wanted: &[u8], came: &[u8]) -> R
 
 // How many octets at the front are the same.
 fn same_front(a: &[u8], b: &[u8]) -> usize {
-    let mut same = 0usize;
-    for (x, y) in a.iter().zip(b) {
-        if *x != *y {
-            return same;
+    let most = a.len().min(b.len());
+    for at in 0..most {
+        if a[at] != b[at] {
+            return at;
         }
-        same = same.saturating_add(1);
     }
-    same
+    most
 }
 
 /// Compares the lines that the keeper holds, where some are wanted, and their number, where one is.
 pub fn compare_kept(run: Run, kept: &[Octets]) -> Result<(), Stop> {
-    compare_kept_lines(run, kept)?;
+    let wanted = run.texts("kept")?;
+    if !wanted.is_empty() {
+        let came = kept_text(run.alloc, kept)?;
+        compare_lines(run.alloc, "kept line", &wanted, &came)?;
+    }
     let place = Place::Whole("lines kept");
     compare_count(run.alloc, place, run.number("lines"), kept.len() as u64)
-}
-
-// Compares the lines that the keeper holds, where some are wanted.
-fn compare_kept_lines(run: Run, kept: &[Octets]) -> Result<(), Stop> {
-    let wanted = run.texts("kept")?;
-    if wanted.is_empty() {
-        return Ok(());
-    }
-    let came = kept_text(run.alloc, kept)?;
-    compare_lines(run.alloc, "kept line", &wanted, &came)
 }
 
 // Lines, each with an LF.
@@ -78,38 +66,30 @@ fn kept_text(alloc: Global, kept: &[Octets]) -> Result<Vec<u8>, AllocError> {
 
 /// Compares the changing calls that the disk got, where some are wanted, and their number, where one is.
 pub fn compare_calls(run: Run, disk: &MemDisk) -> Result<(), Stop> {
-    compare_call_lines(run, disk)?;
+    let wanted = wanting::calls(run)?;
+    if !wanted.is_empty() {
+        let came = calls_text(run.alloc, disk.calls())?;
+        compare_lines(
+            run.alloc,
+            "changing call",
+            wanted.as_bytes(),
+            came.as_bytes(),
+        )?;
+    }
     let place = Place::Whole("changing calls");
     compare_count(run.alloc, place, run.number("calls"), disk.time())
-}
-
-// Compares the changing calls that the disk got, where some are wanted.
-fn compare_call_lines(run: Run, disk: &MemDisk) -> Result<(), Stop> {
-    let wanted = wanting::calls(run)?;
-    if wanted.is_empty() {
-        return Ok(());
-    }
-    let mut came = String::new(run.alloc);
-    push_calls(&mut came, disk.calls())?;
-    let (wanted, came) = (wanted.as_bytes(), came.as_bytes());
-    compare_lines(run.alloc, "changing call", wanted, came)
 }
 
 /// Compares what files hold.
 pub fn compare_files(run: Run, disk: &MemDisk) -> Result<(), Stop> {
     for line in run.lines {
-        compare_file_line(run.alloc, *line, disk)?;
+        match line.mark {
+            "has" => compare_file(run.alloc, line.rest, disk)?,
+            "length" => compare_length(run.alloc, line.rest, disk)?,
+            _ => {}
+        }
     }
     Ok(())
-}
-
-// Compares what a line says of a file, where it says something of one.
-fn compare_file_line(alloc: Global, line: CaseLine, disk: &MemDisk) -> Result<(), Stop> {
-    match line.mark {
-        "has" => compare_file(alloc, line.rest, disk),
-        "length" => compare_length(alloc, line.rest, disk),
-        _ => Ok(()),
-    }
 }
 
 // Compares the octets of a file.
@@ -117,17 +97,13 @@ fn compare_file(alloc: Global, rest: &str, disk: &MemDisk) -> Result<(), Stop> {
     let (file, behind) = first_word(rest);
     let file = file_number(file)?;
     let wanted = octets(alloc, behind)?;
-    compare_octets(alloc, file, &wanted, disk.file(file))
-}
-
-// Compares the octets of a file with these.
-fn compare_octets(alloc: Global, file: u8, wanted: &[u8], came: &[u8]) -> Result<(), Stop> {
-    if wanted == came {
+    let came = disk.file(file);
+    if wanted.as_slice() == came {
         return Ok(());
     }
-    let at = same_front(wanted, came);
-    let wanted = Shown::Octets(wanted.get(at..).unwrap_or(&[]));
-    let came = Shown::Octets(came.get(at..).unwrap_or(&[]));
+    let at = same_front(&wanted, came);
+    let wanted = Shown::Octets(&wanted, at);
+    let came = Shown::Octets(came, at);
     Err(differ(alloc, Place::From { file, at }, wanted, came))
 }
 

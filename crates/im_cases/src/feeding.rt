@@ -20,7 +20,10 @@ pub struct Exchange {
 pub fn exchange_of(scope: Scope, rest: &str) -> Result<Exchange, Wrong> {
     let (old, new) = match rest.split_once(" => ") {
         Some(sides) => sides,
-        None => (rest.strip_suffix(" =>").ok_or(Wrong::Words)?, ""),
+        None => match rest.strip_suffix(" =>") {
+            Some(old) => (old, ""),
+            None => return Err(Wrong::Words),
+        },
     };
     if old.is_empty() {
         return Err(Wrong::Words);
@@ -65,12 +68,13 @@ pub fn input_of(run: Run, before: &[u8]) -> Result<Vec<u8>, Fault> {
 impl Input {
     // Adds what a line gives.
     fn add(&mut self, scope: Scope, line: CaseLine, before: &[u8]) -> Result<(), Wrong> {
+        if line.mark.starts_with('>') {
+            self.last = self.octets.len();
+            return push(scope, &mut self.octets, line, before);
+        }
         if line.mark == "with" {
             let exchange = exchange_of(scope, line.rest)?;
             self.octets = replaced(scope.alloc, &self.octets, self.last, &exchange)?;
-        } else if line.mark.starts_with('>') {
-            self.last = self.octets.len();
-            push(scope, &mut self.octets, line, before)?;
         }
         Ok(())
     }
@@ -79,30 +83,32 @@ impl Input {
 // Adds the octets that a line of input gives.
 fn push(scope: Scope, out: &mut Vec<u8>, line: CaseLine, before: &[u8]) -> Result<(), Wrong> {
     match line.mark {
-        ">x" => out.extend_from_slice(&octets(scope.alloc, line.rest)?)?,
-        ">|" => push_earlier(out, before, line.rest)?,
-        _ => push_text(scope, out, line)?,
+        ">x" => Ok(out.extend_from_slice(&octets(scope.alloc, line.rest)?)?),
+        ">|" => push_earlier(out, before, line.rest),
+        _ => push_text(scope, out, line),
     }
-    Ok(())
 }
 
 // Adds the part of what the run before wrote that a word asks for.
 fn push_earlier(out: &mut Vec<u8>, before: &[u8], word: &str) -> Result<(), Wrong> {
     match earlier(word)? {
-        None => out.extend_from_slice(before)?,
-        Some((first, last)) => push_lines(out, before, first, last)?,
+        None => Ok(out.extend_from_slice(before)?),
+        Some((first, last)) => push_lines(out, before, first, last),
     }
-    Ok(())
 }
 
 // Adds some lines of a text, each with its LF where it has one.
 fn push_lines(out: &mut Vec<u8>, text: &[u8], first: u64, last: u64) -> Result<(), Wrong> {
     let mut number = 0u64;
-    for line in text.split_inclusive(|octet| *octet == b'\n') {
-        number = number.saturating_add(1);
-        if first <= number && number <= last {
-            out.extend_from_slice(line)?;
+    let mut begins = true;
+    for octet in text {
+        if begins {
+            number = number.saturating_add(1);
         }
+        if first <= number && number <= last {
+            out.push(*octet)?;
+        }
+        begins = *octet == b'\n';
     }
     if 0 < first && first <= last && last <= number {
         Ok(())
@@ -113,7 +119,9 @@ fn push_lines(out: &mut Vec<u8>, text: &[u8], first: u64, last: u64) -> Result<(
 
 // A text with another part in place of one, at the first place from this one on.
 fn replaced(alloc: Global, text: &[u8], from: usize, asked: &Exchange) -> Result<Vec<u8>, Wrong> {
-    let (front, behind) = around(text, from, &asked.old).ok_or(Wrong::NotThere)?;
+    let Some((front, behind)) = around(text, from, &asked.old) else {
+        return Err(Wrong::NotThere);
+    };
     let mut out = Vec::from_slice(alloc, front)?;
     out.extend_from_slice(&asked.new)?;
     out.extend_from_slice(behind)?;

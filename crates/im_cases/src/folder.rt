@@ -1,12 +1,7 @@
-use std::alloc::Global;
-use std::rt::Files;
 use std::{fs, io};
 
 /// The names of the files of cases in a folder, in the order of their octets.
-pub fn case_files<R: Files + Alloc<A = Global> + Clone + Drop>(
-    rt: &R,
-    folder: &str,
-) -> io::Result<Vec<String>> {
+pub fn case_files(rt: &HostRuntime, folder: &str) -> io::Result<Vec<String>> {
     let mut names = Vec::new(rt.alloc());
     for entry in fs::read_dir(rt, folder)? {
         let entry = entry?;

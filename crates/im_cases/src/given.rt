@@ -32,12 +32,13 @@ pub fn hash(run: Run) -> AskedHash {
 pub fn clock(run: Run) -> Pace {
     let mut clock = Pace { next: 0, step: 0 };
     for line in run.lines {
-        if line.mark == "clock" || line.mark == "ticks" {
-            clock = Pace {
-                next: time(line.rest).unwrap_or(0),
-                step: if line.mark == "ticks" { 1 } else { 0 },
-            };
-        }
+        let step = match line.mark {
+            "clock" => 0,
+            "ticks" => 1,
+            _ => continue,
+        };
+        let next = time(line.rest).unwrap_or(0);
+        clock = Pace { next, step };
     }
     clock
 }

@@ -15,25 +15,27 @@ const FILES: usize = 16;
 /// lost those before the last sync that succeeded.
 pub fn files_of(alloc: Global, disk: &MemDisk, loses: bool) -> Result<Vec<Vec<u8>>, AllocError> {
     let calls = disk.calls();
-    let count = if loses { last_sync(calls) } else { calls.len() };
+    let calls = if loses { synced(calls) } else { calls };
     let mut files = first_files_of(alloc, disk)?;
-    for call in calls.iter().take(count) {
+    for call in calls {
         if let Call::Wrote { file, at, piece } = call {
-            write(&mut files, *file as usize, *at as usize, piece.as_slice())?;
+            if let Some(file) = files.get_mut(*file as usize) {
+                put(file, *at as usize, piece.as_slice())?;
+            }
         }
     }
     Ok(files)
 }
 
-// How many calls stand before the last sync that succeeded.
-fn last_sync(calls: &[Call]) -> usize {
-    let mut last = 0;
+// The calls before the last sync that succeeded.
+fn synced(calls: &[Call]) -> &[Call] {
+    let mut before = &calls[..0];
     for (at, call) in calls.iter().enumerate() {
         if let Call::Synced = call {
-            last = at;
+            before = &calls[..at];
         }
     }
-    last
+    before
 }
 
 // A copy of each file, as it was at first.
@@ -47,14 +49,6 @@ fn first_files_of(alloc: Global, disk: &MemDisk) -> Result<Vec<Vec<u8>>, AllocEr
         files.push(Vec::from_slice(alloc, octets)?)?;
     }
     Ok(files)
-}
-
-// Writes a piece into one of the files.
-fn write(files: &mut [Vec<u8>], file: usize, at: usize, piece: &[u8]) -> Result<(), AllocError> {
-    match files.get_mut(file) {
-        Some(file) => put(file, at, piece),
-        None => Ok(()),
-    }
 }
 
 // Puts octets from a place on: in the place of others, and behind the last one.
@@ -87,11 +81,13 @@ fn change(alloc: Global, files: &mut [Vec<u8>], line: CaseLine) -> Result<(), Wr
         return Err(Wrong::File);
     };
     match line.mark {
-        "file" => *file = octets(alloc, behind)?,
-        "spoil" => spoil(alloc, file, behind)?,
-        _ => cut(file, behind)?,
+        "file" => {
+            *file = octets(alloc, behind)?;
+            Ok(())
+        }
+        "spoil" => spoil(alloc, file, behind),
+        _ => cut(file, behind),
     }
-    Ok(())
 }
 
 // Puts octets in the place of others, which are there.

@@ -39,16 +39,13 @@ fn check_file(alloc: Global, mark: &str, rest: &str) -> Result<(), Wrong> {
     file_number(file)?;
     match mark {
         "file" | "has" => read(octets(alloc, behind)),
-        "spoil" => check_spoilt(alloc, behind),
+        "spoil" => {
+            let (at, behind) = first_word(behind);
+            number(at)?;
+            read(octets(alloc, behind))
+        }
         _ => read(number(behind)),
     }
-}
-
-// Checks a place in a file, and the octets that are put there.
-fn check_spoilt(alloc: Global, rest: &str) -> Result<(), Wrong> {
-    let (at, behind) = first_word(rest);
-    number(at)?;
-    read(octets(alloc, behind))
 }
 
 // Checks a line that says numbers, or words that are given.

@@ -6,10 +6,14 @@ use crate::wrong::Wrong;
 use hex::FromHexError;
 use std::alloc::Global;
 
+/// What stands before the first blank, and what stands behind it.
+pub fn at_blank(text: &str) -> (&str, &str) {
+    text.split_once(' ').unwrap_or((text, ""))
+}
+
 /// The first word, and what stands behind a blank.
 pub fn first_word(text: &str) -> (&str, &str) {
-    let text = text.trim_start();
-    text.split_once(' ').unwrap_or((text, ""))
+    at_blank(text.trim_start())
 }
 
 /// The number that decimal digits say.
@@ -45,7 +49,9 @@ pub fn octets(alloc: Global, text: &str) -> Result<Vec<u8>, Wrong> {
 // Adds the octets that one word says.
 fn push_word(alloc: Global, out: &mut Vec<u8>, word: &str) -> Result<(), Wrong> {
     if let Some(quoted) = word.strip_prefix('"') {
-        let text = quoted.strip_suffix('"').ok_or(Wrong::Octets)?;
+        let Some(text) = quoted.strip_suffix('"') else {
+            return Err(Wrong::Octets);
+        };
         out.extend_from_slice(text.as_bytes())?;
         return Ok(());
     }

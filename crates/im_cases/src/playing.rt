@@ -37,7 +37,7 @@ fn play_all<R: Threads + Wait + Sync>(
     for (at, line) in case.iter().enumerate() {
         if line.mark == "$" {
             number = number.saturating_add(1);
-            let lines = lines_of(alloc, case, &case[at..])?;
+            let lines = lines_of(alloc, before(case, "$"), *line, &case[at + 1..])?;
             let run = Run {
                 alloc,
                 named,
@@ -51,17 +51,17 @@ fn play_all<R: Threads + Wait + Sync>(
     Ok(None)
 }
 
-// The lines of a run: those of the case before its first run, and those from here on before the next one.
+// The lines of a run: those that hold for each run of its case, the one that it begins with, and those behind that one
+// before the next run.
 fn lines_of<'t>(
     alloc: Global,
-    case: &[CaseLine<'t>],
-    own: &[CaseLine<'t>],
+    common: &[CaseLine<'t>],
+    first: CaseLine<'t>,
+    behind: &[CaseLine<'t>],
 ) -> Result<Vec<CaseLine<'t>>, AllocError> {
-    let mut lines = Vec::from_slice(alloc, before(case, "$"))?;
-    if let Some((first, behind)) = own.split_first() {
-        lines.push(*first)?;
-        lines.extend_from_slice(before(behind, "$"))?;
-    }
+    let mut lines = Vec::from_slice(alloc, common)?;
+    lines.push(first)?;
+    lines.extend_from_slice(before(behind, "$"))?;
     Ok(lines)
 }
 

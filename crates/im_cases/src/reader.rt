@@ -2,6 +2,7 @@
 
 use crate::lines::CaseLine;
 use crate::marks::check;
+use crate::octets::at_blank;
 use crate::texts::{Named, Scope, is_name};
 use crate::wrong::{Fault, Wrong};
 use std::alloc::Global;
@@ -63,7 +64,7 @@ impl<'t> Reader<'t> {
         for text in text.split_terminator('\n') {
             self.line = self.line.saturating_add(1);
             if !text.is_empty() && !text.starts_with('#') {
-                let (mark, rest) = text.split_once(' ').unwrap_or((text, ""));
+                let (mark, rest) = at_blank(text);
                 let number = self.line;
                 self.read_line(CaseLine { number, mark, rest })?;
             }
@@ -73,20 +74,24 @@ impl<'t> Reader<'t> {
 
     // Reads one line.
     fn read_line(&mut self, line: CaseLine<'t>) -> Result<(), Wrong> {
-        match line.mark {
-            "text" => self.name_text(line)?,
-            "=" => self.begin_case(line)?,
-            _ if self.case == 0 => return Err(Wrong::NoCase),
-            "$" => self.begin_run(),
-            _ => self.check(line)?,
-        }
+        let read = match line.mark {
+            "text" => self.name_text(line),
+            "=" => self.begin_case(line),
+            _ if self.case == 0 => Err(Wrong::NoCase),
+            "$" => {
+                self.begin_run();
+                Ok(())
+            }
+            _ => self.check(line),
+        };
+        read?;
         self.script.lines.push(line)?;
         Ok(())
     }
 
     // Names a text.
     fn name_text(&mut self, line: CaseLine) -> Result<(), Wrong> {
-        let (name, text) = line.rest.split_once(' ').unwrap_or((line.rest, ""));
+        let (name, text) = at_blank(line.rest);
         let name = name.as_bytes();
         if !is_name(name) {
             return Err(Wrong::Name);

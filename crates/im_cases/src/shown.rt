@@ -20,7 +20,7 @@ pub enum Place<'a> {
 }
 
 impl Place<'_> {
-    /// Adds it.
+    /// Adds where it is.
     pub fn push(self, out: &mut String) -> Result<(), AllocError> {
         match self {
             Place::Whole(what) => out.push_str(what),
@@ -37,19 +37,19 @@ pub enum Shown<'a> {
     Text(&'a [u8]),
     /// The line that begins at a place of a text: without its LF, and with a word where it lacks one.
     Line(&'a [u8], usize),
-    /// Octets in hex: the first ones, and two dots where more stand behind them.
-    Octets(&'a [u8]),
+    /// The octets from a place on, in hex: the first ones, and two dots where more stand behind them.
+    Octets(&'a [u8], usize),
     /// A number.
     Number(u64),
 }
 
 impl Shown<'_> {
-    /// Adds it.
+    /// Adds what is shown of it.
     pub fn push(self, out: &mut String) -> Result<(), AllocError> {
         match self {
             Shown::Text(text) => push_text(out, text),
             Shown::Line(text, start) => push_line(out, text.get(start..).unwrap_or(&[])),
-            Shown::Octets(octets) => push_octets(out, octets),
+            Shown::Octets(octets, start) => push_octets(out, octets.get(start..).unwrap_or(&[])),
             Shown::Number(number) => write!(out, "{number}"),
         }
     }
@@ -87,16 +87,11 @@ fn push_line(out: &mut String, text: &[u8]) -> Result<(), AllocError> {
     }
 }
 
-// Adds a text with `<xx>` in place of each digest under the sum.
+// Adds a text, which may not be UTF-8, with `<xx>` in place of each digest under the sum.
 fn push_text(out: &mut String, text: &[u8]) -> Result<(), AllocError> {
     let short = shortened(*out.allocator(), text)?;
-    push_lossy(out, &short)
-}
-
-// Adds a text that may not be UTF-8.
-fn push_lossy(out: &mut String, text: &[u8]) -> Result<(), AllocError> {
-    let text = String::from_utf8_lossy(*out.allocator(), text)?;
-    out.push_str(&text)
+    let told = String::from_utf8_lossy(*out.allocator(), &short)?;
+    out.push_str(&told)
 }
 
 // A text with `<xx>` in place of each digest under the sum.
@@ -124,12 +119,13 @@ fn push_front(out: &mut Vec<u8>, text: &[u8]) -> Result<usize, AllocError> {
     Ok(1)
 }
 
-/// Adds the line of each changing call.
-pub fn push_calls(out: &mut String, calls: &[Call]) -> Result<(), AllocError> {
+/// The line of each changing call.
+pub fn calls_text(alloc: Global, calls: &[Call]) -> Result<String, AllocError> {
+    let mut text = String::new(alloc);
     for call in calls {
-        push_call(out, call)?;
+        push_call(&mut text, call)?;
     }
-    Ok(())
+    Ok(text)
 }
 
 // Adds the line of a changing call.

@@ -48,30 +48,29 @@ impl Stage {
 
     /// Plays a run, and stops where it can't be done, or at the first difference between what is wanted and what came.
     pub fn play<R: Threads + Wait + Sync>(&mut self, rt: &R, run: Run) -> Result<(), Stop> {
-        let files = self.first_files(run)?;
-        let status = self.run_over(rt, run, files)?;
+        keep(run, &mut self.keeper)?;
+        let disk = self.first_disk(run)?;
+        let status = self.run_over(rt, run, disk)?;
         self.leave_end(run.alloc, status)?;
         self.compare(run)
     }
 
-    // The files that the disk begins a run with.
-    fn first_files(&self, run: Run) -> Result<Vec<Vec<u8>>, Stop> {
+    // The disk that a run begins with.
+    fn first_disk(&self, run: Run) -> Result<MemDisk, Stop> {
         let mut files = files_of(run.alloc, &self.disk, run.last("lose").is_some())?;
         change_all(run, &mut files)?;
-        Ok(files)
+        Ok(disk_of(run.alloc, files, failing(run)?)?)
     }
 
-    // Runs the top call over a disk that begins with these files, and leaves what it left.
+    // Runs the top call over this disk, and leaves what it left.
     fn run_over<R: Threads + Wait + Sync>(
         &mut self,
         rt: &R,
         run: Run,
-        files: Vec<Vec<u8>>,
+        disk: MemDisk,
     ) -> Result<Status, Stop> {
         let input = input_of(run, &self.written)?;
-        keep(run, &mut self.keeper)?;
         let words = words(run)?;
-        let disk = disk_of(run.alloc, files, failing(run)?)?;
         Ok(self.run(rt, run, &words, &input, disk))
     }
 
@@ -118,16 +117,11 @@ impl Stage {
     fn compare(&mut self, run: Run) -> Result<(), Stop> {
         compare_end(run, &self.end)?;
         compare_lines(run.alloc, "written line", &run.texts("<")?, &self.written)?;
-        self.compare_ends(run)?;
-        let place = Place::Whole("blocks left");
-        compare_count(run.alloc, place, run.number("left"), self.left)
-    }
-
-    // Compares what the keeper and the disk were left with.
-    fn compare_ends(&mut self, run: Run) -> Result<(), Stop> {
         compare_kept(run, &self.keeper.inner.lines(run.alloc)?)?;
         compare_calls(run, &self.disk)?;
-        compare_files(run, &self.disk)
+        compare_files(run, &self.disk)?;
+        let place = Place::Whole("blocks left");
+        compare_count(run.alloc, place, run.number("left"), self.left)
     }
 }
 

@@ -49,7 +49,8 @@ fn tell_all(
     let mut differ = 0u64;
     for (at, line) in script.lines.iter().enumerate() {
         if line.mark == "=" {
-            if tell_case(rt, name, &script.named, &script.lines[at..])? {
+            let case = before(&script.lines[at + 1..], "=");
+            if tell_case(rt, name, &script.named, line.rest, case)? {
                 agree = agree.saturating_add(1);
             } else {
                 differ = differ.saturating_add(1);
@@ -60,19 +61,16 @@ fn tell_all(
     Ok(differ == 0)
 }
 
-// Runs the case that these lines begin with, tells where it differs, and says whether it agrees.
+// Runs the case of this name and these lines, tells where it differs, and says whether it agrees.
 fn tell_case(
     rt: &(impl Print + Alloc<A = Global> + Threads + Wait + Sync),
     name: &str,
     named: &[Named],
+    case: &str,
     lines: &[CaseLine],
 ) -> io::Result<bool> {
-    let Some((first, behind)) = lines.split_first() else {
-        return Ok(true);
-    };
-    match play(rt, rt.alloc(), named, before(behind, "="))? {
+    match play(rt, rt.alloc(), named, lines)? {
         Some(told) => {
-            let case = first.rest;
             println!(rt; "{name}: {case}, {told}")?;
             Ok(false)
         }

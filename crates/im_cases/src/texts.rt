@@ -62,7 +62,9 @@ impl<'a> Scope<'a> {
             return Ok(4);
         }
         if let Some(name) = braced_name(text) {
-            let text = self.find(name).ok_or(Wrong::Unnamed)?;
+            let Some(text) = self.find(name) else {
+                return Err(Wrong::Unnamed);
+            };
             out.extend_from_slice(text)?;
             return Ok(name.len().saturating_add(2));
         }
@@ -106,10 +108,10 @@ fn braced_name(text: &[u8]) -> Option<&[u8]> {
 pub fn line_at(text: &[u8], place: usize) -> (u64, usize) {
     let mut number = 1u64;
     let mut start = 0usize;
-    for (at, octet) in text.iter().take(place).enumerate() {
-        if *octet == b'\n' {
+    for at in 0..place.min(text.len()) {
+        if text[at] == b'\n' {
             number = number.saturating_add(1);
-            start = at.saturating_add(1);
+            start = at + 1;
         }
     }
     (number, start)

@@ -1,7 +1,7 @@
 //! What is wanted of a run: its end, and its changing calls.
 
 use crate::lines::Run;
-use crate::octets::{file_number, first_word, number, octets};
+use crate::octets::{at_blank, file_number, first_word, number, octets};
 use crate::shown::push_write;
 use crate::texts::Scope;
 use crate::wrong::Wrong;
@@ -17,7 +17,7 @@ pub fn run_end(run: Run) -> Result<Vec<u8>, Wrong> {
 
 /// The exit status that a line wants, and behind a blank the line on standard error, if one is wanted.
 pub fn end(scope: Scope, rest: &str) -> Result<Vec<u8>, Wrong> {
-    let (code, text) = rest.split_once(' ').unwrap_or((rest, ""));
+    let (code, text) = at_blank(rest);
     let Ok(code) = u8::try_from(number(code)?) else {
         return Err(Wrong::Number);
     };
@@ -52,8 +52,7 @@ pub fn push_call(alloc: Global, out: &mut String, rest: &str) -> Result<(), Wron
     match word {
         "write" => push_written(alloc, out, behind),
         "sync" | "fail" if behind.trim().is_empty() => {
-            out.push_str(word)?;
-            out.push_str("\n")?;
+            write!(out, "{word}\n")?;
             Ok(())
         }
         _ => Err(Wrong::Words),
@@ -65,11 +64,6 @@ fn push_written(alloc: Global, out: &mut String, rest: &str) -> Result<(), Wrong
     let (file, behind) = first_word(rest);
     let (at, behind) = first_word(behind);
     let octets = octets(alloc, behind)?;
-    push_octets_written(out, file, at, &octets)
-}
-
-// Adds the line of a write of these octets.
-fn push_octets_written(out: &mut String, file: &str, at: &str, octets: &[u8]) -> Result<(), Wrong> {
-    push_write(out, file_number(file)?, number(at)?, octets)?;
+    push_write(out, file_number(file)?, number(at)?, &octets)?;
     Ok(())
 }
