@@ -25,28 +25,29 @@ const USAGE: &str = "usage: im_bench THREADS COMMITS";
 
 fn main(rt: HostRuntime) -> ExitCode {
     let Some((threads, each)) = numbers(&rt) else {
-        eprintln!(rt; "{USAGE}").ok();
-        return ExitCode::from(2);
+        return fail(&rt, USAGE, 2);
     };
     let disk = Counted::new(LockedFolder::new(&rt, rt.alloc(), STORED, LOCK));
-    let (made, disk) = match run(&rt, rt.alloc(), &Sha, disk, threads, each) {
-        Ok(ended) => ended,
-        Err(NotRun::NotOpened) => {
-            eprintln!(rt; "not opened").ok();
-            return ExitCode::from(3);
+    match run(&rt, rt.alloc(), &Sha, disk, threads, each) {
+        Ok((made, disk)) => {
+            let ended = tell(&rt, made, disk.gates(), disk.flushes());
+            drop(disk);
+            ended
         }
-        Err(NotRun::Memory) => {
-            eprintln!(rt; "out of memory").ok();
-            return ExitCode::from(4);
-        }
-    };
-    let told = println!(rt;
-        "commits {made} batches {} flushes {}",
-        disk.gates(),
-        disk.flushes()
-    );
-    drop(disk);
-    match told {
+        Err(NotRun::NotOpened) => fail(&rt, "not opened", 3),
+        Err(NotRun::Memory) => fail(&rt, "out of memory", 4),
+    }
+}
+
+// Says why nothing was measured, and gives the exit status.
+fn fail(rt: &HostRuntime, why: &str, status: u8) -> ExitCode {
+    eprintln!(rt; "{why}").ok();
+    ExitCode::from(status)
+}
+
+// Prints what was measured, and gives the exit status.
+fn tell(rt: &HostRuntime, made: u64, gates: u64, flushes: u64) -> ExitCode {
+    match println!(rt; "commits {made} batches {gates} flushes {flushes}") {
         Ok(()) => ExitCode::from(0),
         Err(_) => ExitCode::from(5),
     }
