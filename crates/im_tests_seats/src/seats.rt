@@ -268,11 +268,11 @@ fn run_over<D: Disk + Send, N: TipName + Send + Sync, R: Threads + Wait + Sync>(
     alloc: Global,
     shared: &Shared<D, N>,
     mut pass: Pass,
-    first: Prepared,
-    second: Prepared,
 ) -> Result<[u64; 5], Fail>
     requires { IsPassOf N.table pass × (2 < pass.view.weight) }
 {
+    let first = asked(alloc, b"a")?;
+    let second = asked(alloc, b"b")?;
     let one = shared.tip.split(&mut pass, no_roles(), 1);
     let two = shared.tip.split(&mut pass, no_roles(), 1);
     let ((one, wrote), (two, followed)) = join(
@@ -308,10 +308,10 @@ fn run_named<D: Disk + Send, N: TipName + Send + Sync, R: Threads + Wait + Sync>
     requires journal { (journal.durable ≡ 0) × (journal.failures ≡ 0) }
     requires serves { ServesItems D.told D.faults N.digest N.found N.synced N.faults [] journal }
 {
-    let first = asked(alloc, b"a")?;
-    let second = asked(alloc, b"b")?;
     let (shared, pass) = shared_over::<D, N>(alloc, tip, pass, journal);
-    run_over(rt, alloc, &shared, pass, first, second)
+    let words = run_over(rt, alloc, &shared, pass);
+    drop(shared);
+    words
 }
 
 // The journal of a disk of empty files.
@@ -323,6 +323,8 @@ fn journal_of<D: Disk>(alloc: Global, disk: D) -> Result<Journal<D>, Fail>
         Ok(opened) => {
             let Recovered { journal, found } = opened;
             if !found.records.is_empty() {
+                drop(found);
+                drop(journal);
                 return Err(Fail::from("the disk wasn't empty"));
             }
             drop(found);
@@ -341,13 +343,19 @@ fn run<D: Disk + Send, R: Threads + Wait + Sync>(
     alloc: Global,
     disk: D,
 ) -> Result<[u64; 5], Fail> {
-    let journal = journal_of(alloc, disk)?;
     let opening = Opening {
         found: Vec::new(alloc),
         logs: 1,
     };
     let (tip, pass) = Tip::<Free>::open(alloc, &opening)?;
-    run_named::<D, Brand, R>(rt, alloc, tip, pass, journal)
+    match journal_of(alloc, disk) {
+        Ok(journal) => run_named::<D, Brand, R>(rt, alloc, tip, pass, journal),
+        Err(error) => {
+            drop(tip);
+            drop(pass);
+            Err(error)
+        }
+    }
 }
 
 #[test]
