@@ -119,6 +119,7 @@ pub(crate) fn answer_set<H: Hash32, D: Disk, C: Clock, N: TipName, R: Wait>(
     match made {
         Ok(prepared) => commit(rt, alloc, store, pass, prepared),
         Err(why) => {
+            // What was drafted is let go before the reply is made.
             drop(made);
             let number = store.tip(pass);
             let reply = refused_text(alloc, why)?;

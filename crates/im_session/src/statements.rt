@@ -184,6 +184,7 @@ pub(crate) fn answer_sql<H: Hash32, D: Disk, C: Clock, N: TipName, R: Wait>(
             answer
         }
         Err(error) => {
+            // What was read is let go before the reply is made.
             drop(parsed);
             unread(alloc, error, number)
         }
