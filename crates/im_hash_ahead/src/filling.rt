@@ -16,7 +16,7 @@ const MOST_LEAVES: usize = 32_768;
 
 /// Before the first window: what is hashed, by several threads, of the tree, which the leaves of the first plan join.
 ///
-/// Its only error is want of memory, behind which `rows` are as `fill` leaves them.
+/// Its only error is want of memory, behind which `rows` are as `fill` may leave them.
 pub fn begin<R: Threads + Sync, H: Hash32 + Sync>(
     rt: &R,
     alloc: Global,
@@ -33,8 +33,8 @@ pub fn begin<R: Threads + Sync, H: Hash32 + Sync>(
 }
 
 /// A window with what is hashed, by several threads, of the records of a plan, whose leaves joined the tree before, and of the
-/// tree, which the leaves of the plan behind it join meanwhile. A spent window is let go first. `log` is the transaction log,
-/// whole, in which the records lie.
+/// tree, which the leaves of the plan behind it join meanwhile. `rows` have the leaves of the first plan, and behind the call those
+/// of the second. A spent window is let go first. `log` is the transaction log, whole, in which the records lie.
 ///
 /// Its only error is want of memory. Behind it, and where a chunk of leaves or nodes finds no memory, `rows` may have some of the
 /// leaves and not the others, or lack nodes over them: then they aren't those of the leaves, and what is hashed with them is of less use.

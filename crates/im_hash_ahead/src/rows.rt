@@ -21,7 +21,8 @@ impl Row {
         self.digests.get(index as usize).copied()
     }
 
-    // What later pairs are made of: the last digest, where its number is even, and so the first of a pair; else none.
+    // What later pairs are made of: the last digest, where its number is even, and so the first of a pair; else none. Its only error
+    // is want of memory.
     fn rest(&self, alloc: Global) -> Result<Row, AllocError> {
         let count = self.digests.len();
         let kept = count % 2;
@@ -63,7 +64,7 @@ impl Rows {
         self.rows.get(level)?.at(number)
     }
 
-    /// What the next leaves' subtrees and roots are made of: one digest of each level at most.
+    /// What the next leaves' subtrees and roots are made of: one digest of each level at most. Its only error is want of memory.
     pub(crate) fn rest(&self, alloc: Global) -> Result<Rows, AllocError> {
         let mut rows = Vec::with_capacity(alloc, self.rows.len())?;
         for row in &self.rows {

@@ -20,8 +20,8 @@ use std::alloc::Global;
 use std::mem;
 use std::thread::Threads;
 
-/// What is hashed ahead: the window that is read, the one that was read before, the rows of the tree over the records of the window
-/// that is filled, and the plans of that window and of the one behind it.
+/// What is hashed ahead: the window that is read, the one that was read before, the rows of the tree as the window that is filled finds
+/// it, and the plans of that window and of the one behind it.
 #[derive(Drop)]
 pub(crate) struct Hashing {
     pub window: Window,
@@ -49,7 +49,7 @@ impl Hashing {
         }
     }
 
-    // Hashes the tree over the records of the first plan, and plans what is behind it, where so much was read.
+    // Hashes the tree, which the leaves of the first plan join, and plans what is behind that plan, where nothing was read yet.
     fn begin<R: Threads + Sync, D: Disk, H: Hash32 + Sync>(
         &mut self,
         rt: &R,
@@ -85,7 +85,8 @@ impl Hashing {
     }
 }
 
-/// What is hashed before the first window is read.
+/// What is there before the first batch is read: the tree as the first window finds it, and the plans of two windows, for which the
+/// values of the second are read.
 pub(crate) fn first_hashing<R: Threads + Sync, D: Disk, H: Hash32 + Sync>(
     rt: &R,
     alloc: Global,

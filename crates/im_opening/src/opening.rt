@@ -108,14 +108,14 @@ pub fn open<D: Disk, H: Hash32>(
 }
 
 /// Opens a disk, as `open` does, where several threads hash ahead of the reading, one for 128 records, or for 1,024 digests of
-/// the tree, and at most eight for each processor. They hash a window of records at once, and meanwhile the tree as the window
-/// behind it finds it: at most 4,096 records, and fewer where these fill 2 MiB of the transaction log. The disk gets the changing
+/// the tree, and at most eight for each processor. They hash a window of records at once, at most 4,096, and fewer where these
+/// fill 2 MiB of the transaction log; and meanwhile the tree, as the window behind that one finds it. The disk gets the changing
 /// calls that `open` makes. A value of at most 160 octets is asked for twice, but for those of the first window, and so may be
 /// values behind the first damage or behind the last batch that counts.
 ///
 /// It takes memory for what is hashed of two windows, about 4 KiB for a record of one entry; for those values of three windows
-/// that have at most 160 octets; and 448 octets for each Alh that is linked by three windows, of 98,304 at most, and 32 for each
-/// beyond.
+/// that have at most 160 octets; and about 550 octets for each Alh that is linked by three windows, of 98,304 at most, and 32 for
+/// each beyond.
 ///
 /// One thread hashes the empty values, those above 160 octets and those of the first window, the first batch, and what a batch
 /// has behind the window that is read. Where the files are damaged, or more than 32,768 Alh are linked at once, some strings

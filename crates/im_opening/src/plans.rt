@@ -40,7 +40,8 @@ fn first_plan_behind<H: Hash32>(
 }
 
 /// What is needed to hash the records behind those of two plans, where so much was read; where that has come by the plans already,
-/// those that were read last are behind them. Where memory is short it is a plan of nothing, and then nothing more is hashed ahead.
+/// those that were read last are behind them. Where memory is short it is a plan of nothing, and then nothing is hashed ahead behind
+/// these two.
 pub(crate) fn plan_behind<D: Disk>(
     alloc: Global,
     disk: &mut D,

@@ -231,7 +231,7 @@ fn read_windows<R: Threads + Sync, D: Disk, H: Hash32 + Sync>(
     behind
 }
 
-// The same, from the window on that was filled last.
+// The same, behind what was hashed so far.
 fn read_each<R: Threads + Sync, D: Disk, H: Hash32 + Sync>(
     rt: &R,
     alloc: Global,
@@ -289,7 +289,7 @@ fn read_each<R: Threads + Sync, D: Disk, H: Hash32 + Sync>(
 }
 
 // Reads batches up to the end of a window, and plans behind two plans, as `read_and_plan` does, while the window that was read
-// before is let go, and the first plan's window is filled.
+// before is let go, the first plan's window is filled, and the leaves of the second join the tree.
 fn read_beside<R: Threads + Sync, D: Disk, H: Hash32 + Sync>(
     rt: &R,
     alloc: Global,
