@@ -1,27 +1,23 @@
 ghost use Rattle.std.specs.Prelude.{◌≡◌, ◌≤◌, ◌<◌, length, IfOk, All};
 ghost use Rattle.im_hash_ahead.specs.Facts.{AreFacts};
 
-use crate::facts::{Fact, Facts};
-use crate::leads::Lead;
-use crate::notes::notes_of;
+use crate::facts::Fact;
 use crate::room::room_for;
-use crate::rows::Rows;
-use crate::values::Values;
 use im_digest::{D32, Hash32};
 use std::alloc::{AllocError, Global};
 use std::thread::{Threads, available_parallelism, map_chunks};
 
 /// The fewest records that are worth a chunk of their own.
-pub(crate) const LEAST_RECORDS: usize = 128;
+pub(crate) const LEAST_RECORDS: usize = 16;
 
 // And the fewest digests, each of which is hashed once.
-const LEAST_DIGESTS: usize = 1024;
+const LEAST_DIGESTS: usize = 4096;
 
-// How many chunks there are for each processor, which the thread that reads shares: so none waits long for the last.
-const SHARES: usize = 4;
+// How many chunks there are for each processor: so none waits long for the last.
+const SHARES: usize = 16;
 
-// How many processors there are.
-fn hands<R: Threads>(rt: &R) -> usize {
+/// How many processors there are.
+pub(crate) fn hands<R: Threads>(rt: &R) -> usize {
     match available_parallelism(rt) {
         Ok(hands) => hands.get(),
         Err(_) => 1,
@@ -70,30 +66,6 @@ pub(crate) fn pair_facts<R: Threads + Sync, H: Hash32 + Sync>(
 {
     let size = chunk_of(rt, row.len(), LEAST_DIGESTS);
     map_chunks(rt, alloc, row, size, &|_, part| pairs_in(alloc, hash, part))
-}
-
-/// What is hashed of records, in chunks of this size by several threads, by `notes_of` of each chunk. Its only error is want
-/// of memory.
-pub(crate) fn near_facts<R: Threads + Sync, H: Hash32 + Sync>(
-    rt: &R,
-    alloc: Global,
-    hash: &H,
-    log: &[u8],
-    values: &Values,
-    rows: &Rows,
-    leads: &[Lead],
-    size: usize,
-) -> Result<Vec<Facts>, AllocError>
-    requires { 0 < size }
-    ensures { IfOk result (λ near. All (λ facts. AreFacts (H.digest hash.now) facts) near.items) }
-{
-    map_chunks(
-        rt,
-        alloc,
-        leads,
-        size,
-        &|_, part| notes_of(alloc, hash, log, values, rows, part),
-    )
 }
 
 // The leaf of each digest of a chunk, as far as there is memory.

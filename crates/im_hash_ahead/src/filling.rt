@@ -1,8 +1,9 @@
-ghost use Rattle.std.specs.Prelude.{◌<◌, All, IfOk};
+ghost use Rattle.std.specs.Prelude.{All, IfOk};
 ghost use Rattle.im_hash_ahead.specs.Facts.{AreFacts, IsKnown};
 
-use crate::chunks::{LEAST_RECORDS, chunk_of, near_facts};
+use crate::chunks::{LEAST_RECORDS, chunk_of};
 use crate::facts::Facts;
+use crate::near::near_facts;
 use crate::plans::{Plan, Plans};
 use crate::rows::Rows;
 use crate::windows::Window;
@@ -80,16 +81,12 @@ fn near_and_next<R: Threads + Sync, H: Hash32 + Sync>(
     rows: &Rows,
     ahead: &mut Rows,
 ) -> (Result<Vec<Facts>, AllocError>, Result<Facts, AllocError>)
-    requires { 0 < size }
     ensures near { IfOk result.0 (λ near. All (λ facts. AreFacts (H.digest hash.now) facts) near.items) }
     ensures next { IfOk result.1 (λ next. AreFacts (H.digest hash.now) next) }
 {
-    let leads = plans.filled.leads.as_slice();
-    let values = &plans.filled.values;
+    let plan = &plans.filled;
     let leaves = plans.behind.leaves.as_slice();
-    let mut notes = ||
-        requires { 0 < size }
-    { near_facts(rt, alloc, hash, log, values, rows, leads, size) };
+    let mut notes = || near_facts(rt, alloc, hash, log, plan, rows, size);
     let mut raises = || raised(rt, alloc, hash, leaves, ahead);
     join_mut(rt, &mut notes, &mut raises)
 }

@@ -8,6 +8,7 @@ pub mod facts;
 pub mod filling;
 pub mod known;
 pub mod leads;
+mod near;
 mod notes;
 pub mod plans;
 mod room;
