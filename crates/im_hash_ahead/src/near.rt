@@ -21,8 +21,12 @@ struct NearPart {
     facts: Facts,
 }
 
-/// What is hashed of the records of a plan, in chunks of this size, by `notes_of` of each chunk: by one thread for each processor,
-/// which takes the next chunk as soon as it is done with one. So all are done at about the same time, however much of its time a
+// How many threads there are for each processor: the system leaves a processor idle for longer than a window takes where others
+// have one thread each, or two.
+const THREADS: usize = 2;
+
+/// What is hashed of the records of a plan, in chunks of this size, by `notes_of` of each chunk: by some threads for each processor,
+/// which take the next chunk as soon as they are done with one. So all are done at about the same time, however much of its time a
 /// processor has for them. Its only error is want of memory; of a chunk for which a thread finds none, nothing is hashed.
 pub(crate) fn near_facts<R: Threads + Sync, H: Hash32 + Sync>(
     rt: &R,
@@ -40,7 +44,7 @@ pub(crate) fn near_facts<R: Threads + Sync, H: Hash32 + Sync>(
     match map_indices(
         rt,
         alloc,
-        hands(rt),
+        hands(rt).saturating_mul(THREADS),
         &|_| parts_in_turn(alloc, hash, log, plan, rows, size, &next),
     ) {
         Ok(lists) => {

@@ -6,6 +6,7 @@ pub mod FrontLemmas
 pub mod HalvingLemmas
 pub mod HoldLemmas
 pub mod IndexLemmas
+pub mod KeyFrontLemmas
 pub mod LastLemmas
 pub mod LoopLemmas
 pub mod MapLemmas

@@ -16,12 +16,12 @@ use Rattle.im_index.specs.Marks.{is_upto, numbered, upto_by}
 use Rattle.im_index.proofs.FoundLemmas.{IsPlace}
 use Rattle.im_index.proofs.OrderLemmas.{no-lower}
 
-nat-equal : (a : ℕ) → nat_cmp a a ≡ Equal
+pub nat-equal : (a : ℕ) → nat_cmp a a ≡ Equal
 nat-equal a =
     ap (λ t. cond t Less (cond (nat_eq a a) Equal Greater)) (le-ltb a a (omega arith))
     ∙ ap (λ t. cond t Equal Greater) (eq-eqb a a refl)
 
-nat-less : (a b : ℕ) → a < b → nat_cmp a b ≡ Less
+pub nat-less : (a b : ℕ) → a < b → nat_cmp a b ≡ Less
 nat-less a b less = ap (λ t. cond t Less (cond (nat_eq a b) Equal Greater)) (lt-ltb a b less)
 
 -- a key that begins with a prefix isn't below it

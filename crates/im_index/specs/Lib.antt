@@ -1,3 +1,4 @@
+pub mod Fronts
 pub mod Indexed
 pub mod Keys
 pub mod Listed

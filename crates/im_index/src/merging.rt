@@ -50,7 +50,7 @@ pub(crate) fn versions_from(
 fn by_key(a: &Shared, b: &Shared) -> Ordering
     ensures { result ≡ slice_cmp nat_cmp a.now.key b.now.key }
 {
-    a.version().key.as_slice().cmp(b.version().key.as_slice())
+    a.cmp_key(b)
 }
 
 // A run of these versions. Where they are two runs one behind the other, the sort finds both and merges them.

@@ -280,9 +280,7 @@ fn read_each<R: Threads + Sync, D: Disk, H: Hash32 + Sync>(
             }
             Ok(None) => match filled {
                 Ok(filled) => hashing.go_on(filled, &mut reading.next),
-                Err(error) => {
-                    return Err(OpenError::from(error));
-                }
+                Err(error) => return Err(OpenError::from(error)),
             },
         }
     }

@@ -1,4 +1,4 @@
-use Rattle.std.proofs.Common.{List, [], All, sym, subst}
+use Rattle.std.proofs.Common.{List, All, sym, subst}
 use Rattle.std.proofs.lemmas.List.Elements.{All-nil, All-push}
 use Rattle.im_hash_ahead.specs.Facts.{AreFacts, IsFact}
 use Rattle.im_hash_ahead.specs.declared.facts.Fact.{Fact}

@@ -1,4 +1,4 @@
-use Rattle.std.proofs.Common.{arith, rules, sym, true, ◌∙◌}
+use Rattle.std.proofs.Common.{arith, rules, sym, ◌∙◌}
 use Rattle.std.proofs.lemmas.List.Sorted.{IsPartitionPoint-from_clause}
 use Rattle.im_versions.specs.declared.versions.Version.{Version}
 use Rattle.im_index.proofs.BlockLemmas.{block-parted, block-whole}
