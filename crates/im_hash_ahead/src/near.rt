@@ -21,8 +21,8 @@ struct NearPart {
     facts: Facts,
 }
 
-// How many threads there are for each processor: the system leaves a processor idle for longer than a window takes where others
-// have one thread each, or two.
+// How many threads there are for each processor. With one for each, a processor is idle where two threads share another: the
+// system may move neither of them for as long as a window takes.
 const THREADS: usize = 2;
 
 /// What is hashed of the records of a plan, in chunks of this size, by `notes_of` of each chunk: by some threads for each processor,
