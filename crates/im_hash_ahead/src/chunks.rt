@@ -10,10 +10,10 @@ use std::thread::{Threads, available_parallelism, map_chunks};
 /// The fewest records that are worth a chunk of their own.
 pub(crate) const LEAST_RECORDS: usize = 16;
 
-// And the fewest digests, each of which is hashed once.
+// And the fewest digests, each of which is hashed once: the leaves of a window are raised by one thread, while others hash its records.
 const LEAST_DIGESTS: usize = 4096;
 
-// How many chunks there are for each processor: so none waits long for the last.
+// How many chunks there are for each processor at most: enough that none waits long for the last.
 const SHARES: usize = 16;
 
 /// How many processors there are.
@@ -24,13 +24,16 @@ pub(crate) fn hands<R: Threads>(rt: &R) -> usize {
     }
 }
 
-/// The size of the chunks that `count` items are cut into, an even number, so that all processors have some: each chunk but the
-/// last has at least `least`, and all items are in one where they are fewer than twice that.
+/// The size of the chunks that `count` items are cut into, an even number, so that as many processors as may be have some: each
+/// chunk but the last has at least `least`, and all items are in one where they are fewer than twice that.
 pub(crate) fn chunk_of<R: Threads>(rt: &R, count: usize, least: usize) -> usize
     ensures { 0 < result }
 {
-    let most = hands(rt).saturating_mul(SHARES);
-    let parts = most.min(count / least.max(1)).max(1);
+    let most = count / least.max(1);
+    let parts = match most {
+        0 | 1 => 1,
+        _ => most.min(hands(rt).saturating_mul(SHARES)).max(1),
+    };
     (count / parts / 2).saturating_mul(2).saturating_add(2)
 }
 

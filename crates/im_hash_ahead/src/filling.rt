@@ -15,7 +15,7 @@ use std::thread::{Threads, join_mut};
 // The most leaves that join the tree at once: what is hashed of them is held, two facts a leaf.
 const MOST_LEAVES: usize = 32_768;
 
-/// Before the first window: what is hashed, by several threads, of the tree, which the leaves of the first plan join.
+/// Before the first window: what is hashed of the tree, which the leaves of the first plan join.
 ///
 /// Its only error is want of memory, behind which `rows` are as `fill` may leave them.
 pub fn begin<R: Threads + Sync, H: Hash32 + Sync>(
@@ -70,7 +70,7 @@ pub fn fill<R: Threads + Sync, H: Hash32 + Sync>(
 }
 
 // What is hashed of the records of the plan that is filled, in chunks of this size, over these rows, and of the tree as the leaves
-// behind them join it, both at once.
+// behind them join it, both at once. This thread starts those that hash records before it has work of its own.
 fn near_and_next<R: Threads + Sync, H: Hash32 + Sync>(
     rt: &R,
     alloc: Global,
@@ -88,7 +88,8 @@ fn near_and_next<R: Threads + Sync, H: Hash32 + Sync>(
     let leaves = plans.behind.leaves.as_slice();
     let mut notes = || near_facts(rt, alloc, hash, log, plan, rows, size);
     let mut raises = || raised(rt, alloc, hash, leaves, ahead);
-    join_mut(rt, &mut notes, &mut raises)
+    let (next, near) = join_mut(rt, &mut raises, &mut notes);
+    (near, next)
 }
 
 // Raises a tree by these leaves, and gives what is hashed of it. Where they are more than many, that is of the last of them

@@ -14,6 +14,10 @@ use std::mem;
 use std::sync::atomic::{AtomicUsize, Ordering};
 use std::thread::{Threads, map_indices};
 
+// How many threads there are for each processor. With one for each, a processor is idle where two threads share another: the
+// system may move neither of them for as long as a window takes.
+const THREADS: usize = 2;
+
 // What is hashed of the records of a chunk, and the number of the chunk, from 0.
 #[derive(Drop)]
 struct NearPart {
@@ -21,13 +25,10 @@ struct NearPart {
     facts: Facts,
 }
 
-// How many threads there are for each processor. With one for each, a processor is idle where two threads share another: the
-// system may move neither of them for as long as a window takes.
-const THREADS: usize = 2;
-
-/// What is hashed of the records of a plan, in chunks of this size, by `notes_of` of each chunk: by some threads for each processor,
-/// which take the next chunk as soon as they are done with one. So all are done at about the same time, however much of its time a
-/// processor has for them. Its only error is want of memory; of a chunk for which a thread finds none, nothing is hashed.
+/// What is hashed of the records of a plan, in chunks of this size, by `notes_of` of each chunk: by two threads for each processor, and no
+/// more than there are chunks, of which each takes the next chunk as soon as it is done with one. So all are done at about the same
+/// time, however much of its time a processor has for them. Its only error is want of memory; where a thread finds none, less is
+/// hashed of its chunk, or nothing, and it may take no more.
 pub(crate) fn near_facts<R: Threads + Sync, H: Hash32 + Sync>(
     rt: &R,
     alloc: Global,
@@ -39,12 +40,14 @@ pub(crate) fn near_facts<R: Threads + Sync, H: Hash32 + Sync>(
 ) -> Result<Vec<Facts>, AllocError>
     ensures { IfOk result (λ near. All (λ facts. AreFacts (H.digest hash.now) facts) near.items) }
 {
-    let mut near = no_facts(alloc, plan.leads.len().div_ceil(size.max(1)))?;
+    let size = size.max(1);
+    let mut near = no_facts(alloc, plan.leads.len().div_ceil(size))?;
+    let threads = hands(rt).saturating_mul(THREADS).min(near.len());
     let next = AtomicUsize::new(0);
     match map_indices(
         rt,
         alloc,
-        hands(rt).saturating_mul(THREADS),
+        threads,
         &|_| parts_in_turn(alloc, hash, log, plan, rows, size, &next),
     ) {
         Ok(lists) => {
@@ -69,7 +72,7 @@ fn no_facts(alloc: Global, count: usize) -> Result<Vec<Facts>, AllocError>
     Ok(near)
 }
 
-// What one thread hashes: of the chunk that has the next number, as long as there is one, and memory.
+// What one thread hashes: of the chunk that has the next number, as long as there is one, and memory. No chunk is without a record.
 fn parts_in_turn<H: Hash32>(
     alloc: Global,
     hash: &H,
@@ -84,7 +87,7 @@ fn parts_in_turn<H: Hash32>(
     let leads = plan.leads.as_slice();
     let mut parts = Vec::new(alloc);
     for _i in 0..leads.len() {
-        let number = next.fetch_add(1, Ordering::Relaxed);
+        let number = next.fetch_add(1, Ordering::SeqCst);
         let Some(chunk) = chunk_at(leads, size, number) else {
             break;
         };

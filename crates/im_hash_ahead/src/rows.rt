@@ -73,7 +73,7 @@ impl Rows {
         Ok(Rows { rows })
     }
 
-    /// Adds leaves behind all others, and hashes each, and a node for each pair, once, in chunks by several threads. The
+    /// Adds leaves behind all others, and hashes each, and a node for each pair, once, by several threads where they are many. The
     /// facts join `far`. Its only error is want of memory.
     pub(crate) fn raise<R: Threads + Sync, H: Hash32 + Sync>(
         &mut self,

@@ -7,7 +7,7 @@ leading zero octets = 0
 leading (suc k) [] = 0
 leading (suc k) (octet ∷ octets) = octet * 256 ^ k + leading k octets
 
--- the number is that of the first eight octets of a key
+-- the number is that of the first eight octets of a key, and the key is of octets
 pub record IsFront (front : ℕ) (key : List ℕ) : Type 0 where
   pub front_is : front ≡ leading 8 key
   pub octets : (i : ℕ) → slice_index_or key i 0 < 256

@@ -1,8 +1,6 @@
 //! Runs that take the versions of further transactions, and are merged while the newest are short.
 
 ghost use Rattle.std.specs.Prelude.{◌≡◌, ◌≤◌, ◌<◌, ◌+◌, List, [], ◌∷◌, ◌++◌, length, IfOk, OnOk};
-ghost use Rattle.std.specs.Cmp.Lexicographic.{slice_cmp};
-ghost use Rattle.std.specs.Ordering.{nat_cmp};
 ghost use Rattle.im_versions.specs.Versions.{versions_from, versions_in};
 ghost use Rattle.im_versions.specs.declared.versions.Version.{Version as TheVersion};
 ghost use Rattle.im_index.specs.Runs.{IsRunOf, HoldInOrder, AreHalving, lengths, settled, taken_in};
@@ -14,7 +12,6 @@ use im_model::entries::Entry;
 use im_model::transactions::Transaction;
 use im_versions::entries::{is_shown, version_of};
 use std::alloc::{AllocError, Global};
-use std::cmp::Ordering;
 
 // The versions that the entries of transaction `k` are, in their order.
 fn versions_in(alloc: Global, k: u64, entries: &[Entry]) -> Result<Vec<Shared>, AllocError>
@@ -46,18 +43,11 @@ pub(crate) fn versions_from(
     Ok(versions)
 }
 
-// The order of two versions by their keys.
-fn by_key(a: &Shared, b: &Shared) -> Ordering
-    ensures { result ≡ slice_cmp nat_cmp a.now.key b.now.key }
-{
-    a.cmp_key(b)
-}
-
 // A run of these versions. Where they are two runs one behind the other, the sort finds both and merges them.
 fn sorted(alloc: Global, mut versions: Vec<Shared>) -> Result<Run, AllocError>
     ensures { IfOk result (λ run. IsRunOf run versions.items) }
 {
-    versions.sort_by(by_key)?;
+    versions.sort_by(Shared::cmp_key)?;
     hint_all(&mut versions);
     Run::of(alloc, versions)
 }

@@ -15,11 +15,11 @@ use std::sync::Arc;
 //
 // # Invariants
 //
-// The front is that of the version's key.
+// The front is that of the version's key, which is of octets.
 #[derive(Drop)]
 pub(crate) struct Shared {
     version: Arc<Version>,
-    // The first eight octets of the key, as one number: by it most keys are told apart without a look at memory elsewhere.
+    // The first eight octets of the key, as one number: keys that differ in them are told apart without a look at memory elsewhere.
     front: u64,
     count: usize,
 }

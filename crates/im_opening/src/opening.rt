@@ -107,11 +107,11 @@ pub fn open<D: Disk, H: Hash32>(
     resumed(alloc, ahead, answer)
 }
 
-/// Opens a disk, as `open` does, where several threads hash ahead of the reading, one for 128 records, or for 1,024 digests of
-/// the tree, and at most eight for each processor. They hash a window of records at once, at most 4,096, and fewer where these
-/// fill 2 MiB of the transaction log; and meanwhile the tree, as the window behind that one finds it. The disk gets the changing
-/// calls that `open` makes. A value of at most 160 octets is asked for twice, but for those of the first window, and so may be
-/// values behind the first damage or behind the last batch that counts.
+/// Opens a disk, as `open` does, where several threads hash ahead of the reading: two for each processor, which take chunks of 16
+/// records or more by turns, and one for the tree, or up to eight where more than 8,191 Alh are linked at once. They hash a window of
+/// records at once, at most 4,096, and fewer where these fill 2 MiB of the transaction log; and meanwhile the tree, as the window
+/// behind that one finds it. The disk gets the changing calls that `open` makes. A value of at most 160 octets is asked for twice, but
+/// for those of the first window, and so may be values behind the first damage or behind the last batch that counts.
 ///
 /// It takes memory for what is hashed of two windows, about 4 KiB for a record of one entry; for those values of three windows
 /// that have at most 160 octets; and about 550 octets for each Alh that is linked by three windows, of 98,304 at most, and 32 for
