@@ -2,6 +2,8 @@
 #![tactic(auto)]
 
 #[cfg(test)]
+mod openings;
+#[cfg(test)]
 mod stores;
 #[cfg(test)]
 mod threads;
