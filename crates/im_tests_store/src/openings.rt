@@ -116,7 +116,7 @@ fn run_hashed<R: Threads + Wait + Sync>(rt: &R, alloc: Global) -> Result<u64, Fa
 
 #[test]
 fn opening_hashes_each_string_about_once(rt: HostRuntime) -> Result<(), Fail> {
-    let most = strings_of(TRANSACTIONS) / 20 * 21;
+    let most = strings_of(TRANSACTIONS).saturating_mul(21) / 20;
     let calls = run_hashed(&rt, rt.alloc())?;
     assert!(rt; calls <= most, "{calls} strings, at most {most}");
     Ok(())
