@@ -10,11 +10,12 @@ use std::thread::{Threads, available_parallelism, map_chunks};
 /// The fewest records that are worth a chunk of their own.
 pub(crate) const LEAST_RECORDS: usize = 16;
 
-// And the fewest digests, each of which is hashed once: the leaves of a window are raised by one thread, while others hash its records.
-const LEAST_DIGESTS: usize = 4096;
+// And the fewest digests, each of which is hashed once: the leaves of a window, 16,384 at most where no more are linked than it has
+// records, are raised by one thread, while others hash the records of the window before.
+const LEAST_DIGESTS: usize = 16_384;
 
 // How many chunks there are for each processor at most: enough that none waits long for the last.
-const SHARES: usize = 16;
+const SHARES: usize = 64;
 
 /// How many processors there are.
 pub(crate) fn hands<R: Threads>(rt: &R) -> usize {

@@ -4,11 +4,17 @@ use im_digest::{D32, Hash32};
 use im_model::limits::{MOST_ENTRIES, MOST_KEY_OCTETS};
 use std::alloc::{AllocError, Global};
 
-// The most records that are looked ahead at.
-const MOST_LEADS: usize = 4096;
+// The most records that are looked ahead at in a short log: its windows should take little memory.
+const FEW_LEADS: usize = 4096;
 
-// The most octets of the transaction log that are looked ahead at, but for the last record.
-const MOST_OCTETS: usize = 2_097_152;
+// And in a long one: the fewer windows it is cut into, the less often all threads wait for the last.
+const MOST_LEADS: usize = 16_384;
+
+// Between the two they are at most one for each so many octets of the log.
+const LOG_OCTETS: usize = 8192;
+
+// For each of the most records so many octets of the log are looked ahead at, at most, but for the last record.
+const LEAD_OCTETS: usize = 512;
 
 /// What a record says of itself, unchecked. Nothing rests on it: what is hashed by it is a digest of some string in any case.
 #[derive(Clone, Copy)]
@@ -72,17 +78,24 @@ impl Start {
     }
 }
 
-/// Looks at the records from a start on, as far as they can be told apart: up to 4,096 of them, or to 2 MiB. It hashes nothing.
-/// Its only error is want of memory.
+// The most records that are looked ahead at in a log of so many octets.
+fn most_leads(octets: usize) -> usize {
+    (octets / LOG_OCTETS).max(FEW_LEADS).min(MOST_LEADS)
+}
+
+/// Looks at the records from a start on, as far as they can be told apart: up to 4,096 of them, or up to one for each 8 KiB of the
+/// log where these are more, and 16,384 at most; and, but for the last record, no more than lie in 512 octets for each of this highest
+/// number, 2 to 8 MiB. It hashes nothing. Its only error is want of memory.
 pub fn survey(alloc: Global, log: &[u8], start: &Start) -> Result<Vec<Lead>, AllocError> {
-    let mut leads = Vec::with_capacity(alloc, MOST_LEADS)?;
+    let most = most_leads(log.len());
+    let mut leads = Vec::with_capacity(alloc, most)?;
     let mut id = start.count;
     let mut at = start.at;
     let mut values = 0usize;
     let mut before = start.before;
-    for _i in 0..MOST_LEADS {
+    for _i in 0..most {
         id = id.saturating_add(1);
-        if at.saturating_sub(start.at) > MOST_OCTETS {
+        if at.saturating_sub(start.at) > most.saturating_mul(LEAD_OCTETS) {
             break;
         }
         let Some(lead) = lead_at(log, id, at, values, before) else {

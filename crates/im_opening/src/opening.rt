@@ -107,19 +107,20 @@ pub fn open<D: Disk, H: Hash32>(
     resumed(alloc, ahead, answer)
 }
 
-/// Opens a disk, as `open` does, where several threads hash ahead of the reading: two for each processor, which take chunks of 16
-/// records or more by turns, and one for the tree, or up to eight where more than 8,191 Alh are linked at once. They hash a window of
-/// records at once, at most 4,096, and fewer where these fill 2 MiB of the transaction log; and meanwhile the tree, as the window
-/// behind that one finds it. The disk gets the changing calls that `open` makes. A value of at most 160 octets is asked for twice, but
-/// for those of the first window, and so may be values behind the first damage or behind the last batch that counts.
+/// Opens a disk, as `open` does, where several threads hash ahead of the reading: two for each processor at most, which take chunks of
+/// 16 records or more by turns (the last may have fewer), and one for the tree, or two where 32,767 Alh or more are linked at once. They
+/// hash a window of records at once: at most 4,096; of a transaction log above 32 MiB at most one for each 8 KiB of it, and of one above
+/// 128 MiB at most 16,384; and no more than, but for the last, lie in 512 octets for each of so many. Meanwhile they hash the tree, as
+/// the window behind that one finds it. The disk gets the changing calls that `open` makes. A value of at most 160 octets is asked for
+/// twice, but for those of the first window, and so may be values behind the first damage or behind the last batch that counts.
 ///
-/// It takes memory for what is hashed of two windows, about 4 KiB for a record of one entry; for those values of three windows
-/// that have at most 160 octets; and about 550 octets for each Alh that is linked by three windows, of 98,304 at most, and 32 for
-/// each beyond.
+/// It takes memory for what is hashed of two windows, about 4 KiB for a record of one entry and 0.7 KiB for each entry more; 112 octets
+/// for each record that three windows may have; for those values of three windows that have at most 160 octets; and about 550 octets for
+/// each Alh that is linked by three windows, of 98,304 at most, and 32 for each beyond.
 ///
 /// One thread hashes the empty values, those above 160 octets and those of the first window, the first batch, and what a batch
 /// has behind the window that is read. Where the files are damaged, or more than 32,768 Alh are linked at once, some strings
-/// are hashed twice.
+/// are hashed twice; so are those of the first batch, those that a batch has behind the window, and entries of more than 160 octets.
 ///
 /// # Errors
 ///

@@ -26,7 +26,7 @@ use im_hash_ahead::rows::Rows;
 use im_hash_ahead::windows::Window;
 use std::alloc::{AllocError, Global};
 use std::mem;
-use std::thread::{Threads, join_mut};
+use std::thread::{Threads, join_mut, yield_now};
 
 /// How far the batches were read: their records, the gate behind them, and how many they are; and the plan that was made last.
 #[derive(Drop)]
@@ -328,7 +328,7 @@ fn read_beside<R: Threads + Sync, D: Disk, H: Hash32 + Sync>(
 }
 
 // Reads batches up to the end of a window, as `read_stretch` does, and, where some may count behind them, plans what is hashed
-// behind two plans.
+// behind two plans. First it lets the thread run that was started beside it.
 fn read_and_plan<D: Disk, H: Hash32>(
     alloc: Global,
     hash: &H,
@@ -353,6 +353,8 @@ fn read_and_plan<D: Disk, H: Hash32>(
     ensures told { D.told disk.new ≡ D.told disk.old }
     ensures cause { HasOpenCause (D.faults disk.old) (D.faults disk.new) result }
 {
+    // The thread that starts those that hash may wait for the processor that this one has: without this, until this one's time slice ends.
+    yield_now();
     if let Some(behind) = read_stretch(alloc, hash, disk, commits, source, window, reading)? {
         return Ok(Some(behind));
     }
