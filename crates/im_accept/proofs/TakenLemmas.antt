@@ -26,7 +26,7 @@ use Rattle.im_report.specs.Replies.{item_reply}
 use Rattle.im_report.specs.Report.{Answered, IsAnswer, Report}
 use Rattle.im_client.specs.Lines.{state_with}
 use Rattle.im_client.specs.LineChecks.{line_checks}
-use Rattle.im_facts.specs.Facts.{anchor_headers, both_headers, entries_shown, headers_shown}
+use Rattle.im_facts.specs.Facts.{both_headers, entries_shown, headers_shown}
 use Rattle.im_accept.specs.Messages.{item_between, IsReadBack}
 use Rattle.im_accept.specs.Taken.{kept_number, next_number, line_text, AreReadBack, AreAcceptedAnswers, HasStateFor, HaveSessions, IsEntryOf, IsHeaderOf, IsAcceptedAnswer}
 use Rattle.im_accept.proofs.DigitLemmas.{decimal-word}

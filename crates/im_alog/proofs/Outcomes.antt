@@ -1,15 +1,14 @@
 -- What a changing call leaves, by what it answers.
 use Rattle.std.proofs.Common.{◌≡◌, ℕ, ◌+◌, ◌≤◌, List, length, sym, subst, arith}
-use Rattle.std.specs.Prelude.{Option, Some, None, IfSome, Result, OnOk, IsErrOf}
+use Rattle.std.specs.Prelude.{Option, Some, None, IfSome, Result}
 use Rattle.std.specs.Option.{option_map}
 use Rattle.im_disk.specs.Disk.{Files, Told, LiesWithin, TornFile, seen, after}
 use Rattle.im_disk.specs.Moments.{Leaves, LeavesNow}
-use Rattle.im_disk.specs.declared.calls.Call.{Call}
 use Rattle.im_disk.specs.declared.calls.Call.TheVariants.{Wrote, Tore, Synced, Missed}
 use Rattle.im_disk.specs.declared.disk.DiskError.{DiskError}
-use Rattle.im_disk.specs.declared.disk.DiskError.TheVariants.{Failed, Memory}
 use Rattle.im_disk.proofs.Leaving.{by_answer, if_told_both, leaves_by_answer}
 use Rattle.im_disk.proofs.Tearing.{decide_same, written_torn}
+use Rattle.im_disk.specs.Fused.{TellsCall}
 use Rattle.im_format.specs.Spans.{Reads}
 use Rattle.im_alog.proofs.Torn.{written_reads}
 
@@ -22,16 +21,9 @@ pub if_any : (Q : Told → Type 0) (f : Told → Told) → ((t : Told) → Q (f 
 if_any Q f step None = tt
 if_any Q f step (Some t) = step t
 
--- the clauses of a changing call, which records one call where it is Ok, another where it failed, and none
--- where memory was short
-pub record HasAnswer {T : Type 0} (good bad : Call) (o n : Option Told) (r : Result T DiskError) : Type 0 where
-  pub ok : OnOk r (n ≡ option_map (after good) o)
-  pub failed : IsErrOf r Failed → n ≡ option_map (after bad) o
-  pub memory : IsErrOf r Memory → n ≡ o
-
 -- each image of the moments of a write has P, where a torn write keeps it
 pub leaves_of_write : {T : Type 0} (P : Files → Type 0) (file at : ℕ) (piece : List ℕ) (o n : Option Told) (r : Result T DiskError)
-    → HasAnswer (Wrote file at piece) (Tore file at (length piece)) o n r
+    → TellsCall (Wrote file at piece) (Tore file at (length piece)) o n r
     → ((old new : Files) → TornFile file at (length piece) old new → P old → P new)
     → LeavesNow P o → Leaves P o n
 leaves_of_write P file at piece o n r a keeps before =
@@ -41,7 +33,7 @@ leaves_of_write P file at piece o n r a keeps before =
 
 -- each image of the moments of a sync has P, where what reads give has it too
 pub leaves_of_sync : {T : Type 0} (P : Files → Type 0) (o n : Option Told) (r : Result T DiskError)
-    → HasAnswer Synced Missed o n r
+    → TellsCall Synced Missed o n r
     → LeavesNow P o → IfSome o (λ t. (image : Files) → ((k : ℕ) → image k ≡ seen t k) → P image) → Leaves P o n
 leaves_of_sync P o n r a before here =
     leaves_by_answer P Synced Missed o n r a.ok a.failed a.memory before
@@ -50,7 +42,7 @@ leaves_of_sync P o n r a before here =
 
 -- what reads give has what a torn write keeps, after a write
 pub seen_of_write : {T : Type 0} (P : Files → Type 0) (file at : ℕ) (piece : List ℕ) (o n : Option Told) (r : Result T DiskError)
-    → HasAnswer (Wrote file at piece) (Tore file at (length piece)) o n r → LiesWithin o file at 0
+    → TellsCall (Wrote file at piece) (Tore file at (length piece)) o n r → LiesWithin o file at 0
     → ((old new : Files) → TornFile file at (length piece) old new → P old → P new)
     → IfSome o (λ t. P (seen t)) → IfSome n (λ t. P (seen t))
 seen_of_write P file at piece o n r a within keeps here =
@@ -62,7 +54,7 @@ seen_of_write P file at piece o n r a within keeps here =
 
 -- and what it was, after a sync
 pub seen_of_sync : {T : Type 0} (Q : Files → Type 0) (o n : Option Told) (r : Result T DiskError)
-    → HasAnswer Synced Missed o n r → IfSome o (λ t. Q (seen t)) → IfSome n (λ t. Q (seen t))
+    → TellsCall Synced Missed o n r → IfSome o (λ t. Q (seen t)) → IfSome n (λ t. Q (seen t))
 seen_of_sync Q o n r a here =
     by_answer (λ m. IfSome m (λ t. Q (seen t))) Synced Missed o n r a.ok a.failed a.memory
     (if_mapped _ _ (after Synced) (λ t h. h) o here)

@@ -15,7 +15,8 @@ use Rattle.im_text.specs.Words.{IsNumber, is_word, number_value}
 use Rattle.im_text.proofs.CutLemmas.{Lacks-append}
 use Rattle.im_accept.proofs.DigitLemmas.{decimal-digits, decimal-lacks, decimal-word}
 use Rattle.im_gen.specs.Generator.{advance_text, asked_text, behind_text, generator_after, item_text, key_of, own_text, script_text, source_of}
-use Rattle.im_script.specs.Script.{deletion, AreNumbers, IsCommand, IsScript, IsScriptLine, MayFollow, Say, with_name}
+use Rattle.im_draft.specs.Drafts.{deletion}
+use Rattle.im_script.specs.Script.{AreNumbers, IsCommand, IsScript, IsScriptLine, MayFollow, Say, with_name}
 use Rattle.im_script.specs.declared.commands.Command.{Command}
 use Rattle.im_script.specs.declared.commands.Command.TheVariants.{Set, State, Advance, Item, Link}
 use Rattle.im_app.specs.GeneratedLines.{asked_commands, behind_commands, generated_entry, generated_key, generated_line, own_command, script_commands, script_lines}

@@ -8,10 +8,10 @@ use Rattle.std.specs.List.{All, AllPairs, range_with_len}
 use Rattle.std.specs.Prelude.{IsTrue}
 use Rattle.im_digest.specs.Digests.{Hash}
 use Rattle.im_model.specs.declared.transactions.Transaction.{Transaction}
+use Rattle.im_draft.specs.Drafts.{deletion}
 use Rattle.im_gen.specs.Generator.{generator_after, key_of, linked_of, placed_of}
 use Rattle.im_report.specs.Report.{Answered, IsAnswer, Report, floor_after, floor_by, is_placed, tells_tx}
 use Rattle.im_report.proofs.PlacedLemmas.{advance-not-placed, get-not-placed, header-not-placed, history-not-placed, item-not-placed, linked-not-placed, prove-not-placed, scanned-not-placed, state-not-placed}
-use Rattle.im_script.specs.Script.{deletion}
 use Rattle.im_script.specs.declared.commands.Command.{Command}
 use Rattle.im_script.specs.declared.commands.Command.TheVariants.{Set, Get, Scan, History, Header, State, Prove, Advance, Item, Link, Sql}
 use Rattle.im_script.specs.declared.commands.Line.{Line}

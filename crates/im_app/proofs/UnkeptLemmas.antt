@@ -1,5 +1,5 @@
 -- A store was opened, and nothing was run over it: what a run says of it.
-use Rattle.std.proofs.Common.{◌≡◌, ℕ, List, ap, inr, subst, sym, ◌∙◌, Option, Some}
+use Rattle.std.proofs.Common.{◌≡◌, ℕ, List, inr, subst, sym, ◌∙◌, Option, Some}
 use Rattle.im_digest.specs.Digests.{Hash}
 use Rattle.im_disk.specs.Disk.{Told, after, seen}
 use Rattle.im_disk.specs.Grown.{Grows}

@@ -81,14 +81,3 @@ pub verdict-told : (hash : Hash) (e : Ended) (left : Option (List ℕ)) (kept : 
 verdict-told hash e None kept f = tt
 verdict-told hash e (Some s) None f = tt
 verdict-told hash e (Some s) (Some lines) f = verdict hash e s lines f
-
--- want of memory may always come
-memory : (hash : Hash) (stream : List ℕ) (kept : List (List ℕ)) → HasVerdict hash the.Memory stream kept
-memory hash stream kept = record {
-  too_long = λ long. inr refl;
-  stops = λ n short s. inr refl;
-  runs = λ before short t. inr (inr (inr refl));
-  passes = λ verdicts short v none unforked. inr refl;
-  refuses = λ verdicts short v some unforked. inr refl;
-  forks = λ verdicts short v some. inr refl;
-}

@@ -1,10 +1,9 @@
 -- The lines of the script that `gen` runs.
 use Rattle.std.specs.Prelude.{◌*◌, ◌/◌, ◌%◌, ◌==◌, ℕ, zero, suc, List, [], ◌∷◌, ◌++◌, map, codes, None, if◌then◌else◌}
 use Rattle.std.specs.Fmt.{decimal}
-use Rattle.im_draft.specs.Drafts.{no_attributes}
+use Rattle.im_draft.specs.Drafts.{deletion, no_attributes}
 use Rattle.im_draft.specs.declared.drafts.Draft.{Draft}
 use Rattle.im_gen.specs.Generator.{generator_after, key_of, source_of}
-use Rattle.im_script.specs.Script.{deletion}
 use Rattle.im_script.specs.declared.commands.Command.{Command}
 use Rattle.im_script.specs.declared.commands.Command.TheVariants.{Set, State, Advance, Item, Link}
 use Rattle.im_script.specs.declared.commands.Line.{Line}

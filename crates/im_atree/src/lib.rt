@@ -8,4 +8,5 @@ mod counted;
 pub mod growths;
 pub mod laws;
 pub mod list_trees;
+pub mod roots;
 pub mod trees;

@@ -1,27 +1,16 @@
 -- Books that grow by a transaction.
-use Rattle.std.proofs.Common.{◌≡◌, ◌<◌, ◌≤◌, length, ℕ, suc, ◌+◌, ◌-◌, List, [], ◌∷◌, ◌++◌, refl, arith, ap, subst, ◌∙◌, sym, length-append, get_or}
+use Rattle.std.proofs.Common.{◌≡◌, ◌<◌, ◌≤◌, length, ℕ, ◌+◌, ◌-◌, List, [], ◌∷◌, ◌++◌, arith, ap, subst, ◌∙◌, sym, length-append, get_or}
 use Rattle.std.proofs.lemmas.List.{get_or-map}
 use Rattle.im_digest.specs.Digests.{Hash}
 use Rattle.im_model.specs.Headers.{alh}
-use Rattle.im_model.specs.History.{alhs_of, header_of, next_header, Follow, IsHistory, IsTransaction}
+use Rattle.im_model.specs.History.{alhs_of, header_of, next_header, IsHistory, IsTransaction}
 use Rattle.im_model.specs.declared.headers.Header.{Header}
 use Rattle.im_model.specs.declared.transactions.Transaction.{Transaction}
-use Rattle.im_model.proofs.HistoryLemmas.{length-alhs_of}
+use Rattle.im_model.proofs.HistoryLemmas.{length-alhs_of, Follow-behind}
 use Rattle.im_proof.specs.Built.{headers_of}
 use Rattle.im_model.proofs.HeaderLemmas.{alhs-next}
 use Rattle.im_proof.proofs.HeaderLemmas.{alhs-are, headers-length, headers-next, headers-nth}
-use Rattle.im_book.specs.Booked.{last_bl, last_bl_or, Booked, IsBook}
-
--- a transaction behind others, over a tree no smaller than that of the last
-pub Follow-behind : (n bl : ℕ) (txs : List Transaction) (tx : Transaction) → Follow n bl txs → last_bl_or bl txs ≤ tx.bl → IsTransaction (n + length txs) tx → Follow n bl (txs ++ tx ∷ [])
-Follow-behind n bl [] tx f over is =
-    let same : n + 0 ≡ n = omega arith in
-    let P : ℕ → Type 0 = λ m. IsTransaction m tx in
-    (subst P same is, over, tt)
-Follow-behind n bl (t ∷ txs) tx f over is =
-    let same : n + suc (length txs) ≡ n + 1 + length txs = omega arith in
-    let P : ℕ → Type 0 = λ m. IsTransaction m tx in
-    (f.0, f.1, Follow-behind (n + 1) t.bl txs tx f.2 over (subst P same is))
+use Rattle.im_book.specs.Booked.{last_bl, Booked, IsBook}
 
 -- a history with one transaction more
 pub history-behind : (history : List Transaction) (tx : Transaction) → IsHistory history → length history < 1048576 → IsTransaction (length history) tx → last_bl history ≤ tx.bl
@@ -35,11 +24,6 @@ history-behind history tx h room is over =
       few = omega arith;
       follow = Follow-behind 0 0 history tx h.follow over (subst P place is);
     }
-
--- the last tree is that of the transaction that was placed last
-pub last-bl-behind : (bl : ℕ) (history : List Transaction) (tx : Transaction) → last_bl_or bl (history ++ tx ∷ []) ≡ tx.bl
-last-bl-behind bl [] tx = refl
-last-bl-behind bl (t ∷ txs) tx = last-bl-behind t.bl txs tx
 
 -- equal lists are those of the same history
 pub book-same : (hash : Hash) (a b : Booked) → a.transactions ≡ b.transactions → a.headers ≡ b.headers → a.alhs ≡ b.alhs → IsBook hash b → IsBook hash a

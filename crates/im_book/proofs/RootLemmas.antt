@@ -1,13 +1,12 @@
 -- The leaves of a tree that is raised, and its root.
-use Rattle.std.proofs.Common.{◌≡◌, ◌<◌, ◌≤◌, ◌+◌, ◌==◌, ℕ, List, [], ◌∷◌, ◌++◌, zero, suc, length, take, refl, arith, ap, subst, ◌∙◌, sym, get_or, if◌then◌else◌}
+use Rattle.std.proofs.Common.{◌≡◌, ◌<◌, ◌≤◌, ◌+◌, ℕ, List, [], ◌∷◌, ◌++◌, zero, suc, length, take, refl, arith, ap, subst, ◌∙◌, sym, get_or}
 use Rattle.std.proofs.lemmas.List.{length-take-le, take-append-le}
 use Rattle.im_digest.specs.Digests.{Hash}
 use Rattle.im_mtree.specs.Kept.{IsFrontier, KeptRoots}
-use Rattle.im_model.specs.History.{Follow, IsHistory, IsTransaction}
-use Rattle.im_model.specs.Trees.{root}
+use Rattle.im_model.specs.History.{last_bl_or, Follow, IsHistory, IsTransaction}
 use Rattle.im_model.specs.declared.transactions.Transaction.{Transaction}
 use Rattle.im_model.proofs.HistoryLemmas.{Follow-item}
-use Rattle.im_book.specs.Booked.{last_bl, last_bl_or}
+use Rattle.im_book.specs.Booked.{last_bl}
 
 -- the tree of a transaction is no smaller than that of the last one before it
 last-bl-at : (n bl : ℕ) (txs : List Transaction) (i : ℕ) (tx : Transaction) → Follow n bl txs → i < length txs → last_bl_or bl (take i txs) ≤ (get_or txs i tx).bl

@@ -1,7 +1,7 @@
 -- Placed transactions with their headers.
-use Rattle.std.specs.Prelude.{◌≡◌, ℕ, List, [], ◌∷◌}
+use Rattle.std.specs.Prelude.{◌≡◌, ℕ, List}
 use Rattle.im_digest.specs.Digests.{Hash}
-use Rattle.im_model.specs.History.{alhs_of, IsHistory}
+use Rattle.im_model.specs.History.{alhs_of, last_bl_or, IsHistory}
 use Rattle.im_model.specs.declared.headers.Header.{Header}
 use Rattle.im_model.specs.declared.transactions.Transaction.{Transaction}
 use Rattle.im_proof.specs.Built.{headers_of}
@@ -20,11 +20,6 @@ pub record IsBook (hash : Hash) (book : Booked) : Type 0 where
   pub history : IsHistory book.transactions
   pub headers : book.headers ≡ headers_of hash book.transactions
   pub alhs : book.alhs ≡ alhs_of hash book.transactions
-
--- bl of the last of these transactions, and this one where there is none
-abbrev pub last_bl_or : ℕ → List Transaction → ℕ
-last_bl_or bl [] = bl
-last_bl_or bl (tx ∷ txs) = last_bl_or tx.bl txs
 
 -- the size of the tree that the last transaction was placed over, 0 where there is none
 abbrev pub last_bl : List Transaction → ℕ

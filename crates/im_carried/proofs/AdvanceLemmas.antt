@@ -1,11 +1,11 @@
 -- What is opened under the source of an advance is opened under its target.
 use Rattle.std.proofs.Common.{◌≡◌, ◌⊎◌, ◌<◌, ◌≤◌, length, ℕ, ◌+◌, ◌-◌, List, [], ◌∷◌, arith, ap, subst, ◌∙◌, sym, inl, inr}
 use Rattle.std.proofs.lemmas.Bool.{cases_lt}
-use Rattle.im_digest.specs.Digests.{Hash}
+use Rattle.im_digest.specs.Digests.{Hash, GivesDigests}
 use Rattle.im_model.specs.Chains.{chain, chain_strings}
 use Rattle.im_model.specs.Headers.{alh}
 use Rattle.im_model.specs.declared.headers.Header.{Header}
-use Rattle.im_pairs.specs.Pairs.{GivesDigests, HasPair, AreAmong}
+use Rattle.im_pairs.specs.Pairs.{HasPair, AreAmong}
 use Rattle.im_pairs.specs.Leads.{Leads}
 use Rattle.im_pairs.proofs.PairLemmas.{AreAmong-tail}
 use Rattle.im_pairs.proofs.HeaderLemmas.{same_header}

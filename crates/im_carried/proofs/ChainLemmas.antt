@@ -1,9 +1,9 @@
 -- Chains: equally long ones with one end, and one after another.
 use Rattle.std.proofs.Common.{◌≡◌, ◌⊎◌, length, ℕ, suc, ◌+◌, ◌<◌, List, [], ◌∷◌, ◌++◌, refl, arith, ap, subst, ◌∙◌, sym, inl, inr, length-append}
 use Rattle.im_octet.specs.Fields.{field8}
-use Rattle.im_digest.specs.Digests.{Hash}
+use Rattle.im_digest.specs.Digests.{Hash, GivesDigests}
 use Rattle.im_model.specs.Chains.{link_string, chain, chain_strings}
-use Rattle.im_pairs.specs.Pairs.{GivesDigests, HasPair, AreAmong}
+use Rattle.im_pairs.specs.Pairs.{HasPair, AreAmong}
 use Rattle.im_pairs.proofs.PairLemmas.{three, same_or_pair, AreAmong-head, AreAmong-tail, AreAmong-cons}
 use Rattle.im_carried.specs.Opened.{Links}
 

@@ -1,10 +1,10 @@
 -- One opening of a number under a state, and what proofs open.
 use Rattle.std.proofs.Common.{◌≡◌, ◌⊎◌, ◌<◌, ◌≤◌, ℕ, ◌-◌, List, refl, arith, subst, sym, inl, inr}
 use Rattle.std.proofs.lemmas.Bool.{cases_lt}
-use Rattle.im_digest.specs.Digests.{Hash}
+use Rattle.im_digest.specs.Digests.{Hash, GivesDigests}
 use Rattle.im_model.specs.Headers.{alh}
 use Rattle.im_model.specs.declared.headers.Header.{Header}
-use Rattle.im_pairs.specs.Pairs.{GivesDigests, HasPair, AreAmong}
+use Rattle.im_pairs.specs.Pairs.{HasPair, AreAmong}
 use Rattle.im_pairs.proofs.UpLemmas.{same_lead, Leads-more}
 use Rattle.im_carried.specs.Opened.{Links, Lies, IsOpened}
 use Rattle.im_carried.specs.Shown.{ShowsDual, ShowsAnchor}

@@ -3,7 +3,7 @@
 //! 32 octets, it says so.
 
 ghost use Rattle.std.specs.Prelude.{◌≡◌, ◌⊎◌, ℕ, ◌<◌, List, reverse, Ok};
-ghost use Rattle.im_digest.specs.Digests.{Hash};
+ghost use Rattle.im_digest.specs.Digests.{Hash, GivesDigests};
 ghost use Rattle.im_model.specs.Headers.{alh};
 ghost use Rattle.im_model.specs.Paths.{up_strings};
 ghost use Rattle.im_model.specs.declared.headers.Header.{Header};
@@ -11,7 +11,7 @@ ghost use Rattle.im_mtree.specs.Checks.{first_fail};
 ghost use Rattle.im_mtree.specs.PathChecks.{path_checks};
 ghost use Rattle.im_proof.specs.Duals.{dual_checks};
 ghost use Rattle.im_proof.specs.declared.proofs.DualProof.{DualProof};
-ghost use Rattle.im_pairs.specs.Pairs.{GivesDigests, AreDigests, HasPair, AreAmong};
+ghost use Rattle.im_pairs.specs.Pairs.{AreDigests, HasPair, AreAmong};
 ghost use Rattle.im_pairs.specs.Leads.{Leads};
 ghost use Rattle.im_carried.specs.Opened.{IsOpened};
 ghost use Rattle.im_carried.specs.Shown.{ShowsDual, ShowsAnchor, ShowsAdvance};

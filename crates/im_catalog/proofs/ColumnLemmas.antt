@@ -1,5 +1,5 @@
 -- Columns, lists of numbers, and tables, at the front of a text.
-use Rattle.std.proofs.Common.{◌≡◌, ◌<◌, ◌^◌, ◌+◌, ℕ, Bool, List, [], ◌∷◌, ◌++◌, length, refl, sym, ap, ◌∙◌, subst, append_assoc, arith}
+use Rattle.std.proofs.Common.{◌≡◌, ◌<◌, ◌^◌, ◌+◌, ℕ, Bool, List, ◌++◌, length, refl, sym, ap, ◌∙◌, subst, append_assoc}
 use Rattle.im_octet.specs.Fields.{field2}
 use Rattle.im_sqltype.specs.declared.columns.ColumnType.{ColumnType}
 use Rattle.im_sqlparse.specs.Formed.{IsName}

@@ -61,10 +61,6 @@ many-none Is text_of cuts text left xs at count less stands absent = record {
       (recursion_from_All Is xs stands.is.1) (recursion_from_All Is ys p.1) absent (sym stands.split ∙ e);
 }
 
--- none so far
-pub many-first : {T : Type 0} (Is : T → Type 0) (text_of : T → List ℕ) (text : List ℕ) → StandsFirst (AreMany Is 0) (λ ys. flat_map text_of ys) text [] text
-many-first Is text_of text = record { is = (refl, λ i d l. absurd (let no : ⊥ = omega (arith, l) in no)); split = refl }
-
 -- one more
 pub many-more : {T : Type 0} (Is : T → Type 0) (text_of : T → List ℕ) (text left rest : List ℕ) (xs : List T) (x : T) (at : ℕ)
     → StandsFirst (AreMany Is at) (λ ys. flat_map text_of ys) text xs left → StandsFirst Is text_of left x rest

@@ -1,6 +1,6 @@
 -- Versions counted by their keys.
 use Rattle.std.specs.Str.{bytes_eq}
-use Rattle.std.proofs.Common.{◌≡◌, ◌≤◌, ◌<◌, ◌+◌, ℕ, Bool, true, false, cond, not, List, [], ◌∷◌, ◌++◌, map, filter, inl, inr, Option, Some, unwrap_or, refl, sym, ap, ◌∙◌, subst, append_assoc, arith}
+use Rattle.std.proofs.Common.{◌≡◌, ◌≤◌, ◌<◌, ◌+◌, ℕ, Bool, true, false, cond, not, List, [], ◌∷◌, ◌++◌, filter, inl, inr, Option, Some, unwrap_or, refl, sym, ap, ◌∙◌, subst, append_assoc, arith}
 use Rattle.std.proofs.lemmas.Bool.{cases_Bool}
 use Rattle.std.proofs.lemmas.List.{append-nil}
 use Rattle.std.proofs.lemmas.List.Elements.{filter-append}
@@ -16,7 +16,7 @@ use Rattle.im_sqlmodel.proofs.SortLemmas.{sorted-all}
 use Rattle.im_catalog.specs.Numbered.{pairs_of, Counted, counted_in, number_of, Counts}
 use Rattle.im_catalog.specs.declared.histories.Numbered.{Numbered}
 
-abbrev unit_of : Bool → ℕ
+abbrev pub unit_of : Bool → ℕ
 unit_of b = cond b 1 0
 
 count-push : {A : Type 0} (p : A → Bool) (xs : List A) (x : A) → count_by p (xs ++ x ∷ []) ≡ count_by p xs + unit_of (p x)

@@ -1,5 +1,5 @@
 -- That no two of a list are the same, as a loop finds it.
-use Rattle.std.proofs.Common.{◌≡◌, ◌≢◌, ◌<◌, ◌≤◌, ◌+◌, ℕ, Bool, true, false, true≢false, List, [], ◌∷◌, length, get_or, take, sym, ◌∙◌, subst, nat_eq, bytes_eq, arith}
+use Rattle.std.proofs.Common.{◌≡◌, ◌≢◌, ◌<◌, ◌≤◌, ◌+◌, ℕ, Bool, true, false, true≢false, List, length, get_or, take, sym, ◌∙◌, subst, nat_eq, bytes_eq, arith}
 use Rattle.std.specs.List.{AllPairs, list_any}
 use Rattle.std.proofs.lemmas.List.{take_more, get_or_default, get_or-take, length-take-le}
 use Rattle.std.proofs.lemmas.List.Folds.{Any-from_list_any, list_any_at}

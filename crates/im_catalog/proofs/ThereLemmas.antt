@@ -134,7 +134,8 @@ so-far history prefix vs d (suc i) h =
     subst (λ n. Found history prefix (take n vs)) (let next : i + 1 ≡ suc i = omega arith in next)
     (one-more history prefix vs i d (omega (arith, h)) (so-far history prefix vs d i (omega (arith, h))))
 
-abbrev no_version : Version
+-- stands where there is no version
+abbrev pub no_version : Version
 no_version = record { tx = 0; deleted = true; key = []; value = [] }
 
 pub scan-there : (history : List Transaction) (prefix : List ℕ) → (shown : List Version) × IsScan history prefix shown

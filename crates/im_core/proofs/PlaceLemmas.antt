@@ -1,8 +1,8 @@
 -- Placing, linking and indexing.
-use Rattle.std.proofs.Common.{◌≡◌, ◌<◌, ◌≤◌, ◌+◌, ◌-◌, ◌∙◌, ℕ, suc, ℤ, List, [], ◌∷◌, ◌++◌, length, take, get_or, true, refl, sym, ap, subst, arith, inl, All, Option, Some, None, length-append}
+use Rattle.std.proofs.Common.{◌≡◌, ◌<◌, ◌≤◌, ◌+◌, ◌-◌, ◌∙◌, ℕ, ℤ, List, [], ◌∷◌, ◌++◌, length, take, get_or, true, refl, sym, ap, subst, arith, inl, All, Option, Some, None, length-append}
 use Rattle.std.proofs.lemmas.List.{get_or-map, take-append-le, take_more}
 use Rattle.std.proofs.lemmas.List.Elements.{All-push, All-weaker}
-use Rattle.im_book.specs.Booked.{last_bl, last_bl_or, Booked, IsBook}
+use Rattle.im_book.specs.Booked.{last_bl, Booked, IsBook}
 use Rattle.im_core.specs.Parts.{tells, Answers, IsAsFar, IsUp}
 use Rattle.im_core.specs.declared.store.OpenStore.{OpenStore}
 use Rattle.im_core.proofs.UpLemmas.{alhs-count}
@@ -21,6 +21,7 @@ use Rattle.im_machine.specs.declared.outputs.Output.TheVariants as says
 use Rattle.im_machine.proofs.StepLemmas.{with_tx}
 use Rattle.im_model.specs.Headers.{alh}
 use Rattle.im_model.specs.History.{alhs_of, header_of, next_header, no_transaction, transaction_of, IsHistory}
+use Rattle.im_model.proofs.HistoryLemmas.{last-least}
 use Rattle.im_model.specs.declared.headers.Header.{Header}
 use Rattle.im_model.specs.declared.transactions.Transaction.{Transaction}
 use Rattle.im_model.proofs.HeaderLemmas.{alhs-next}
@@ -31,10 +32,6 @@ use Rattle.im_versions.specs.Admits.{place_refusal}
 use Rattle.im_versions.specs.declared.refusals.PlaceError.{PlaceError}
 
 -- the last transaction's tree is within what each one's is
-last-least : (bl most : ℕ) (txs : List Transaction) → bl ≤ most → All (λ t. t.bl ≤ most) txs → last_bl_or bl txs ≤ most
-last-least bl most [] le each = le
-last-least bl most (t ∷ txs) le each = last-least t.bl most txs (each 0 t (omega arith)) (λ i d lt. each (suc i) d (omega (arith, lt)))
-
 pub last-within : (most : ℕ) (txs : List Transaction) → All (λ t. t.bl ≤ most) txs → last_bl txs ≤ most
 last-within most txs each = last-least 0 most txs (omega arith) each
 

@@ -1,5 +1,5 @@
 -- The parts of an open store, and the machine: numbers, and events that change little.
-use Rattle.std.proofs.Common.{◌≡◌, ◌≤◌, ◌+◌, ◌^◌, ◌-◌, ◌∙◌, ℕ, List, length, min, true, false, refl, sym, ap, subst, arith, inl, inr}
+use Rattle.std.proofs.Common.{◌≡◌, ◌≤◌, ◌+◌, ◌^◌, ◌-◌, ◌∙◌, ℕ, List, length, min, true, refl, sym, ap, subst, arith, inl, inr}
 use Rattle.std.proofs.lemmas.Bool.{true≢false}
 use Rattle.std.proofs.lemmas.List.{length-take-le}
 use Rattle.im_core.specs.Answers.{Gives}

@@ -1,15 +1,13 @@
 // Placing a transaction.
-ghost use Rattle.std.specs.Prelude.{◌≡◌, ℕ, List, length, IfOk, OnOk};
+ghost use Rattle.std.specs.Prelude.{◌≡◌, ℕ, IfOk, OnOk};
 ghost use Rattle.im_core.specs.Parts.{Answers, IsUp};
-ghost use Rattle.im_levels.specs.Leveled.{IsLeveled};
 ghost use Rattle.im_machine.specs.Machines.{Machine};
 ghost use Rattle.im_machine.specs.declared.events.Event.TheVariants as on;
 ghost use Rattle.im_machine.specs.declared.outputs.Output.TheVariants as says;
-ghost use Rattle.im_model.specs.History.{bl_root_of};
 
 use crate::store::OpenStore;
-use im_atree::trees::Tree;
-use im_digest::{D32, Hash32};
+use im_atree::roots::root_of;
+use im_digest::Hash32;
 use im_machine::outputs::Output;
 use im_tx::prepared::Prepared;
 use im_versions::refusals::PlaceError;
@@ -38,18 +36,6 @@ impl OpenStore {
             Err(why) => refused(why, at),
         }
     }
-}
-
-// The root of a tree, and 32 zeros where it has no leaf.
-fn root_of<H: Hash32>(hash: &H, tree: &Tree) -> D32
-    ensures { (leaves : List (List ℕ)) → IsLeveled (H.digest hash.now) leaves tree.now
-        → result ≡ bl_root_of (H.digest hash.now) leaves (length leaves) }
-{
-    let size = tree.size();
-    if size == 0 {
-        return [0; 32];
-    }
-    tree.root_at(hash, size)
 }
 
 // A refusal is told, and want of memory isn't one.

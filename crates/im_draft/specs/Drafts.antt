@@ -1,5 +1,5 @@
 -- Which drafts are the entries of a transaction, and why others are refused.
-use Rattle.std.specs.Prelude.{◌≡◌, ◌≢◌, ℕ, ◌<◌, ◌≤◌, List, [], ◌∷◌, length, take, slice_index_or, All, AllPairs, false}
+use Rattle.std.specs.Prelude.{◌≡◌, ◌≢◌, ℕ, ◌<◌, ◌≤◌, List, [], ◌∷◌, length, take, slice_index_or, All, AllPairs, false, true}
 use Rattle.im_model.specs.Entries.{attributes}
 use Rattle.im_model.specs.declared.entries.Entry.{Entry}
 use Rattle.im_draft.specs.declared.drafts.Attrs.{Attrs}
@@ -10,6 +10,10 @@ use Rattle.im_draft.specs.declared.refusals.PrepareError.TheVariants.{Memory, No
 -- the attributes of an entry that has none
 abbrev pub no_attributes : Attrs
 no_attributes = record { deleted = false; non_indexable = false }
+
+-- what deletes a key: its value is empty
+abbrev pub deletion : List ℕ → Draft
+deletion key = record { attrs = record { deleted = true; non_indexable = false }; key = key; value = [] }
 
 -- the entry that a draft asks for
 abbrev pub entry_of : Draft → Entry

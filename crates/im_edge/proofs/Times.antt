@@ -1,5 +1,5 @@
 -- The times that a clock gave in several calls.
-use Rattle.std.proofs.Common.{◌≡◌, ℤ, List, [], ◌++◌, sym, ap, ◌∙◌, append_assoc, append-nil, Option, Some, None}
+use Rattle.std.proofs.Common.{ℤ, List, [], ◌++◌, sym, ap, ◌∙◌, append_assoc, append-nil, Option, Some, None}
 use Rattle.im_edge.specs.Clocks.{AddsTimes}
 
 -- the clock wasn't asked

@@ -6,10 +6,10 @@ use Rattle.std.proofs.lemmas.Bool.{eqb-true}
 use Rattle.std.proofs.lemmas.List.Concat.{flat_map-cons}
 use Rattle.std.proofs.lemmas.List.Elements.{recursion_from_All, All-from_recursion, All-contains, Contains-push}
 use Rattle.im_octet.proofs.Common.{some-is}
-use Rattle.im_digest.specs.Digests.{Hash}
+use Rattle.im_digest.specs.Digests.{Hash, GivesDigests}
 use Rattle.im_model.specs.declared.headers.Header.{Header}
 use Rattle.im_mtree.specs.Checks.{first_fail}
-use Rattle.im_pairs.specs.Pairs.{GivesDigests, AreAmong, HasPair}
+use Rattle.im_pairs.specs.Pairs.{AreAmong, HasPair}
 use Rattle.im_carried.proofs.PassLemmas.{left-among, right-among}
 use Rattle.im_hashed.specs.Messages.{message_strings, strings_of}
 use Rattle.im_hashed.proofs.FitsLemmas.{header-fits}
@@ -19,11 +19,11 @@ use Rattle.im_wire.specs.declared.messages.Message.TheVariants as says
 use Rattle.im_client.specs.Lines.{state_with}
 use Rattle.im_client.specs.LineChecks.{line_checks}
 use Rattle.im_facts.specs.Accepted.{IsAccepted, AreAccepted, IsClient}
-use Rattle.im_facts.specs.Facts.{Known, nothing, with_message, known_after, known_header, headers_shown, entries_shown, with_headers, with_entries, is_lower, is_level, is_before, is_beside}
+use Rattle.im_facts.specs.Facts.{Known, nothing, with_message, known_after, known_header, headers_shown, entries_shown, with_headers, with_entries, is_lower, is_level, is_before, is_beside, IsAlike}
 use Rattle.im_facts.specs.Held.{HoldsHeader, HoldsEntry, HoldsUnder, HoldsKnown}
 use Rattle.im_facts.specs.declared.facts.EntryFact.{EntryFact}
 use Rattle.im_facts.proofs.OrderLemmas.{Rises, each-weaker, puts-all}
-use Rattle.im_facts.proofs.ShownLemmas.{FitsAt, is-state, headers-fit}
+use Rattle.im_facts.proofs.ShownLemmas.{is-state, headers-fit}
 use Rattle.im_facts.proofs.KnownLemmas.{KeepsHeaders, IsSound, nothing-sound, sound-step, header-found, found-passes}
 use Rattle.im_facts.proofs.ShowLemmas.{state-tree, advance-shown}
 use Rattle.im_facts.proofs.HoldLemmas.{met_by, state_behind, PassesUnder, shown-holds, goes-on, each-or-pair, entries_under, LiesInShown, entries-lie, meets, state-holds}
@@ -55,7 +55,7 @@ under-kept headers (says.Advance dual anchor) keeps = keeps.0
 under-kept headers (says.Item dual entry index path) keeps = keeps.0
 
 -- the header that the line checks compare fits in among the kept ones
-met-fits_at : (headers : List Header) (m : Message) → AllByRecursion (FitsAt headers) (headers_shown m) → FitsAt headers (met_by m)
+met-fits_at : (headers : List Header) (m : Message) → AllByRecursion (IsAlike headers) (headers_shown m) → IsAlike headers (met_by m)
 met-fits_at headers (says.State header) fits = fits.0
 met-fits_at headers (says.Dual dual) fits = fits.1.0
 met-fits_at headers (says.Advance dual anchor) fits = fits.0

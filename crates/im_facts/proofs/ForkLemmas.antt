@@ -6,7 +6,7 @@ use Rattle.std.proofs.lemmas.Grind.{flat_map-append}
 use Rattle.std.proofs.lemmas.List.Concat.{flat_map-cons}
 use Rattle.std.proofs.lemmas.List.Elements.{recursion_from_All, All-from_recursion, All-contains}
 use Rattle.im_octet.proofs.Common.{some-is}
-use Rattle.im_digest.specs.Digests.{Hash}
+use Rattle.im_digest.specs.Digests.{Hash, GivesDigests}
 use Rattle.im_model.specs.Entries.{entry_digest}
 use Rattle.im_model.specs.Headers.{alh, header_strings}
 use Rattle.im_model.specs.declared.entries.Entry.{Entry}
@@ -14,7 +14,7 @@ use Rattle.im_model.specs.declared.headers.Header.{Header}
 use Rattle.im_mtree.specs.Checks.{first_fail}
 use Rattle.im_proof.specs.declared.proofs.DualProof.{DualProof}
 use Rattle.im_pairs.specs.Leads.{Leads}
-use Rattle.im_pairs.specs.Pairs.{GivesDigests, AreAmong, HasPair}
+use Rattle.im_pairs.specs.Pairs.{AreAmong, HasPair}
 use Rattle.im_pairs.specs.Ranges.{HeaderFits}
 use Rattle.im_pairs.proofs.EntryLemmas.{same_entry_led}
 use Rattle.im_pairs.proofs.HeaderLemmas.{same_header}

@@ -2,14 +2,14 @@
 -- strings of one digest.
 use Rattle.std.proofs.Common.{◌≡◌, ◌⊎◌, ◌<◌, ℕ, List, [], ◌∷◌, ◌++◌, reverse, Option, Some, None, Ok, refl, subst, sym, inl, inr}
 use Rattle.std.specs.List.{AllByRecursion}
-use Rattle.im_digest.specs.Digests.{Hash}
+use Rattle.im_digest.specs.Digests.{Hash, GivesDigests}
 use Rattle.im_model.specs.Entries.{entry_digest, entry_strings}
 use Rattle.im_model.specs.Headers.{alh, header_strings}
 use Rattle.im_model.specs.Paths.{up_strings}
 use Rattle.im_model.specs.declared.headers.Header.{Header}
 use Rattle.im_mtree.specs.Checks.{first_fail}
 use Rattle.im_proof.specs.declared.proofs.DualProof.{DualProof}
-use Rattle.im_pairs.specs.Pairs.{GivesDigests, AreAmong, HasPair}
+use Rattle.im_pairs.specs.Pairs.{AreAmong, HasPair}
 use Rattle.im_pairs.specs.Ranges.{HeaderFits}
 use Rattle.im_pairs.proofs.HeaderLemmas.{same_header}
 use Rattle.im_carried.specs.Hashed.{dual_strings}

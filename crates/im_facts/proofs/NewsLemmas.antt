@@ -16,21 +16,21 @@ use Rattle.im_wire.specs.declared.messages.Message.TheVariants as says
 use Rattle.im_client.specs.Lines.{state_with}
 use Rattle.im_client.specs.LineChecks.{line_checks}
 use Rattle.im_facts.specs.Accepted.{IsAccepted, IsClient}
-use Rattle.im_facts.specs.Facts.{Known, with_message, known_after, with_headers, with_entries, known_header, entry_at, is_lower, is_level, is_before, is_beside, both_headers, anchor_headers, headers_shown, entries_shown}
+use Rattle.im_facts.specs.Facts.{Known, with_message, known_after, with_headers, with_entries, known_header, entry_at, is_lower, is_level, is_before, is_beside, both_headers, anchor_headers, headers_shown, entries_shown, IsAlike}
 use Rattle.im_facts.specs.Folds.{AreVerdicts, known_by, known_by_all}
 use Rattle.im_facts.specs.News.{is_old, knows_anchor, knows_both, knows_entries, knows_header, knows_headers, leaves, with_accepted}
 use Rattle.im_facts.specs.Verdicts.{Verdict, Passed, Accepted, Refused, Forked, messages_of}
 use Rattle.im_facts.specs.declared.facts.EntryFact.{EntryFact}
 use Rattle.im_facts.proofs.OrderLemmas.{FitsIn, each-weaker, puts-known}
 use Rattle.im_facts.proofs.PlaceLemmas.{header-order, entry-order}
-use Rattle.im_facts.proofs.ShownLemmas.{FitsAt, headers-fit}
+use Rattle.im_facts.proofs.ShownLemmas.{headers-fit}
 use Rattle.im_facts.proofs.KnownLemmas.{KeepsEntries, KeepsHeaders, client-sound, client-still-entry, client-still-header, entries-fit, fact_at, sound-step}
 use Rattle.im_facts.proofs.HoldLemmas.{meets}
 use Rattle.im_facts.proofs.FoldLemmas.{kept-now}
 use Rattle.im_facts.proofs.VerdictSome.{client-by, line-fits}
 
 -- a header whose number is known and that is unlike no kept one is kept
-old-header : (headers : List Header) (h : Header) → knows_header headers h ≡ true → FitsAt headers h → known_header headers h.id ≡ Some h
+old-header : (headers : List Header) (h : Header) → knows_header headers h ≡ true → IsAlike headers h → known_header headers h.id ≡ Some h
 old-header headers h known fits = go (known_header headers h.id) refl known fits
   where
     go : (r : Option Header) → known_header headers h.id ≡ r → is_some r ≡ true → IfSome r (λ k. k ≡ h) → known_header headers h.id ≡ Some h
@@ -46,20 +46,20 @@ old-entry facts fact known fits = go (fact_at facts fact) refl known fits
     go (Some kept) e k f = e ∙ ap Some f
 
 -- both headers of a dual proof
-old-both : (headers : List Header) (p : DualProof) → knows_both headers p ≡ true → AllByRecursion (FitsAt headers) (both_headers p)
+old-both : (headers : List Header) (p : DualProof) → knows_both headers p ≡ true → AllByRecursion (IsAlike headers) (both_headers p)
     → AllByRecursion (λ (h : Header). known_header headers h.id ≡ Some h) (both_headers p)
 old-both headers p known fit =
     let parts = and_parts (knows_header headers p.source) (knows_header headers p.target) known in
     (old-header headers p.source parts.0 fit.0, (old-header headers p.target parts.1 fit.1.0, tt))
 
 -- those of an anchor
-old-anchor : (headers : List Header) (anchor : Option DualProof) → knows_anchor headers anchor ≡ true → AllByRecursion (FitsAt headers) (anchor_headers anchor)
+old-anchor : (headers : List Header) (anchor : Option DualProof) → knows_anchor headers anchor ≡ true → AllByRecursion (IsAlike headers) (anchor_headers anchor)
     → AllByRecursion (λ (h : Header). known_header headers h.id ≡ Some h) (anchor_headers anchor)
 old-anchor headers None known fit = tt
 old-anchor headers (Some anchor) known fit = old-both headers anchor known fit
 
 -- each header that a message shows
-old-headers : (headers : List Header) (m : Message) → knows_headers headers m ≡ true → AllByRecursion (FitsAt headers) (headers_shown m) → KeepsHeaders headers m
+old-headers : (headers : List Header) (m : Message) → knows_headers headers m ≡ true → AllByRecursion (IsAlike headers) (headers_shown m) → KeepsHeaders headers m
 old-headers headers (says.State header) known fit = (old-header headers header known fit.0, tt)
 old-headers headers (says.Dual dual) known fit = old-both headers dual known fit
 old-headers headers (says.Advance dual anchor) known fit =

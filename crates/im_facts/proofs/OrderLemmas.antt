@@ -29,10 +29,6 @@ pub each-more : {X : Type 0} (P : X → Type 0) (xs : List X) (last : X) → All
 each-more P [] last all p = (p, tt)
 each-more P (x ∷ xs) last all p = (all.0, each-more P xs last all.1 p)
 
--- true and false are two
-pub two : {b : Bool} → b ≡ true → b ≡ false → ⊥
-two p q = cc
-
 put-all-step : {X : Type 0} (P : X → Type 0) (b c : Bool) (k h : X) (ks more : List X) → AllByRecursion P (k ∷ ks) → AllByRecursion P more → P h
     → AllByRecursion P (if b then k ∷ more else (if c then k ∷ ks else h ∷ k ∷ ks))
 put-all-step P true c k h ks more old new p = (old.0, new)

@@ -7,9 +7,7 @@ use Rattle.std.proofs.lemmas.List.Elements.{recursion_from_All}
 use Rattle.std.proofs.lemmas.Bool.{lt-ltb, eq-eqb, ne_eqb}
 use Rattle.std.proofs.lemmas.Bool.Decides.{nat_tests}
 use Rattle.im_model.specs.declared.headers.Header.{Header}
-use Rattle.im_wire.specs.declared.messages.Message.{Message}
-use Rattle.im_wire.specs.declared.messages.Message.TheVariants as says
-use Rattle.im_facts.specs.Facts.{known_header, entry_at, is_lower, is_level, is_before, is_beside, with_fact, with_facts, headers_shown, IsBefore}
+use Rattle.im_facts.specs.Facts.{known_header, entry_at, is_lower, is_level, is_before, is_beside, with_fact, with_facts, IsBefore}
 use Rattle.im_facts.specs.declared.facts.EntryFact.{EntryFact}
 use Rattle.im_facts.proofs.OrderLemmas.{Rises, put-rises}
 use Rattle.im_facts.proofs.PlaceLemmas.{header-order, entry-order, header-pairs}
@@ -95,11 +93,3 @@ header-rises xs h pairs =
 pub facts-push : {X : Type 0} (before beside : X → X → Bool) (xs hs : List X) (h : X) → with_facts before beside xs (hs ++ h ∷ []) ≡ with_fact before beside (with_facts before beside xs hs) h
 facts-push before beside xs [] h = refl
 facts-push before beside xs (k ∷ hs) h = facts-push before beside (with_fact before beside xs k) hs h
-
--- a message shows four headers at most
-pub shown-four : (m : Message) → length (headers_shown m) ≤ 4
-shown-four (says.State header) = omega arith
-shown-four (says.Dual dual) = omega arith
-shown-four (says.Advance dual None) = omega arith
-shown-four (says.Advance dual (Some anchor)) = omega arith
-shown-four (says.Item dual entry index path) = omega arith

@@ -23,7 +23,7 @@ use Rattle.im_wire.specs.declared.messages.Message.TheVariants as says
 use Rattle.im_client.specs.LineChecks.{line_checks, dual_line_checks, advance_line_checks, anchor_checks, anchor_ends_checks}
 use Rattle.im_client.specs.declared.faults.LineFault.TheVariants.{Dual, Anchor, Path}
 use Rattle.im_facts.specs.Accepted.{IsAccepted}
-use Rattle.im_facts.specs.Facts.{Known, Agrees, known_header, headers_shown, is_lower, is_level}
+use Rattle.im_facts.specs.Facts.{Known, Agrees, IsAlike, known_header, headers_shown, is_lower, is_level}
 use Rattle.im_facts.proofs.OrderLemmas.{AreOne}
 use Rattle.im_facts.proofs.PlaceLemmas.{header-order}
 
@@ -31,24 +31,20 @@ use Rattle.im_facts.proofs.PlaceLemmas.{header-order}
 abbrev pub StateIsKept : Known → Type 0
 StateIsKept known = IfSome known.state (λ (state : Header). known_header known.headers state.id ≡ Some state)
 
--- a shown header fits in
-abbrev pub FitsAt : List Header → Header → Type 0
-FitsAt headers header = IfSome (known_header headers header.id) (λ kept. kept ≡ header)
-
--- one of the state's number is the state
-pub is-state : (headers : List Header) (state header : Header) → known_header headers state.id ≡ Some state → FitsAt headers header → header.id ≡ state.id → state ≡ header
+-- a header of the state's number that is like the kept one is the state
+pub is-state : (headers : List Header) (state header : Header) → known_header headers state.id ≡ Some state → IsAlike headers header → header.id ≡ state.id → state ≡ header
 is-state headers state header kept fits e =
     let there : known_header headers header.id ≡ Some state = ap (λ (t : ℕ). known_header headers t) e ∙ kept in
     subst (λ (r : Option Header). IfSome r (λ k. k ≡ header)) there fits
 
 -- so two of them are one
-both-state : (headers : List Header) (state a b : Header) → known_header headers state.id ≡ Some state → FitsAt headers a → FitsAt headers b → a.id ≡ state.id → nat_eq a.id b.id ≡ true → b ≡ a
+both-state : (headers : List Header) (state a b : Header) → known_header headers state.id ≡ Some state → IsAlike headers a → IsAlike headers b → a.id ≡ state.id → nat_eq a.id b.id ≡ true → b ≡ a
 both-state headers state a b kept fa fb e level =
     let also : b.id ≡ state.id = grind (arith, nat_tests) in
     sym (is-state headers state b kept fb also) ∙ is-state headers state a kept fa e
 
 -- those of a dual proof that begins or ends at the state
-pair-one : (headers : List Header) (state : Header) (p : DualProof) → known_header headers state.id ≡ Some state → FitsAt headers p.source → FitsAt headers p.target → (nat_eq p.source.id p.target.id ≡ true → p.source.id ≡ state.id)
+pair-one : (headers : List Header) (state : Header) (p : DualProof) → known_header headers state.id ≡ Some state → IsAlike headers p.source → IsAlike headers p.target → (nat_eq p.source.id p.target.id ≡ true → p.source.id ≡ state.id)
     → AreOne Header is_lower is_level header-order (p.source ∷ p.target ∷ [])
 pair-one headers state p kept fs ft e =
     (((λ level. both-state headers state p.source p.target kept fs ft (e level) level), tt), (tt, tt))
@@ -72,7 +68,7 @@ pub held-named : {F G : Type 0} → (name : F → G) (checks : List (Check F)) �
 held-named name checks h = ok-named name (first_fail checks) (sym (fail_named name checks) ∙ h)
 
 -- the headers of a line whose dual proof leads to the state
-dual-one : (hash : Hash) (headers : List Header) (state : Header) (p : DualProof) → known_header headers state.id ≡ Some state → FitsAt headers p.source → FitsAt headers p.target
+dual-one : (hash : Hash) (headers : List Header) (state : Header) (p : DualProof) → known_header headers state.id ≡ Some state → IsAlike headers p.source → IsAlike headers p.target
     → first_fail (dual_line_checks hash state p) ≡ Ok tt → AreOne Header is_lower is_level header-order (p.source ∷ p.target ∷ [])
 dual-one hash headers state p kept fs ft h =
     let each = all-hold (dual_line_checks hash state p) h in
@@ -103,7 +99,7 @@ apart-one a b ne level = absurd (ne (eqb-true a.id b.id level))
 
 -- the headers of an advance
 advance-one : (hash : Hash) (headers : List Header) (state : Header) (p : DualProof) (anchor : Option DualProof) → known_header headers state.id ≡ Some state
-    → AllByRecursion (FitsAt headers) (headers_shown (says.Advance p anchor)) → first_fail (advance_line_checks hash state p anchor) ≡ Ok tt
+    → AllByRecursion (IsAlike headers) (headers_shown (says.Advance p anchor)) → first_fail (advance_line_checks hash state p anchor) ≡ Ok tt
     → AreOne Header is_lower is_level header-order (headers_shown (says.Advance p anchor))
 advance-one hash headers state p None kept fit h =
     let each = all-hold (advance_line_checks hash state p None) h in
@@ -114,9 +110,9 @@ advance-one hash headers state p (Some anchor) kept fit h =
     let order : p.source.id ≤ p.target.id = order-of hash p (held-named Dual (dual_checks hash p) parts.0) in
     let placed : AnchorPlaced hash p anchor = anchor-placed hash p anchor parts.1 in
     let from : p.source.id ≡ state.id = eqb-true p.source.id state.id each.0 in
-    let source : FitsAt headers p.source = fit.0 in
-    let target : FitsAt headers p.target = fit.1.0 in
-    let end : FitsAt headers anchor.target = fit.1.1.1.0 in
+    let source : IsAlike headers p.source = fit.0 in
+    let target : IsAlike headers p.target = fit.1.0 in
+    let end : IsAlike headers anchor.target = fit.1.1.1.0 in
     let to : anchor.target.id ≡ state.id = placed.to ∙ from in
     let below : anchor.source.id < p.source.id = omega (arith, placed.below, placed.from) in
     let under : anchor.source.id < anchor.target.id = omega (arith, below, placed.to) in (
@@ -141,7 +137,7 @@ advance-one hash headers state p (Some anchor) kept fit h =
 
 -- the headers that a message shows, which passes and agrees
 shown-by : (hash : Hash) (headers : List Header) (state : Option Header) (message : Message) → first_fail (line_checks hash state message) ≡ Ok tt → IfSome state (λ (s : Header). known_header headers s.id ≡ Some s)
-    → AllByRecursion (FitsAt headers) (headers_shown message) → AreOne Header is_lower is_level header-order (headers_shown message)
+    → AllByRecursion (IsAlike headers) (headers_shown message) → AreOne Header is_lower is_level header-order (headers_shown message)
 shown-by hash headers state (says.State header) h kept fit = (tt, tt)
 shown-by hash headers None (says.Dual p) h kept fit = absurd cc
 shown-by hash headers (Some s) (says.Dual p) h kept fit = dual-one hash headers s p kept fit.0 fit.1.0 h
@@ -153,8 +149,8 @@ shown-by hash headers (Some s) (says.Item p entry index path) h kept fit =
     (each-holds (dual_line_checks hash s p) (as_faults Path (path_checks hash (entry_digest hash entry) index p.source.nentries path p.source.eh)) h).0
 
 -- the shown headers fit in
-pub headers-fit : (known : Known) (message : Message) → Agrees known message → AllByRecursion (FitsAt known.headers) (headers_shown message)
-headers-fit known message agrees = recursion_from_All (FitsAt known.headers) (headers_shown message) agrees.headers
+pub headers-fit : (known : Known) (message : Message) → Agrees known message → AllByRecursion (IsAlike known.headers) (headers_shown message)
+headers-fit known message agrees = recursion_from_All (IsAlike known.headers) (headers_shown message) agrees.headers
 
 -- and no two of one number are unlike
 pub shown-one : (hash : Hash) (known : Known) (message : Message) → IsAccepted hash known message → StateIsKept known → AreOne Header is_lower is_level header-order (headers_shown message)

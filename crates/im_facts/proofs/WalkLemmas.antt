@@ -3,7 +3,7 @@
 use Rattle.std.proofs.Common.{◌≡◌, ◌⊎◌, ◌<◌, ◌≤◌, ◌+◌, ℕ, zero, suc, Bool, true, false, if◌then◌else◌, List, [], ◌∷◌, ◌++◌, length, get_or, take, drop, refl, ap, subst, sym, ◌∙◌, inl, inr, Some, None, arith}
 use Rattle.std.specs.List.{find, insert, AllPairs}
 use Rattle.std.specs.List.Sorted.{IsPartitionedBy, IsPartitionPoint}
-use Rattle.std.proofs.lemmas.Bool.{cases_eq, cases_lt}
+use Rattle.std.proofs.lemmas.Bool.{false_from_ne_true, cases_eq, cases_lt}
 use Rattle.std.proofs.lemmas.List.{drop_more, drop_all}
 use Rattle.std.proofs.lemmas.List.Recursion.{found_at, found_nowhere}
 use Rattle.std.proofs.Math.ListN.{take-append-drop}
@@ -19,17 +19,13 @@ module _ (X : Type 0) (before beside : X → X → Bool) (order : IsOrder X befo
       go (inl e) = ap (λ (n : ℕ). before (get_or xs n d) h) e ∙ is
       go (inr ne) = order.on (get_or xs i d) (get_or xs j d) h (rises i j d (omega arith) within) is
 
-  false-from : (b : Bool) → (b ≡ true → ⊥) → b ≡ false
-  false-from true never = absurd (never refl)
-  false-from false never = refl
-
   -- of these none has the place
   before-beside : (a b : X) → before a b ≡ true → beside a b ≡ false
-  before-beside a b e = false-from (beside a b) (order.apart a b e)
+  before-beside a b e = false_from_ne_true (beside a b) (order.apart a b e)
 
   -- nor has one behind it
   behind-beside : (a b : X) → before b a ≡ true → beside a b ≡ false
-  behind-beside a b e = false-from (beside a b) (λ p. order.apart b a e (order.back a b p))
+  behind-beside a b e = false_from_ne_true (beside a b) (λ p. order.apart b a e (order.back a b p))
 
   -- the fact of the place is found
   pub find-there : (xs : List X) (h : X) (i : ℕ) (d : X) → i < length xs → IsPartitionPoint (λ y. before y h ≡ true) (λ y. before y h ≡ false) xs i → beside (get_or xs i d) h ≡ true

@@ -3,12 +3,12 @@
 -- is among these.
 use Rattle.std.specs.Prelude.{◌≡◌, ◌⊎◌, ◌<◌, ℕ, List, All, Some}
 use Rattle.im_digest.specs.Digests.{Hash}
-use Rattle.im_model.specs.Entries.{entry_digest, entry_strings}
+use Rattle.im_model.specs.Entries.{entry_digest, entry_strings, EntryFits}
 use Rattle.im_model.specs.Headers.{alh, header_strings}
 use Rattle.im_model.specs.declared.headers.Header.{Header}
 use Rattle.im_pairs.specs.Leads.{Leads}
 use Rattle.im_pairs.specs.Pairs.{AreAmong, HasPair}
-use Rattle.im_pairs.specs.Ranges.{HeaderFits, EntryFits}
+use Rattle.im_pairs.specs.Ranges.{HeaderFits}
 use Rattle.im_carried.specs.Opened.{IsOpened}
 use Rattle.im_hashed.specs.Messages.{strings_of}
 use Rattle.im_facts.specs.Facts.{Known, nothing, known_header}

@@ -2,12 +2,12 @@
 //! function does nothing, and its contract is the law.
 
 ghost use Rattle.std.specs.Prelude.{◌≡◌, ◌⊎◌, ◌++◌, ◌∷◌, [], ℕ, List, Option, Ok};
-ghost use Rattle.im_digest.specs.Digests.{Hash};
+ghost use Rattle.im_digest.specs.Digests.{Hash, GivesDigests};
 ghost use Rattle.im_model.specs.Headers.{header_strings};
 ghost use Rattle.im_model.specs.declared.headers.Header.{Header};
 ghost use Rattle.im_mtree.specs.Checks.{first_fail};
 ghost use Rattle.im_proof.specs.declared.proofs.DualProof.{DualProof};
-ghost use Rattle.im_pairs.specs.Pairs.{GivesDigests, AreAmong, HasPair};
+ghost use Rattle.im_pairs.specs.Pairs.{AreAmong, HasPair};
 ghost use Rattle.im_pairs.specs.Ranges.{HeaderFits};
 ghost use Rattle.im_carried.specs.Opened.{IsOpened};
 ghost use Rattle.im_hashed.specs.Messages.{message_strings, strings_of};

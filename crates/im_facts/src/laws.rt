@@ -1,10 +1,9 @@
 //! What holds of the definitions. Each function does nothing, and its contract is the law.
 
 ghost use Rattle.std.specs.Prelude.{◌≡◌, ◌⊎◌, ◌++◌, ℕ, List, Contains, Some};
-ghost use Rattle.im_digest.specs.Digests.{Hash};
+ghost use Rattle.im_digest.specs.Digests.{Hash, GivesDigests};
 ghost use Rattle.im_model.specs.declared.entries.Entry.{Entry};
 ghost use Rattle.im_model.specs.declared.headers.Header.{Header};
-ghost use Rattle.im_pairs.specs.Pairs.{GivesDigests};
 ghost use Rattle.im_wire.specs.declared.messages.Message.{Message};
 ghost use Rattle.im_facts.specs.Accepted.{IsAccepted, IsClient};
 ghost use Rattle.im_facts.specs.Facts.{Known, Agrees, Differs, IsRising, with_message, known_after, known_header, entry_at, headers_shown, entries_shown};

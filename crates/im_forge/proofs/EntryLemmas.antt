@@ -3,11 +3,10 @@ use Rattle.std.proofs.Common.{◌≡◌, ◌≢◌, ◌<◌, length, ℕ, ◌-�
 use Rattle.std.proofs.lemmas.List.{length-reverse}
 use Rattle.std.proofs.lemmas.List.Elements.{Contains-append_left, Contains-append_right}
 use Rattle.im_digest.specs.Digests.{Hash}
-use Rattle.im_model.specs.Entries.{entry_string, entry_digest, entry_strings}
+use Rattle.im_model.specs.Entries.{entry_string, entry_digest, entry_strings, EntryFits}
 use Rattle.im_model.specs.Paths.{path_length, up, up_strings}
 use Rattle.im_model.specs.declared.entries.Entry.{Entry}
 use Rattle.im_model.proofs.Lengths.{path-fits}
-use Rattle.im_pairs.specs.Ranges.{EntryFits}
 use Rattle.im_pairs.proofs.PairLemmas.{IsPair-more, digests-reversed}
 use Rattle.im_pairs.proofs.EntryLemmas.{entry-parts, entry-read}
 use Rattle.im_forge.specs.Same.{IsSame, IsCompared}

@@ -1,12 +1,12 @@
 -- The turns of a walk along two paths of one leaf number, from the leaves up.
 use Rattle.std.proofs.Common.{◌≡◌, ◌≢◌, ◌<◌, ◌≤◌, length, ℕ, ◌-◌, List, [], ◌∷◌, ◌++◌, drop, reverse, refl, arith, ap, subst, ◌∙◌, sym, Contains, inl, inr}
 use Rattle.std.proofs.lemmas.List.Elements.{All-head, All-tail, Contains-append_left, Contains-append_right}
-use Rattle.im_digest.specs.Digests.{Hash}
+use Rattle.im_digest.specs.Digests.{Hash, GivesDigests}
 use Rattle.im_model.specs.Trees.{leaf, leaf_string, node_string, split_of}
 use Rattle.im_model.specs.Paths.{IsPath, up_string, up_strings}
 use Rattle.im_model.proofs.Steps.{up-leaf, ups-leaf}
 use Rattle.im_model.proofs.Reversed.{reverse-last}
-use Rattle.im_pairs.specs.Pairs.{GivesDigests, AreAmong, IsPair}
+use Rattle.im_pairs.specs.Pairs.{AreAmong, IsPair}
 use Rattle.im_pairs.proofs.PairLemmas.{node_parts, AreAmong-both, IsPair-more}
 use Rattle.im_pairs.proofs.UpLemmas.{AtLeft, AtRight, at-node, top-among}
 use Rattle.im_forge.specs.Parted.{ArePaths, IsParted, IsOver}

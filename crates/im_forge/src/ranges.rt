@@ -1,6 +1,7 @@
 ghost use Rattle.std.specs.Prelude.{◌≡◌, ◌<◌, ◌^◌, FitsSigned, length};
 ghost use Rattle.std.specs.Int.{w64};
-ghost use Rattle.im_pairs.specs.Ranges.{HeaderFits, EntryFits};
+ghost use Rattle.im_model.specs.Entries.{EntryFits};
+ghost use Rattle.im_pairs.specs.Ranges.{HeaderFits};
 
 use im_digest::D32;
 use im_model::entries::Entry;

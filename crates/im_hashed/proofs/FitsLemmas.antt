@@ -7,7 +7,8 @@ use Rattle.im_model.specs.declared.entries.Entry.{Entry}
 use Rattle.im_model.specs.declared.headers.Header.{Header}
 use Rattle.im_proof.specs.declared.proofs.DualProof.{DualProof}
 use Rattle.im_pairs.specs.Pairs as pairs
-use Rattle.im_pairs.specs.Ranges.{HeaderFits, EntryFits}
+use Rattle.im_model.specs.Entries.{EntryFits}
+use Rattle.im_pairs.specs.Ranges.{HeaderFits}
 use Rattle.im_carried.specs.Hashed.{DualFits}
 use Rattle.im_wire.specs.Fits.{AreDigestOctets, AreDigestLists, IsSigned, IsHeader, IsEntryInRange, IsDualProof}
 

@@ -1,12 +1,10 @@
 -- The strings of a consistency list, the root's nodes last.
-use Rattle.std.proofs.Common.{◌≡◌, ◌<◌, ◌≤◌, ◌&&◌, ℕ, ◌-◌, List, [], ◌∷◌, ◌++◌, Bool, true, false, length, reverse, nat_lt, if◌then◌else◌, arith, ap, sym, ◌∙◌}
-use Rattle.std.proofs.lemmas.Bool.{lt-ltb, le-ltb}
+use Rattle.std.proofs.Common.{◌≡◌, ◌<◌, ◌≤◌, ℕ, ◌-◌, List, [], ◌∷◌, ◌++◌, length, reverse, arith, ap, sym, ◌∙◌}
 use Rattle.im_digest.specs.Digests.{Hash}
 use Rattle.im_model.specs.Trees.{node_string, split_of}
-use Rattle.im_model.specs.Growth.{older, newer, grow_strings, consistency_strings}
+use Rattle.im_model.specs.Growth.{older, newer, grow_strings}
 use Rattle.im_model.proofs.Reversed.{reverse-last, reverse-nothing}
 use Rattle.im_model.proofs.Steps.{grows-first, grows-left, grows-right}
-use Rattle.im_carried.specs.Hashed.{grown_strings}
 use Rattle.im_hashed.specs.Added.{AddsStrings}
 use Rattle.im_hashed.proofs.AddLemmas.{adds-as, adds-none, adds-then, adds-swapped}
 
@@ -44,21 +42,3 @@ grows-below hash m n k first term o w terms front a b c cut same side old new be
     ∙ ap (λ (x : List ℕ). node_string term o ∷ node_string term x ∷ lower) (sym new) in
     adds-as a c (node_string term o ∷ node_string term w ∷ lower) (grow_strings hash m n first (reverse terms)) (sym all)
     (adds-swapped a c lower (node_string term o ∷ node_string term w ∷ []) (adds-then a b c lower (node_string term o ∷ node_string term w ∷ []) below top))
-
--- no list is due
-pub grown-not_due : (hash : Hash) (m n : ℕ) (list : List (List ℕ)) → (nat_lt 0 m && nat_lt m n) ≡ false → [] ≡ grown_strings hash m n list
-grown-not_due hash m n list e = ap (λ (b : Bool). if b then consistency_strings hash m n list else []) (sym e)
-
-pub grown-of_none : (hash : Hash) (m n : ℕ) (list a : List (List ℕ)) → m ≡ 0 → AddsStrings a a (grown_strings hash m n list)
-grown-of_none hash m n list a z = adds-as a a [] (grown_strings hash m n list) (grown-not_due hash m n list (ap (λ (b : Bool). b && nat_lt m n) (le-ltb 0 m (omega arith)))) (adds-none a)
-
-pub grown-of_same : (hash : Hash) (m n : ℕ) (list a : List (List ℕ)) → 0 < m → n ≤ m → AddsStrings a a (grown_strings hash m n list)
-grown-of_same hash m n list a some past =
-    adds-as a a [] (grown_strings hash m n list)
-    (grown-not_due hash m n list (ap (λ (b : Bool). b && nat_lt m n) (lt-ltb 0 m some) ∙ le-ltb m n past)) (adds-none a)
-
--- one is
-pub grown-due : (hash : Hash) (m n : ℕ) (list a b : List (List ℕ)) → 0 < m → m < n → AddsStrings a b (consistency_strings hash m n list) → AddsStrings a b (grown_strings hash m n list)
-grown-due hash m n list a b some less h =
-    let due : (nat_lt 0 m && nat_lt m n) ≡ true = ap (λ (t : Bool). t && nat_lt m n) (lt-ltb 0 m some) ∙ lt-ltb m n less in
-    adds-as a b (consistency_strings hash m n list) (grown_strings hash m n list) (ap (λ (t : Bool). if t then consistency_strings hash m n list else []) (sym due)) h

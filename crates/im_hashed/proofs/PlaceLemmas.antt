@@ -3,31 +3,21 @@ use Rattle.std.specs.BTreeMap.{BTreeMap, IsEmpty}
 use Rattle.std.specs.Borrow.{Bor}
 use Rattle.std.specs.Map.{update}
 use Rattle.std.specs.Str.{bytes_eq}
-use Rattle.std.proofs.Common.{◌≡◌, ◌≢◌, ◌⊎◌, inl, inr, ◌<◌, ◌≤◌, ◌+◌, ℕ, List, [], length, map, get_or, arith, refl, sym, ◌∙◌, ap, subst, true, false, Bool, Option, Some, None, cond, Contains}
+use Rattle.std.proofs.Common.{◌≡◌, ◌≢◌, inl, inr, ◌<◌, ◌≤◌, ◌+◌, ℕ, List, [], length, map, get_or, arith, refl, sym, ◌∙◌, ap, subst, Option, Some, None, Contains}
 use Rattle.std.specs.Prelude.{IfSome}
 use Rattle.std.proofs.lemmas.List.{get_or_default, get_or-map, length-map}
-use Rattle.std.proofs.lemmas.Bool.{both_ways, cases_lt}
-use Rattle.std.proofs.lemmas.Slice.Eq.{bytes_eq-Decides}
+use Rattle.std.proofs.lemmas.Bool.{cases_lt}
 use Rattle.im_octet.proofs.Common.{some-is}
 use Rattle.im_digest.specs.Digests.{Hash}
 use Rattle.im_pairs.specs.Pairs.{IsPair, HasPair}
-use Rattle.im_hashed.specs.Places.{place_in, string_at}
+use Rattle.im_octet.proofs.PlaceLemmas.{put-cases}
+use Rattle.im_octet.specs.Places.{place_in}
+use Rattle.im_hashed.specs.Places.{string_at}
 
 -- a look-up gives, for the digest of each of the first n strings, the place of an equal one, and for no other digest any
 pub record ArePlaces (hash : Hash) (strings : List (List ℕ)) (n : ℕ) (find : List ℕ → Option ℕ) : Type 0 where
   pub found : (digest : List ℕ) (i : ℕ) → find digest ≡ Some i → (i < n) × (hash (string_at strings i) ≡ digest)
   pub known : (i : ℕ) → i < n → (k : ℕ) × (find (hash (string_at strings i)) ≡ Some k) × (string_at strings k ≡ string_at strings i)
-
--- what a look-up gives after a digest was put at place n
-put-cases : (find : List ℕ → Option ℕ) (put digest : List ℕ) (n : ℕ)
-    → ((put ≡ digest) × (update bytes_eq find put (Some n) digest ≡ Some n)) ⊎ ((put ≢ digest) × (update bytes_eq find put (Some n) digest ≡ find digest))
-put-cases find put digest n =
-    let decided = bytes_eq-Decides put digest in
-    elim (bytes_eq put digest) as (λ (b : Bool). bytes_eq put digest ≡ b
-    → ((put ≡ digest) × (cond b (Some n) (find digest) ≡ Some n)) ⊎ ((put ≢ digest) × (cond b (Some n) (find digest) ≡ find digest))) [
-      | true ↦ λ t. inl (decided.0 t, refl)
-      | false ↦ λ f. inr (λ same. both_ways (bytes_eq put digest) f (decided.1 same), refl)
-    ] refl
 
 -- no place at first
 places-none : (hash : Hash) (strings : List (List ℕ)) (find : List ℕ → Option ℕ) → ((digest : List ℕ) → find digest ≡ None) → ArePlaces hash strings 0 find

@@ -1,5 +1,6 @@
 ghost use Rattle.std.specs.Prelude.{◌≡◌, ◌≢◌, ◌<◌, IfOk, IfSome, IfNone, OnOk, Some, length, map};
-ghost use Rattle.im_hashed.specs.Places.{place_in, PutsPlace, string_at};
+ghost use Rattle.im_octet.specs.Places.{place_in, PutsPlace};
+ghost use Rattle.im_hashed.specs.Places.{string_at};
 
 use im_digest::{D32, Hash32};
 use im_forge::strings::digest_of;

@@ -5,5 +5,4 @@ pub mod Kept
 pub mod Made
 pub mod Phases
 pub mod Pieces
-pub mod Sample
 pub mod Values

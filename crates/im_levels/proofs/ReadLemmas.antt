@@ -50,15 +50,6 @@ leveled-parts hash leaves digests slice size view is same f =
     let g : IsLeveled hash leaves (stored digests size) = subst (λ v. IsLeveled hash leaves v) (sym is) f in
     (g.counted, subst (λ d. AreStored hash leaves d) (sym same) g.rooted)
 
--- the first leaves have no more whole subtrees than there are digests
-pub first-inside : (n size : ℕ) (digests slice : List (List ℕ)) (view : Stored) → stored digests size ≡ view → slice ≡ digests → length digests ≡ whole size → n ≤ view.size
-    → whole n ≤ length slice
-first-inside n size digests slice view is same filled within =
-    let sized : size ≡ view.size = ap (λ v. v.size) is in
-    let long : length slice ≡ length digests = ap (λ l. length l) same in
-    let more : whole n ≤ whole size = whole-more n size (omega arith) in
-    omega arith
-
 -- fewer leaves have no more whole subtrees than there are digests
 pub whole-fits : (m n len : ℕ) → m ≤ n → whole n ≤ len → whole m ≤ len
 whole-fits m n len less fits =

@@ -1,9 +1,9 @@
-ghost use Rattle.std.specs.Prelude.{◌≡◌, ℕ, ◌≤◌, ◌+◌, List, length, take, drop, IfOk, IfSome, OnErr};
-ghost use Rattle.im_levels.specs.Leveled.{IsLeveled};
+ghost use Rattle.std.specs.Prelude.{◌≡◌, ◌≤◌, ◌+◌, length, take, drop, IfOk, IfSome, OnErr};
 ghost use Rattle.im_model.specs.History.{bl_root_of};
 ghost use Rattle.im_table.specs.Passes.{IsPassOf, IsPlacer, IsKeeper, Later, AddsNothing, AddsLeaves, tree_role};
 ghost use Rattle.im_linker.specs.Trees.{alhs_in, IsRootOf, IsTreeOf};
 
+use im_atree::roots::root_of;
 use im_atree::trees::Tree;
 use im_digest::{D32, Hash32};
 use im_table::law::Law;
@@ -175,16 +175,4 @@ fn kept_root<H: Hash32>(hash: &H, tree: &Tree, kept: Option<D32>) -> D32
         Some(root) => root,
         None => root_of(hash, tree),
     }
-}
-
-// The root of a tree, 32 zeros where it has no leaf.
-fn root_of<H: Hash32>(hash: &H, tree: &Tree) -> D32
-    ensures { (leaves : List (List ℕ)) → IsLeveled (H.digest hash.now) leaves tree.now
-        → result ≡ bl_root_of (H.digest hash.now) leaves (length leaves) }
-{
-    let size = tree.size();
-    if size == 0 {
-        return [0; 32];
-    }
-    tree.root_at(hash, size)
 }

@@ -1,7 +1,7 @@
 -- What was acknowledged, behind any run.
 use Rattle.std.proofs.Common.{◌≡◌, ◌≤◌, ◌++◌, ◌∷◌, ◌∙◌, [], ℕ, List, length, take, All, refl, sym, ap, arith, inl, inr}
 use Rattle.std.proofs.lemmas.List.{length-take-le}
-use Rattle.im_digest.specs.Digests.{Hash}
+use Rattle.im_digest.specs.Digests.{Hash, GivesDigests}
 use Rattle.im_disk.specs.Disk.{Files, Images}
 use Rattle.im_format.specs.Standing.{Stands, StandsFrom}
 use Rattle.im_machine.specs.Machines.{start, Machine}
@@ -12,7 +12,6 @@ use Rattle.im_machine.specs.declared.events.Event.TheVariants as on
 use Rattle.im_machine.specs.declared.outputs.Output.{Output}
 use Rattle.im_machine.specs.declared.outputs.Output.TheVariants as tells
 use Rattle.im_machine_laws.specs.Events.{IsEvent}
-use Rattle.im_machine_laws.specs.Reached.{Gives32}
 use Rattle.im_machine_laws.proofs.OpenLemmas.{sound-start}
 use Rattle.im_machine_laws.proofs.RunLemmas.{sound-run, stays-run, Stays}
 use Rattle.im_machine_laws.proofs.Sound.{IsSound}
@@ -67,7 +66,7 @@ told-on hash m end number header stays before behind told =
     }
 
 -- behind a run in which it was told
-module _ (hash : Hash) (before behind : List Event) (told answered : List Output) (session number : ℕ) (header : Header) (end : Machine) (gives : Gives32 hash)
+module _ (hash : Hash) (before behind : List Event) (told answered : List Output) (session number : ℕ) (header : Header) (end : Machine) (gives : GivesDigests hash)
     (each : All IsEvent (before ++ on.Ack session number ∷ behind)) (many : length told ≡ length before)
     (run : Run hash start (before ++ on.Ack session number ∷ behind) (told ++ tells.Header header ∷ answered) end) where
   abbrev parts : Splits hash start before told (on.Ack session number ∷ behind) (tells.Header header ∷ answered) end

@@ -1,7 +1,7 @@
 -- What a batch leaves whose gate isn't written.
 use Rattle.std.proofs.Common.{◌≡◌, ◌≤◌, ◌+◌, ◌∙◌, [], ℕ, List, length, take, true, false, ap, subst, arith, inl, inr, Option, Some, None}
 use Rattle.std.proofs.lemmas.List.{length-take-le}
-use Rattle.im_digest.specs.Digests.{Hash}
+use Rattle.im_digest.specs.Digests.{Hash, GivesDigests}
 use Rattle.im_disk.specs.Disk.{seen, Files, Images}
 use Rattle.im_disk.specs.Records.{files_of, told_of}
 use Rattle.im_format.specs.Standing.{Stands}
@@ -17,7 +17,6 @@ use Rattle.im_machine.specs.declared.events.Event.TheVariants as on
 use Rattle.im_machine.specs.declared.outputs.Output.TheVariants as tells
 use Rattle.im_machine.specs.Kept.{IsDone}
 use Rattle.im_machine_laws.specs.Gates.{IsUngated}
-use Rattle.im_machine_laws.specs.Reached.{Gives32}
 use Rattle.im_machine_laws.proofs.Sound.{kept_as, telling, IsAsFar, IsHeld, IsSound}
 use Rattle.im_model.specs.declared.transactions.Transaction.{Transaction}
 
@@ -45,7 +44,7 @@ ungated-images hash m image s up going ungated now =
     ungated-by hash m m.progress h.0 image h.1 ungated now
 
 -- so an opening of what a crash left gives that
-opened-ungated : (hash : Hash) (m next : Machine) (number : ℕ) (history : List Transaction) → Gives32 hash → Stands hash (seen m.disk) history → Steps hash m on.Open (tells.Opened number) next
+opened-ungated : (hash : Hash) (m next : Machine) (number : ℕ) (history : List Transaction) → GivesDigests hash → Stands hash (seen m.disk) history → Steps hash m on.Open (tells.Opened number) next
     → number ≡ length history
 opened-ungated hash m next number history gives stands (inl is) =
     let same : is.1.0 ≡ history = stands-once hash (seen m.disk) is.1.0 history (record { long = gives }) is.1.1 stands in
@@ -55,7 +54,7 @@ opened-ungated hash m next number history gives stands (inl is) =
 opened-ungated hash m next number history gives stands (inr denied) =
     absurd (let answered : tells.Opened number ≡ tells.NotAllowed = denied.1 in let never : ⊥ = cc in never)
 
-pub crash-ungated : (hash : Hash) (m down next : Machine) (image : List (List ℕ)) (number : ℕ) → Gives32 hash → IsSound hash m → m.up ≡ true → m.stopped ≡ false → IsUngated m m.progress
+pub crash-ungated : (hash : Hash) (m down next : Machine) (image : List (List ℕ)) (number : ℕ) → GivesDigests hash → IsSound hash m → m.up ≡ true → m.stopped ≡ false → IsUngated m m.progress
     → Steps hash m (on.Crash image) tells.Done down → Steps hash down on.Open (tells.Opened number) next → number ≡ m.durable
 crash-ungated hash m down next image number gives s up going ungated (inl is) opens =
     let left : Machine = record m { disk = told_of image []; up = false } in

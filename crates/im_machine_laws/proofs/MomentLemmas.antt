@@ -1,7 +1,7 @@
 -- What each image stands for at every moment of a step.
 use Rattle.std.proofs.Common.{◌≡◌, ◌≤◌, ℕ, List, true, false, Bool, refl, sym, ap, subst, arith, inl, inr, Option, Some, None}
 use Rattle.std.specs.Prelude.{◌⊎◌}
-use Rattle.im_digest.specs.Digests.{Hash}
+use Rattle.im_digest.specs.Digests.{Hash, GivesDigests}
 use Rattle.im_disk.specs.Disk.{after, Files, Images, Told}
 use Rattle.im_disk.specs.Moments.{Leaves}
 use Rattle.im_disk.specs.declared.calls.Call.{Call}
@@ -18,7 +18,6 @@ use Rattle.im_machine.specs.declared.outputs.Output.TheVariants as tells
 use Rattle.im_machine.specs.declared.words.Word.{Word}
 use Rattle.im_machine.specs.declared.words.Word.TheVariants.{Placed, Durable, Linked, Indexed, Failed}
 use Rattle.im_machine_laws.specs.Events.{IsEvent}
-use Rattle.im_machine_laws.specs.Reached.{Gives32}
 use Rattle.im_machine_laws.proofs.DeviceLemmas.{one-more}
 use Rattle.im_machine_laws.proofs.OpenLemmas.{open-holds, open-leaves}
 use Rattle.im_machine_laws.proofs.RunLemmas.{sound-step, stays-step, Stays}
@@ -74,7 +73,7 @@ one-loaded hash m next session Indexed output does = one-same m m next does.1 re
 one-loaded hash m next session Failed output does = one-same m m next does.1 refl
 
 -- the moments of a step behind which each image has P
-leaves-does : (hash : Hash) (m next : Machine) (event : Event) (output : Output) → Gives32 hash → IsSound hash m → Allows hash m event → Does hash m event output next
+leaves-does : (hash : Hash) (m next : Machine) (event : Event) (output : Output) → GivesDigests hash → IsSound hash m → Allows hash m event → Does hash m event output next
     → ((image : List (List ℕ)) → event ≡ on.Crash image → ⊥) → ((image : Files) → Images next.disk image → StandsFrom hash m.durable next.placed image)
     → Leaves (StandsFrom hash m.durable next.placed) (Some m.disk) (Some next.disk)
 leaves-does hash m next (on.Place session ts asked) output gives s may does other images =
@@ -99,7 +98,7 @@ leaves-does hash m next on.Open output gives s may does other images =
 pub weaker : (hash : Hash) (history : List Transaction) (least more : ℕ) (image : Files) → least ≤ more → StandsFrom hash more history image → StandsFrom hash least history image
 weaker hash history least more image le from = record { count = from.count; no_fewer = omega (arith, le, from.no_fewer); no_more = from.no_more; stands = from.stands }
 
-pub leaves-step : (hash : Hash) (m next : Machine) (event : Event) (output : Output) → Gives32 hash → IsSound hash m → IsEvent event → Steps hash m event output next
+pub leaves-step : (hash : Hash) (m next : Machine) (event : Event) (output : Output) → GivesDigests hash → IsSound hash m → IsEvent event → Steps hash m event output next
     → ((image : List (List ℕ)) → event ≡ on.Crash image → ⊥) → Leaves (StandsFrom hash m.durable next.placed) (Some m.disk) (Some next.disk)
 leaves-step hash m next event output gives s e (inl is) other =
     let behind : IsSound hash next = sound-step hash m next event output gives s e (inl is) in

@@ -1,7 +1,7 @@
 -- An event has one answer, and one machine behind it.
 use Rattle.std.proofs.Common.{◌≡◌, ◌+◌, ◌∙◌, ℕ, List, length, take, true, false, Bool, sym, ap, subst, inl, inr, Option, Some, None}
 use Rattle.im_octet.proofs.Common.{some-is}
-use Rattle.im_digest.specs.Digests.{Hash}
+use Rattle.im_digest.specs.Digests.{Hash, GivesDigests}
 use Rattle.im_disk.specs.Disk.{seen}
 use Rattle.im_disk.specs.declared.calls.Call.{Call}
 use Rattle.im_disk.specs.declared.calls.Call.TheVariants.{Wrote}
@@ -19,7 +19,6 @@ use Rattle.im_machine.specs.declared.outputs.Output.{Output}
 use Rattle.im_machine.specs.declared.outputs.Output.TheVariants as tells
 use Rattle.im_machine.specs.declared.questions.KeyQuestion.{KeyQuestion}
 use Rattle.im_machine.specs.declared.questions.KeyQuestion.TheVariants as reads
-use Rattle.im_machine_laws.specs.Reached.{Gives32}
 use Rattle.im_machine_laws.proofs.BatchLemmas.{records-once}
 use Rattle.im_model.specs.declared.transactions.Transaction.{Transaction}
 use Rattle.im_opening.proofs.BatchesSame.{batches-read}
@@ -82,7 +81,7 @@ one-shown history (reads.Scan prefix) a b x y = scan-unique history prefix a b x
 one-shown history (reads.Versions key) a b x y = x ∙ sym y
 
 -- what is opened of files
-one-open : (hash : Hash) (m a b : Machine) (told too : Output) → Gives32 hash → Does hash m on.Open told a → Does hash m on.Open too b → AreOne told too a b
+one-open : (hash : Hash) (m a b : Machine) (told too : Output) → GivesDigests hash → Does hash m on.Open told a → Does hash m on.Open too b → AreOne told too a b
 one-open hash m a b told too gives x y =
     let history : y.0 ≡ x.0 = stands-once hash (seen m.disk) y.0 x.0 (record { long = gives }) y.1 x.1 in
     let batches : y.1.batches ≡ x.1.batches =
@@ -91,7 +90,7 @@ one-open hash m a b told too gives x y =
       x.3 ∙ ap (λ (l : List Transaction). opened m l x.1.batches) (sym history) ∙ ap (λ (l : List (List Record)). opened m y.0 l) (sym batches) ∙ sym y.3,
     )
 
-one-does : (hash : Hash) (m a b : Machine) (event : Event) (told too : Output) → Gives32 hash → Does hash m event told a → Does hash m event too b → AreOne told too a b
+one-does : (hash : Hash) (m a b : Machine) (event : Event) (told too : Output) → GivesDigests hash → Does hash m event told a → Does hash m event too b → AreOne told too a b
 one-does hash m a b (on.Place session ts asked) told too gives x y = one-place hash m a b _ (place_refusal m.placed asked.pres) told too x y
 one-does hash m a b (on.Stage last fails) told too gives x y = one-stage hash m a b last fails m.progress told too x y
 one-does hash m a b (on.Seal fails) told too gives x y = one-seal m a b fails m.progress told too x y
@@ -109,7 +108,7 @@ one-does hash m a b (on.Prove session question) told too gives x y = both-are _ 
 one-does hash m a b (on.Crash image) told too gives x y = both-are _ told too _ a b x y
 one-does hash m a b on.Open told too gives x y = one-open hash m a b told too gives x y
 
-pub one-step : (hash : Hash) (m a b : Machine) (event : Event) (told too : Output) → Gives32 hash → Steps hash m event told a → Steps hash m event too b → AreOne told too a b
+pub one-step : (hash : Hash) (m a b : Machine) (event : Event) (told too : Output) → GivesDigests hash → Steps hash m event told a → Steps hash m event too b → AreOne told too a b
 one-step hash m a b event told too gives (inl x) (inl y) = one-does hash m a b event told too gives x.1 y.1
 one-step hash m a b event told too gives (inl x) (inr denied) = absurd (denied.0 x.0)
 one-step hash m a b event told too gives (inr denied) (inl y) = absurd (denied.0 y.0)

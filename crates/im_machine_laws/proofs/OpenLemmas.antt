@@ -5,7 +5,7 @@ use Rattle.std.proofs.lemmas.List.{length-take-le, take_all}
 use Rattle.std.specs.Prelude.{nat_eq, nat_le, slice_index_or}
 use Rattle.im_alog.proofs.Outcomes.{keeps_long}
 use Rattle.im_alog.proofs.Torn.{keeps_all, written_reads}
-use Rattle.im_digest.specs.Digests.{Hash}
+use Rattle.im_digest.specs.Digests.{Hash, GivesDigests}
 use Rattle.im_disk.specs.Disk.{after, seen, Files, Images, Told, TornFile}
 use Rattle.im_disk.specs.Moments.{Leaves}
 use Rattle.im_disk.specs.Records.{files_of, told_of}
@@ -30,7 +30,6 @@ use Rattle.im_journal.proofs.Prefixes.{octets_more}
 use Rattle.im_journal.proofs.Torn.{same_safe}
 use Rattle.im_machine.specs.Machines.{blank, disk_opened, is_cut, opened, start, Machine}
 use Rattle.im_machine.proofs.StartLemmas.{stands-none}
-use Rattle.im_machine_laws.specs.Reached.{Gives32}
 use Rattle.im_machine_laws.proofs.DeviceLemmas.{far-images, one-more}
 use Rattle.im_machine_laws.proofs.Sound.{IsAsFar, IsSound}
 use Rattle.im_model.specs.declared.transactions.Transaction.{Transaction}
@@ -193,13 +192,13 @@ pub record IsFront (m : Machine) (history : List Transaction) : Type 0 where
   pub front : history ≡ take count m.placed
   pub size : length history ≡ count
 
-pub front-of : (hash : Hash) (m : Machine) → Gives32 hash → IsSound hash m → m.up ≡ false → StandsFrom hash m.durable m.placed (seen m.disk)
+pub front-of : (hash : Hash) (m : Machine) → GivesDigests hash → IsSound hash m → m.up ≡ false → StandsFrom hash m.durable m.placed (seen m.disk)
 front-of hash m gives s down =
     let files = s.closed down in
     let Q : Told → Type 0 = λ t. Images t (seen t) in
     s.images (seen m.disk) (subst Q (sym files.1) (λ k. refl))
 
-pub front-is : (hash : Hash) (m : Machine) (history : List Transaction) → Gives32 hash → IsSound hash m → m.up ≡ false → Stands hash (seen m.disk) history → IsFront m history
+pub front-is : (hash : Hash) (m : Machine) (history : List Transaction) → GivesDigests hash → IsSound hash m → m.up ≡ false → Stands hash (seen m.disk) history → IsFront m history
 front-is hash m history gives s down stands =
     let from : StandsFrom hash m.durable m.placed (seen m.disk) = front-of hash m gives s down in
     let same : history ≡ take from.count m.placed = stands-once hash (seen m.disk) history (take from.count m.placed) (record { long = gives }) stands from.stands in
@@ -215,7 +214,7 @@ abbrev batch_none : List (List Record) → Batch
 batch_none batches = record { step = Idle; pieces = []; written = 0; ends = ends_of batches; count = 0 }
 
 -- opening
-pub sound-open : (hash : Hash) (m : Machine) (history : List Transaction) → Gives32 hash → IsSound hash m → m.up ≡ false → (stands : Stands hash (seen m.disk) history)
+pub sound-open : (hash : Hash) (m : Machine) (history : List Transaction) → GivesDigests hash → IsSound hash m → m.up ≡ false → (stands : Stands hash (seen m.disk) history)
     → IsSound hash (opened m history stands.batches)
 sound-open hash m history gives s down stands =
     let files = s.closed down in
@@ -253,7 +252,7 @@ open-leaves hash m history s down stands =
     subst L (sym files.1) (λ f. opened-leaves hash files.0 history f) stands
 
 -- which holds all that was durable
-pub open-holds : (hash : Hash) (m : Machine) (history : List Transaction) → Gives32 hash → IsSound hash m → m.up ≡ false → (stands : Stands hash (seen m.disk) history)
+pub open-holds : (hash : Hash) (m : Machine) (history : List Transaction) → GivesDigests hash → IsSound hash m → m.up ≡ false → (stands : Stands hash (seen m.disk) history)
     → Leaves (StandsFrom hash m.durable history) (Some m.disk) (Some (disk_opened (gate_of (length stands.batches)) m.disk))
 open-holds hash m history gives s down stands =
     let found : IsFront m history = front-is hash m history gives s down stands in
@@ -278,5 +277,5 @@ sound-blank hash = record {
 }
 
 -- every run begins so
-pub sound-start : (hash : Hash) → Gives32 hash → IsSound hash start
+pub sound-start : (hash : Hash) → GivesDigests hash → IsSound hash start
 sound-start hash gives = sound-open hash blank [] gives (sound-blank hash) refl (stands-none hash)

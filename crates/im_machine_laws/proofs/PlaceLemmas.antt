@@ -1,5 +1,5 @@
 -- Placing a transaction.
-use Rattle.std.proofs.Common.{◌≡◌, ◌≤◌, ◌<◌, ◌+◌, ◌++◌, ◌∷◌, ◌∙◌, [], ℤ, suc, List, length, true, refl, sym, subst, arith, Option, Some, None, length-append, if◌then◌else◌}
+use Rattle.std.proofs.Common.{◌≡◌, ◌≤◌, ◌<◌, ◌+◌, ◌++◌, ◌∷◌, [], ℤ, List, length, true, refl, sym, subst, arith, Option, Some, None, length-append}
 use Rattle.std.specs.Int.{w64}
 use Rattle.std.specs.Prelude.{FitsSigned}
 use Rattle.im_digest.specs.Digests.{Hash}
@@ -13,7 +13,7 @@ use Rattle.im_model.specs.declared.transactions.Transaction.{Transaction}
 use Rattle.im_tx.specs.Asked.{Asked, IsAsked}
 use Rattle.im_versions.specs.Admits.{place_refusal}
 use Rattle.im_versions.specs.declared.refusals.PlaceError.{PlaceError}
-use Rattle.im_model.proofs.HistoryLemmas.{Follow-onward}
+use Rattle.im_model.proofs.HistoryLemmas.{last-least, Follow-behind}
 use Rattle.im_versions.proofs.RoomLemmas.{admitted-room}
 
 -- what is placed is a history with it
@@ -35,7 +35,7 @@ history-more hash m ts asked s fits is none =
     } in
     record {
       few = omega (arith, room, length-append m.placed one);
-      follow = Follow-onward 0 0 m.placed tx s.history.follow (omega arith) s.order.least limits;
+      follow = Follow-behind 0 0 m.placed tx s.history.follow (last-least 0 m.linked m.placed (omega arith) s.order.least) limits;
     }
 
 -- it is placed, or refused

@@ -1,7 +1,7 @@
 -- Steps and runs.
 use Rattle.std.proofs.Common.{◌≡◌, ◌≤◌, ◌++◌, ◌∷◌, ◌∙◌, [], ℕ, suc, List, length, take, All, true, false, Bool, refl, sym, ap, subst, arith, inl, inr, Option, Some, None}
 use Rattle.std.proofs.lemmas.List.{take-append-le, take-take}
-use Rattle.im_digest.specs.Digests.{Hash}
+use Rattle.im_digest.specs.Digests.{Hash, GivesDigests}
 use Rattle.im_disk.specs.declared.calls.Call.{Call}
 use Rattle.im_machine.specs.Allowed.{Allows, MayCall}
 use Rattle.im_machine.specs.Machines.{fresh, start, Machine, Progress}
@@ -14,7 +14,7 @@ use Rattle.im_machine.specs.declared.outputs.Output.TheVariants as tells
 use Rattle.im_machine.specs.declared.words.Word.{Word}
 use Rattle.im_machine.specs.declared.words.Word.TheVariants.{Placed, Durable, Linked, Indexed, Failed}
 use Rattle.im_machine_laws.specs.Events.{IsEvent}
-use Rattle.im_machine_laws.specs.Reached.{Gives32, IsReached}
+use Rattle.im_machine_laws.specs.Reached.{IsReached}
 use Rattle.im_machine_laws.proofs.DeviceLemmas.{sound-gate, sound-seal, sound-settle, sound-stage}
 use Rattle.im_machine_laws.proofs.OpenLemmas.{front-is, sound-open, sound-start, IsFront}
 use Rattle.im_machine_laws.proofs.PlaceLemmas.{history-more, sound-place}
@@ -29,7 +29,7 @@ held-of : (hash : Hash) (m : Machine) → IsSound hash m → MayCall m → IsHel
 held-of hash m s may = s.held may.up may.going
 
 -- what an allowed event does keeps what holds
-sound-does : (hash : Hash) (m next : Machine) (event : Event) (output : Output) → Gives32 hash → IsSound hash m → IsEvent event → Allows hash m event → Does hash m event output next
+sound-does : (hash : Hash) (m next : Machine) (event : Event) (output : Output) → GivesDigests hash → IsSound hash m → IsEvent event → Allows hash m event → Does hash m event output next
     → IsSound hash next
 sound-does hash m next (on.Place session ts asked) output gives s e may does =
     let tx : Transaction = record { ts = ts; entries = asked.entries; bl = m.linked } in
@@ -53,12 +53,12 @@ sound-does hash m next (on.Crash image) output gives s e may does = subst (IsSou
 sound-does hash m next on.Open output gives s e may does = subst (IsSound hash) (sym does.3) (sound-open hash m does.0 gives s may.0 does.1)
 
 -- so does each step
-pub sound-step : (hash : Hash) (m next : Machine) (event : Event) (output : Output) → Gives32 hash → IsSound hash m → IsEvent event → Steps hash m event output next → IsSound hash next
+pub sound-step : (hash : Hash) (m next : Machine) (event : Event) (output : Output) → GivesDigests hash → IsSound hash m → IsEvent event → Steps hash m event output next → IsSound hash next
 sound-step hash m next event output gives s e (inl is) = sound-does hash m next event output gives s e is.0 is.1
 sound-step hash m next event output gives s e (inr denied) = subst (IsSound hash) (sym denied.2) s
 
 -- and each run
-pub sound-run : (hash : Hash) (m : Machine) (events : List Event) (outputs : List Output) (end : Machine) → Gives32 hash → IsSound hash m → All IsEvent events → Run hash m events outputs end
+pub sound-run : (hash : Hash) (m : Machine) (events : List Event) (outputs : List Output) (end : Machine) → GivesDigests hash → IsSound hash m → All IsEvent events → Run hash m events outputs end
     → IsSound hash end
 sound-run hash m [] [] end gives s each run = subst (IsSound hash) (sym run) s
 sound-run hash m [] (o ∷ outputs) end gives s each run = absurd run
@@ -67,7 +67,7 @@ sound-run hash m (e ∷ events) (o ∷ outputs) end gives s each run =
     sound-run hash run.0 events outputs end gives (sound-step hash m run.0 e o gives s (each 0 e (omega arith)) run.1) (λ i d less. each (suc i) d (omega (arith, less))) run.2
 
 -- and every machine that events lead to has it
-pub sound-reached : (hash : Hash) (m : Machine) → Gives32 hash → IsReached hash m → IsSound hash m
+pub sound-reached : (hash : Hash) (m : Machine) → GivesDigests hash → IsReached hash m → IsSound hash m
 sound-reached hash m gives r = sound-run hash start r.events r.outputs m gives (sound-start hash gives) r.each r.run
 
 -- what is durable isn't less behind, and its transactions are the same
@@ -121,7 +121,7 @@ stays-loaded m next session Linked output hash does = stays-as m m next does.1 (
 stays-loaded m next session Indexed output hash does = stays-as m m next does.1 (stays-same m)
 stays-loaded m next session Failed output hash does = stays-as m m next does.1 (stays-same m)
 
-stays-opened : (hash : Hash) (m next : Machine) (output : Output) → Gives32 hash → IsSound hash m → m.up ≡ false → Does hash m on.Open output next → Stays m next
+stays-opened : (hash : Hash) (m next : Machine) (output : Output) → GivesDigests hash → IsSound hash m → m.up ≡ false → Does hash m on.Open output next → Stays m next
 stays-opened hash m next output gives s down does =
     let found : IsFront m does.0 = front-is hash m does.0 gives s down does.1 in
     subst (Stays m) (sym does.3) (record {
@@ -129,7 +129,7 @@ stays-opened hash m next output gives s down does =
       same = ap (λ (l : List Transaction). take m.durable l) found.front ∙ take-take m.durable found.count m.placed found.no_fewer;
     })
 
-stays-does : (hash : Hash) (m next : Machine) (event : Event) (output : Output) → Gives32 hash → IsSound hash m → Allows hash m event → Does hash m event output next → Stays m next
+stays-does : (hash : Hash) (m next : Machine) (event : Event) (output : Output) → GivesDigests hash → IsSound hash m → Allows hash m event → Does hash m event output next → Stays m next
 stays-does hash m next (on.Place session ts asked) output gives s may does =
     let tx : Transaction = record { ts = ts; entries = asked.entries; bl = m.linked } in
     stays-placed hash m next tx (place_refusal m.placed asked.pres) output s.order.durable_placed does
@@ -147,7 +147,7 @@ stays-does hash m next (on.Prove session question) output gives s may does = sta
 stays-does hash m next (on.Crash image) output gives s may does = subst (Stays m) (sym does.1) (record { more = omega arith; same = refl })
 stays-does hash m next on.Open output gives s may does = stays-opened hash m next output gives s may.0 does
 
-pub stays-step : (hash : Hash) (m next : Machine) (event : Event) (output : Output) → Gives32 hash → IsSound hash m → Steps hash m event output next → Stays m next
+pub stays-step : (hash : Hash) (m next : Machine) (event : Event) (output : Output) → GivesDigests hash → IsSound hash m → Steps hash m event output next → Stays m next
 stays-step hash m next event output gives s (inl is) = stays-does hash m next event output gives s is.0 is.1
 stays-step hash m next event output gives s (inr denied) = stays-as m m next denied.2 (stays-same m)
 
@@ -159,7 +159,7 @@ stays-on m next end first rest =
       same = sym (cut end.placed) ∙ ap (λ (l : List Transaction). take m.durable l) rest.same ∙ cut next.placed ∙ first.same;
     }
 
-pub stays-run : (hash : Hash) (m : Machine) (events : List Event) (outputs : List Output) (end : Machine) → Gives32 hash → IsSound hash m → All IsEvent events → Run hash m events outputs end
+pub stays-run : (hash : Hash) (m : Machine) (events : List Event) (outputs : List Output) (end : Machine) → GivesDigests hash → IsSound hash m → All IsEvent events → Run hash m events outputs end
     → Stays m end
 stays-run hash m [] [] end gives s each run = stays-as m m end run (stays-same m)
 stays-run hash m [] (o ∷ outputs) end gives s each run = absurd run
@@ -169,7 +169,7 @@ stays-run hash m (e ∷ events) (o ∷ outputs) end gives s each run =
     (stays-run hash run.0 events outputs end gives (sound-step hash m run.0 e o gives s (each 0 e (omega arith)) run.1) (λ i d less. each (suc i) d (omega (arith, less))) run.2)
 
 -- what is opened is a front part of what was placed, which holds what was durable
-pub opened-number : (hash : Hash) (m next : Machine) (number : ℕ) → Gives32 hash → IsSound hash m → Steps hash m on.Open (tells.Opened number) next
+pub opened-number : (hash : Hash) (m next : Machine) (number : ℕ) → GivesDigests hash → IsSound hash m → Steps hash m on.Open (tells.Opened number) next
     → (m.durable ≤ number) × (number ≤ length m.placed) × (next.placed ≡ take number m.placed) × (next.durable ≡ number)
 opened-number hash m next number gives s (inl is) =
     let does = is.1 in

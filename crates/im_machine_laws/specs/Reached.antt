@@ -1,15 +1,11 @@
 -- Machines that runs lead to.
-use Rattle.std.specs.Prelude.{◌≡◌, ℕ, List, length, All}
+use Rattle.std.specs.Prelude.{List, All}
 use Rattle.im_digest.specs.Digests.{Hash}
 use Rattle.im_machine.specs.Machines.{start, Machine}
 use Rattle.im_machine.specs.Runs.{Run}
 use Rattle.im_machine.specs.declared.events.Event.{Event}
 use Rattle.im_machine.specs.declared.outputs.Output.{Output}
 use Rattle.im_machine_laws.specs.Events.{IsEvent}
-
--- each digest has 32 octets
-abbrev pub Gives32 : Hash → Type 0
-Gives32 hash = (octets : List ℕ) → length (hash octets) ≡ 32
 
 -- some list of events leads from the start to this machine
 pub record IsReached (hash : Hash) (m : Machine) : Type 0 where

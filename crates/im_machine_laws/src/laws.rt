@@ -11,8 +11,8 @@ ghost use Rattle.im_machine.specs.declared.outputs.Output.{Output as TheOutput};
 ghost use Rattle.im_machine.specs.declared.outputs.Output.TheVariants as tells;
 ghost use Rattle.im_machine_laws.specs.Events.{IsEvent};
 ghost use Rattle.im_machine_laws.specs.Gates.{IsUngated};
-ghost use Rattle.im_machine_laws.specs.Reached.{Gives32, IsReached};
-ghost use Rattle.im_digest.specs.Digests.{Hash};
+ghost use Rattle.im_digest.specs.Digests.{GivesDigests, Hash};
+ghost use Rattle.im_machine_laws.specs.Reached.{IsReached};
 ghost use Rattle.im_disk.specs.Disk.{seen, Files, Images};
 ghost use Rattle.im_disk.specs.Moments.{Leaves};
 ghost use Rattle.im_format.specs.Standing.{Stands, StandsFrom};
@@ -24,11 +24,11 @@ ghost use Rattle.im_model.specs.declared.transactions.Transaction.{Transaction a
 /// the history that each image stands for which a crash may leave from then on.
 pub fn what_is_acknowledged_stays()
     ensures placed { (hash : Hash) (before behind : List TheEvent) (told answered : List TheOutput) (session number : ℕ) (header : TheHeader) (end : Machine)
-        → Gives32 hash → All IsEvent (before ++ on.Ack session number ∷ behind) → length told ≡ length before
+        → GivesDigests hash → All IsEvent (before ++ on.Ack session number ∷ behind) → length told ≡ length before
         → Run hash start (before ++ on.Ack session number ∷ behind) (told ++ tells.Header header ∷ answered) end
         → (1 ≤ number) × (number ≤ end.durable) × (header ≡ header_of hash end.placed number) }
     ensures on_disk { (hash : Hash) (before behind : List TheEvent) (told answered : List TheOutput) (session number : ℕ) (header : TheHeader) (end : Machine) (image : Files)
-        → Gives32 hash → All IsEvent (before ++ on.Ack session number ∷ behind) → length told ≡ length before
+        → GivesDigests hash → All IsEvent (before ++ on.Ack session number ∷ behind) → length told ≡ length before
         → Run hash start (before ++ on.Ack session number ∷ behind) (told ++ tells.Header header ∷ answered) end → Images end.disk image
         → (history : List TheTransaction) × Stands hash image history × (number ≤ length history) × (header ≡ header_of hash history number) }
 {}
@@ -36,8 +36,8 @@ pub fn what_is_acknowledged_stays()
 /// Each image that a crash may leave stands for a front part of the placed history that holds all that is durable; and so does each
 /// image of each moment within a step, before and behind every call of the disk.
 pub fn each_image_holds_what_is_durable()
-    ensures now { (hash : Hash) (m : Machine) (image : Files) → Gives32 hash → IsReached hash m → Images m.disk image → StandsFrom hash m.durable m.placed image }
-    ensures at_every_moment { (hash : Hash) (m next : Machine) (event : TheEvent) (output : TheOutput) → Gives32 hash → IsReached hash m → IsEvent event
+    ensures now { (hash : Hash) (m : Machine) (image : Files) → GivesDigests hash → IsReached hash m → Images m.disk image → StandsFrom hash m.durable m.placed image }
+    ensures at_every_moment { (hash : Hash) (m next : Machine) (event : TheEvent) (output : TheOutput) → GivesDigests hash → IsReached hash m → IsEvent event
         → Steps hash m event output next → ((image : List (List ℕ)) → event ≡ on.Crash image → ⊥)
         → Leaves (StandsFrom hash m.durable next.placed) (Some m.disk) (Some next.disk) }
 {}
@@ -45,33 +45,33 @@ pub fn each_image_holds_what_is_durable()
 /// Behind a crash the files stand for a front part of the history that was placed, which holds all that was durable; so opening is
 /// allowed, and it gives that front part.
 pub fn a_crash_can_be_opened()
-    ensures allowed { (hash : Hash) (m : Machine) → Gives32 hash → IsReached hash m → m.up ≡ false → (history : List TheTransaction) × Stands hash (seen m.disk) history }
-    ensures opened { (hash : Hash) (m next : Machine) (number : ℕ) → Gives32 hash → IsReached hash m → Steps hash m on.Open (tells.Opened number) next
+    ensures allowed { (hash : Hash) (m : Machine) → GivesDigests hash → IsReached hash m → m.up ≡ false → (history : List TheTransaction) × Stands hash (seen m.disk) history }
+    ensures opened { (hash : Hash) (m next : Machine) (number : ℕ) → GivesDigests hash → IsReached hash m → Steps hash m on.Open (tells.Opened number) next
         → (m.durable ≤ number) × (number ≤ length m.placed) × (next.placed ≡ take number m.placed) × (next.durable ≡ number) }
     // At every moment of it, too, each image stands for just what is opened.
-    ensures at_every_moment { (hash : Hash) (m next : Machine) (number : ℕ) → Gives32 hash → IsReached hash m → Steps hash m on.Open (tells.Opened number) next
+    ensures at_every_moment { (hash : Hash) (m next : Machine) (number : ℕ) → GivesDigests hash → IsReached hash m → Steps hash m on.Open (tells.Opened number) next
         → Leaves (λ image. Stands hash image next.placed) (Some m.disk) (Some next.disk) }
 {}
 
 /// While the machine is up, its disk may be called and the gate of a batch isn't written, each image stands for what is durable and for
 /// no more; so an opening behind a crash then gives just that.
 pub fn a_closed_gate_keeps_its_batch_out()
-    ensures images { (hash : Hash) (m : Machine) (image : Files) → Gives32 hash → IsReached hash m → m.up ≡ true → m.stopped ≡ false → IsUngated m m.progress → Images m.disk image
+    ensures images { (hash : Hash) (m : Machine) (image : Files) → GivesDigests hash → IsReached hash m → m.up ≡ true → m.stopped ≡ false → IsUngated m m.progress → Images m.disk image
         → Stands hash image (take m.durable m.placed) }
-    ensures opened { (hash : Hash) (m down next : Machine) (image : List (List ℕ)) (number : ℕ) → Gives32 hash → IsReached hash m → m.up ≡ true → m.stopped ≡ false → IsUngated m m.progress
+    ensures opened { (hash : Hash) (m down next : Machine) (image : List (List ℕ)) (number : ℕ) → GivesDigests hash → IsReached hash m → m.up ≡ true → m.stopped ≡ false → IsUngated m m.progress
         → Steps hash m (on.Crash image) tells.Done down → Steps hash down on.Open (tells.Opened number) next → number ≡ m.durable }
 {}
 
 /// What is placed is a history; what is linked and what is indexed is durable, and what is durable is placed. What a session was told
 /// is durable.
 pub fn numbers_keep_their_order()
-    ensures { (hash : Hash) (m : Machine) (session : ℕ) → Gives32 hash → IsReached hash m
+    ensures { (hash : Hash) (m : Machine) (session : ℕ) → GivesDigests hash → IsReached hash m
         → IsHistory m.placed × (m.linked ≤ m.durable) × (m.indexed ≤ m.durable) × (m.durable ≤ length m.placed) × (m.sessions session ≤ m.durable) }
 {}
 
 /// What is durable never becomes less, behind crashes too, and the first transactions that are durable stay what they are.
 pub fn what_is_durable_stays()
-    ensures { (hash : Hash) (m next : Machine) (event : TheEvent) (output : TheOutput) → Gives32 hash → IsReached hash m → Steps hash m event output next
+    ensures { (hash : Hash) (m next : Machine) (event : TheEvent) (output : TheOutput) → GivesDigests hash → IsReached hash m → Steps hash m event output next
         → (m.durable ≤ next.durable) × (take m.durable next.placed ≡ take m.durable m.placed) }
 {}
 
@@ -84,12 +84,12 @@ pub fn only_a_settled_batch_is_durable()
 
 /// An event that is allowed where it stands has an answer, and a machine behind it: no case of the step is empty.
 pub fn an_allowed_event_is_answered()
-    ensures { (hash : Hash) (m : Machine) (event : TheEvent) → Gives32 hash → IsReached hash m → Allows hash m event
+    ensures { (hash : Hash) (m : Machine) (event : TheEvent) → GivesDigests hash → IsReached hash m → Allows hash m event
         → (output : TheOutput) × (next : Machine) × Does hash m event output next }
 {}
 
 /// And each event has one: a batch's records, the batches that files stand by and what is shown of keys are each one.
 pub fn one_answer()
-    ensures { (hash : Hash) (m one other : Machine) (event : TheEvent) (told told_too : TheOutput) → Gives32 hash
+    ensures { (hash : Hash) (m one other : Machine) (event : TheEvent) (told told_too : TheOutput) → GivesDigests hash
         → Steps hash m event told one → Steps hash m event told_too other → (told ≡ told_too) × (one ≡ other) }
 {}

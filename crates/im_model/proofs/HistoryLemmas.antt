@@ -1,10 +1,10 @@
 -- Histories that grow and are cut, and the number of their Alh.
-use Rattle.std.proofs.Common.{◌≡◌, ◌<◌, ◌≤◌, length, ℕ, suc, zero, ◌+◌, ◌-◌, ◌==◌, if◌then◌else◌, ne_eqb, ap, List, [], ◌∷◌, ◌++◌, take, arith, subst, ◌∙◌, sym, get_or, length-append, zero-add, All}
+use Rattle.std.proofs.Common.{◌≡◌, ◌<◌, ◌≤◌, length, ℕ, suc, zero, ◌+◌, ◌-◌, ◌==◌, if◌then◌else◌, ne_eqb, ap, List, [], ◌∷◌, ◌++◌, take, arith, subst, ◌∙◌, sym, get_or, length-append, zero-add, All, refl}
 use Rattle.std.proofs.Math.Seq.{take-length}
 use Rattle.std.proofs.lemmas.List.{length-take, length-take-le}
 use Rattle.im_digest.specs.Digests.{Hash}
 use Rattle.im_model.specs.Headers.{alh}
-use Rattle.im_model.specs.History.{next_header, alh_of, alhs_from, alhs_of, bl_root_of, first_alh, no_digest, Follow, IsTransaction, IsHistory}
+use Rattle.im_model.specs.History.{next_header, alh_of, alhs_from, alhs_of, bl_root_of, first_alh, last_bl_or, no_digest, Follow, IsTransaction, IsHistory}
 use Rattle.im_model.specs.Trees.{root}
 use Rattle.im_model.specs.declared.transactions.Transaction.{Transaction}
 
@@ -32,17 +32,21 @@ Follow-take n bl txs zero f = tt
 Follow-take n bl [] (suc i) f = tt
 Follow-take n bl (tx ∷ txs) (suc i) f = (f.0, f.1, Follow-take (n + 1) tx.bl txs i f.2)
 
--- a transaction with no links behind others with none
-pub Follow-next : (n bl : ℕ) (txs : List Transaction) (tx : Transaction) → Follow n bl txs → bl ≡ 0 → All (λ t. t.bl ≡ 0) txs → IsTransaction (n + length txs) tx → Follow n bl (txs ++ tx ∷ [])
-Follow-next n bl [] tx f none unlinked is =
+-- a transaction behind others, over a tree no smaller than that of the last
+pub Follow-behind : (n bl : ℕ) (txs : List Transaction) (tx : Transaction) → Follow n bl txs → last_bl_or bl txs ≤ tx.bl → IsTransaction (n + length txs) tx → Follow n bl (txs ++ tx ∷ [])
+Follow-behind n bl [] tx f over is =
     let same : n + 0 ≡ n = omega arith in
     let P : ℕ → Type 0 = λ m. IsTransaction m tx in
-    (subst P same is, omega arith, tt)
-Follow-next n bl (t ∷ txs) tx f none unlinked is =
+    (subst P same is, over, tt)
+Follow-behind n bl (t ∷ txs) tx f over is =
     let same : n + suc (length txs) ≡ n + 1 + length txs = omega arith in
     let P : ℕ → Type 0 = λ m. IsTransaction m tx in
-    let head : t.bl ≡ 0 = unlinked 0 t (omega arith) in
-    (f.0, f.1, Follow-next (n + 1) t.bl txs tx f.2 head (λ i d h. unlinked (suc i) d (omega arith)) (subst P same is))
+    (f.0, f.1, Follow-behind (n + 1) t.bl txs tx f.2 over (subst P same is))
+
+-- the last tree is that of the transaction that was placed last
+pub last-bl-behind : (bl : ℕ) (history : List Transaction) (tx : Transaction) → last_bl_or bl (history ++ tx ∷ []) ≡ tx.bl
+last-bl-behind bl [] tx = refl
+last-bl-behind bl (t ∷ txs) tx = last-bl-behind t.bl txs tx
 
 -- the first transactions of a history are one
 pub IsHistory-take : (txs : List Transaction) (i : ℕ) → IsHistory txs → IsHistory (take i txs)
@@ -61,17 +65,10 @@ length-alhs_from hash alhs (tx ∷ txs) =
 pub length-alhs_of : (hash : Hash) (txs : List Transaction) → length (alhs_of hash txs) ≡ length txs
 length-alhs_of hash txs = length-alhs_from hash [] txs ∙ zero-add (length txs)
 
--- a transaction behind others that were placed over no larger trees
-pub Follow-onward : (n bl : ℕ) (txs : List Transaction) (tx : Transaction) → Follow n bl txs → bl ≤ tx.bl → All (λ t. t.bl ≤ tx.bl) txs → IsTransaction (n + length txs) tx → Follow n bl (txs ++ tx ∷ [])
-Follow-onward n bl [] tx f below each is =
-    let same : n + 0 ≡ n = omega arith in
-    let P : ℕ → Type 0 = λ m. IsTransaction m tx in
-    (subst P same is, below, tt)
-Follow-onward n bl (t ∷ txs) tx f below each is =
-    let same : n + suc (length txs) ≡ n + 1 + length txs = omega arith in
-    let P : ℕ → Type 0 = λ m. IsTransaction m tx in
-    let head : t.bl ≤ tx.bl = each 0 t (omega arith) in
-    (f.0, f.1, Follow-onward (n + 1) t.bl txs tx f.2 head (λ i d h. each (suc i) d (omega arith)) (subst P same is))
+-- the last transaction's tree is within what each one's is
+pub last-least : (bl most : ℕ) (txs : List Transaction) → bl ≤ most → All (λ t. t.bl ≤ most) txs → last_bl_or bl txs ≤ most
+last-least bl most [] le each = le
+last-least bl most (t ∷ txs) le each = last-least t.bl most txs (each 0 t (omega arith)) (λ i d lt. each (suc i) d (omega (arith, lt)))
 
 -- no transaction of a history has a larger tree than the whole
 pub linked-all : (txs : List Transaction) → IsHistory txs → All (λ (tx : Transaction). tx.bl ≤ length txs) txs

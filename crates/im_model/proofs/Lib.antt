@@ -1,3 +1,4 @@
+pub mod CountLemmas
 pub mod HeaderLemmas
 pub mod HistoryLemmas
 pub mod Lengths

@@ -1,5 +1,5 @@
 -- The strings that are hashed for an entry (immudb's embedded store, header version 1).
-use Rattle.std.specs.Prelude.{ℕ, Bool, List, [], ◌∷◌, ◌++◌, length, if◌then◌else◌}
+use Rattle.std.specs.Prelude.{ℕ, ◌<◌, ◌^◌, Bool, List, [], ◌∷◌, ◌++◌, length, if◌then◌else◌}
 use Rattle.im_octet.specs.Fields.{field2}
 use Rattle.im_digest.specs.Digests.{Hash}
 use Rattle.im_model.specs.declared.entries.Entry.{Entry}
@@ -25,3 +25,8 @@ entry_digest hash entry = hash (entry_string hash entry)
 -- the strings that are hashed for an entry
 abbrev pub entry_strings : Hash → Entry → List (List ℕ)
 entry_strings hash entry = entry_string hash entry ∷ entry.value ∷ []
+
+-- the lengths of an entry's metadata and key fit their places in its string
+pub record EntryFits (entry : Entry) : Type 0 where
+  pub md : length entry.md < 2 ^ 16
+  pub key : length entry.key < 2 ^ 16

@@ -88,6 +88,11 @@ abbrev pub Follow : ℕ → ℕ → List Transaction → Type 0
 Follow before bl [] = Unit {0}
 Follow before bl (tx ∷ txs) = IsTransaction before tx × (bl ≤ tx.bl) × Follow (before + 1) tx.bl txs
 
+-- bl of the last of these transactions, and this one where there is none
+abbrev pub last_bl_or : ℕ → List Transaction → ℕ
+last_bl_or bl [] = bl
+last_bl_or bl (tx ∷ txs) = last_bl_or tx.bl txs
+
 -- a history within the limits
 pub record IsHistory (history : List Transaction) : Type 0 where
   pub few : length history ≤ 1048576

@@ -1,5 +1,5 @@
 -- Small facts of lists, options and results that many proofs share.
-use Rattle.std.proofs.Common.{◌≡◌, ◌≤◌, ◌+◌, ◌-◌, ℕ, suc, Bool, true, false, if◌then◌else◌, max, List, [], ◌∷◌, ◌++◌, zero, cond, filter, length, take, drop, get_or, refl, ap, subst, sym, ◌∙◌, arith, All, OnOk, Option, Some, Result, Ok, Err, not, ◌&&◌, ◌≢◌}
+use Rattle.std.proofs.Common.{◌≡◌, ◌≤◌, ◌+◌, ◌-◌, ℕ, suc, Bool, true, false, List, [], ◌∷◌, ◌++◌, zero, cond, filter, length, take, drop, get_or, refl, ap, subst, sym, ◌∙◌, arith, All, OnOk, Option, Some, Result, Ok, Err, not, ◌&&◌, ◌≢◌}
 use Rattle.std.specs.List.{last_or}
 use Rattle.std.specs.Ordering.{is_lt, is_eq, ordering_reverse}
 use Rattle.std.specs.declared.cmp.Ordering.{Ordering}
@@ -43,11 +43,6 @@ pub take-up : {X : Type 0} (xs : List X) (start end : ℕ) → start ≤ end →
 take-up xs start end up =
     let same : start + (end - start) ≡ end = omega arith in
     sym (take-add start (end - start) xs) ∙ ap (λ n. take n xs) same
-
--- the greatest of what is below a bound is below it
-pub max-below : (either : Bool) (a b bound : ℕ) → a ≤ bound → b ≤ bound → (if either then max a b else b) ≤ bound
-max-below true a b bound x y = omega (arith, x, y)
-max-below false a b bound x y = y
 
 -- equal lists have equal heads and equal rests
 pub heads-are : {A : Type 0} (x y : A) (xs ys : List A) → x ∷ xs ≡ y ∷ ys → x ≡ y

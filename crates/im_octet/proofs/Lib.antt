@@ -1,3 +1,4 @@
 pub mod Common
 pub mod FieldLemmas
 pub mod PartLemmas
+pub mod PlaceLemmas

@@ -48,10 +48,6 @@ part_behind old mid now front back n first second =
 pub part_within : (old now one two back : List ℕ) (n : ℕ) → now ≡ old ++ take n (one ++ two) → (k : ℕ) × (now ≡ old ++ take k (one ++ two ++ back))
 part_within old now one two back n e = part_front old now (one ++ two) back n e
 
--- and a front part of the third, behind the first two
-pub part_after : (old mid now one two back : List ℕ) (n : ℕ) → mid ≡ old ++ one ++ two → now ≡ mid ++ take n back → (k : ℕ) × (now ≡ old ++ take k (one ++ two ++ back))
-part_after old mid now one two back n first second = part_behind old mid now (one ++ two) back n (first ∙ append_assoc old one two) second
-
 -- and of the second of three, behind the first
 pub part_between : (old mid now one two back : List ℕ) (n : ℕ) → mid ≡ old ++ one → now ≡ mid ++ take n two → (k : ℕ) × (now ≡ old ++ take k (one ++ two ++ back))
 part_between old mid now one two back n first second =
@@ -75,12 +71,6 @@ pub behind-err : {T E : Type 0} (r : Result T E) (old mid now front back : List 
     → OnErr r ((k : ℕ) × (now ≡ old ++ take k (front ++ back)))
 behind-err (Ok x) old mid now front back first part = tt
 behind-err (Err e) old mid now front back first part = part_behind old mid now front back part.0 first part.1
-
--- of the third of three
-pub after-err : {T E : Type 0} (r : Result T E) (old mid now one two back : List ℕ) → mid ≡ old ++ one ++ two → OnErr r ((n : ℕ) × (now ≡ mid ++ take n back))
-    → OnErr r ((k : ℕ) × (now ≡ old ++ take k (one ++ two ++ back)))
-after-err (Ok x) old mid now one two back first part = tt
-after-err (Err e) old mid now one two back first part = part_after old mid now one two back part.0 first part.1
 
 -- of the fifth of five
 pub fifth-err : {T E : Type 0} (r : Result T E) (old mid now one two three four back : List ℕ) → mid ≡ old ++ one ++ two ++ three ++ four → OnErr r ((n : ℕ) × (now ≡ mid ++ take n back))

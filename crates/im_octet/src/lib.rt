@@ -1,4 +1,4 @@
-//! Octet strings, and numbers as big-endian fields of them.
+//! Octet strings, numbers as big-endian fields of them, and what maps from them to numbers have.
 #![tactic(auto)]
 
 pub mod bounded;

@@ -7,26 +7,15 @@ use Rattle.im_format.specs.Records.{AreRecords, AreReferences}
 use Rattle.im_format.specs.declared.records.Record.{Record}
 use Rattle.im_levels.specs.Leveled.{Stored, IsLeveled}
 use Rattle.im_model.specs.Headers.{alh}
-use Rattle.im_model.specs.History.{Follow, IsHistory, IsTransaction, alh_of, alhs_of, bl_root_of, first_alh, next_header, no_digest}
+use Rattle.im_model.specs.History.{Follow, IsHistory, IsTransaction, alh_of, alhs_of, bl_root_of, first_alh, last_bl_or, next_header, no_digest}
 use Rattle.im_model.specs.Trees.{root}
 use Rattle.im_model.specs.declared.transactions.Transaction.{Transaction}
 use Rattle.im_model.specs.declared.headers.Header.{Header}
 use Rattle.im_proof.specs.Built.{headers_of}
 use Rattle.im_model.proofs.HeaderLemmas.{alhs-next}
+use Rattle.im_model.proofs.HistoryLemmas.{last-bl-behind, Follow-behind}
 use Rattle.im_proof.proofs.HeaderLemmas.{headers-next as headers-behind}
-use Rattle.im_opening.specs.Reach.{AreReferred, IsConsistent, last_bl_from, txs_of}
-
-follow-next : (n bl : ℕ) (txs : List Transaction) (tx : Transaction) → Follow n bl txs → IsTransaction (n + length txs) tx → last_bl_from bl txs ≤ tx.bl → Follow n bl (txs ++ tx ∷ [])
-follow-next n bl [] tx h is rises =
-    let same : n + 0 ≡ n = omega arith in
-    (subst (λ k. IsTransaction k tx) same is, rises, tt)
-follow-next n bl (x ∷ txs) tx h is rises =
-    let same : n + suc (length txs) ≡ n + 1 + length txs = omega arith in
-    (h.0, h.1, follow-next (n + 1) x.bl txs tx h.2 (subst (λ k. IsTransaction k tx) same is) rises)
-
-last-next : (bl : ℕ) (txs : List Transaction) (tx : Transaction) → last_bl_from bl (txs ++ tx ∷ []) ≡ tx.bl
-last-next bl [] tx = refl
-last-next bl (x ∷ txs) tx = last-next x.bl txs tx
+use Rattle.im_opening.specs.Reach.{AreReferred, IsConsistent, txs_of}
 
 referred-next : (hash : Hash) (id : ℕ) (records : List Record) (r : Record) → AreReferred hash id records
     → AreReferences hash (id + length records) r.tx.entries r.refs → AreReferred hash id (records ++ r ∷ [])
@@ -57,8 +46,8 @@ consistent-next hash records alhs bl bl_root tree r next grown h few is rises re
     let there : Q (1 + length records) = subst Q {x = length alhs + 1} (omega arith) refer in
     record {
       few = omega (arith, few, length-append alhs (r.alh ∷ []));
-      follow = subst (Follow 0 0) (sym more) (follow-next 0 0 txs r.tx h.follow here (omega (arith, h.last, rises)));
-      last = ap (last_bl_from 0) more ∙ last-next 0 txs r.tx;
+      follow = subst (Follow 0 0) (sym more) (Follow-behind 0 0 txs r.tx h.follow (omega (arith, h.last, rises)) here);
+      last = ap (last_bl_or 0) more ∙ last-bl-behind 0 txs r.tx;
       linked = omega (arith, is.linked, length-append alhs (r.alh ∷ []));
       root_is = root ∙ sym (root-kept hash alhs r.alh r.tx.bl is.linked);
       tree_is = subst (λ (l : List (List ℕ)). IsLeveled hash l grown) (sym (take-append-le r.tx.bl alhs (r.alh ∷ []) is.linked)) whole;

@@ -12,10 +12,10 @@ use Rattle.im_format.specs.declared.records.Record.{Record}
 use Rattle.im_journal.specs.Pieces.{end_of}
 use Rattle.im_journal.specs.declared.ends.Ends.{Ends}
 use Rattle.im_levels.specs.Leveled.{IsLeveled}
-use Rattle.im_model.specs.History.{IsHistory, alhs_of}
+use Rattle.im_model.specs.History.{IsHistory, alhs_of, last_bl_or}
 use Rattle.im_proof.specs.Built.{headers_of}
 use Rattle.im_opening.specs.Parts.{batches_in, counted_end}
-use Rattle.im_opening.specs.Reach.{last_bl_from, txs_of}
+use Rattle.im_opening.specs.Reach.{txs_of}
 use Rattle.im_opening.specs.declared.found.FoundHistory.{FoundHistory}
 use Rattle.im_opening.specs.declared.reading.Opened.{Opened}
 
@@ -57,7 +57,7 @@ pub record IsOneHistory (hash : Hash) (found : FoundHistory) : Type 0 where
   pub records : AreRecords hash (txs_of found.records.items) 1 found.records.items
   pub headers : found.headers.items ≡ headers_of hash (txs_of found.records.items)
   pub alhs : found.alhs.items ≡ alhs_of hash (txs_of found.records.items)
-  pub last : found.tree.size ≡ last_bl_from 0 (txs_of found.records.items)
+  pub last : found.tree.size ≡ last_bl_or 0 (txs_of found.records.items)
   pub linked : found.tree.size ≤ length found.alhs.items
   pub tree : IsLeveled hash (take found.tree.size found.alhs.items) found.tree
 

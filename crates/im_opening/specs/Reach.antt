@@ -6,7 +6,7 @@ use Rattle.im_format.specs.Damages.{Reached, behind, behind_one}
 use Rattle.im_format.specs.Records.{AreReferences, records_octets}
 use Rattle.im_format.specs.declared.records.Record.{Record}
 use Rattle.im_levels.specs.Leveled.{Stored, IsLeveled}
-use Rattle.im_model.specs.History.{Follow, alhs_of, bl_root_of}
+use Rattle.im_model.specs.History.{Follow, alhs_of, bl_root_of, last_bl_or}
 use Rattle.im_model.specs.declared.transactions.Transaction.{Transaction}
 use Rattle.im_proof.specs.Built.{headers_of}
 use Rattle.im_record.specs.Back.{record_in}
@@ -21,11 +21,6 @@ reached_of p = record { alhs = p.alhs.items; bl = p.bl; place = p.place }
 abbrev pub txs_of : List Record → List Transaction
 txs_of records = map (λ r. r.tx) records
 
--- the size of the tree of the last transaction, or this where there is none
-abbrev pub last_bl_from : ℕ → List Transaction → ℕ
-last_bl_from bl [] = bl
-last_bl_from bl (tx ∷ txs) = last_bl_from tx.bl txs
-
 -- the references of records, from this ID on, are those of their values
 abbrev pub AreReferred : Hash → ℕ → List Record → Type 0
 AreReferred hash id [] = Unit {0}
@@ -36,7 +31,7 @@ AreReferred hash id (r ∷ rs) = AreReferences hash id r.tx.entries r.refs × Ar
 pub record IsConsistent (hash : Hash) (records : List Record) (alhs : List (List ℕ)) (bl : ℕ) (bl_root : List ℕ) (tree : Stored) : Type 0 where
   pub few : length alhs ≤ 1048576
   pub follow : Follow 0 0 (txs_of records)
-  pub last : last_bl_from 0 (txs_of records) ≡ bl
+  pub last : last_bl_or 0 (txs_of records) ≡ bl
   pub linked : bl ≤ length alhs
   pub root_is : bl_root ≡ bl_root_of hash alhs bl
   pub tree_is : IsLeveled hash (take bl alhs) tree

@@ -1,12 +1,11 @@
 -- The fields of an entry are read back from the strings that are hashed.
 use Rattle.std.proofs.Common.{◌≡◌, ◌⊎◌, length, ℕ, List, ◌++◌, refl, arith, ◌∙◌, sym, inl, inr, append_assoc}
 use Rattle.im_octet.specs.Fields.{field2}
-use Rattle.im_digest.specs.Digests.{Hash}
-use Rattle.im_model.specs.Entries.{entry_string, entry_digest, entry_strings}
+use Rattle.im_digest.specs.Digests.{Hash, GivesDigests}
+use Rattle.im_model.specs.Entries.{entry_string, entry_digest, entry_strings, EntryFits}
 use Rattle.im_model.specs.declared.entries.Entry.{Entry}
-use Rattle.im_pairs.specs.Pairs.{GivesDigests, HasPair, AreAmong}
+use Rattle.im_pairs.specs.Pairs.{HasPair, AreAmong}
 use Rattle.im_pairs.specs.Leads.{Leads}
-use Rattle.im_pairs.specs.Ranges.{EntryFits}
 use Rattle.im_pairs.proofs.PairLemmas.{parts, same_or_pair}
 use Rattle.im_octet.proofs.FieldLemmas.{length-field2, same-field2}
 use Rattle.im_pairs.proofs.UpLemmas.{same_lead}

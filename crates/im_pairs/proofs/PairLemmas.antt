@@ -82,10 +82,6 @@ AreAmong-cons x xs ys h t = λ y c. cons_at y c.0 c.1 c.2
 pub IsPair-more : (hash : Hash) (x y : List ℕ) (ss ts : List (List ℕ)) → AreAmong ss ts → IsPair hash x y ss → IsPair hash x y ts
 IsPair-more hash x y ss ts m p = record { unequal = p.unequal; same = p.same; left = m x p.left; right = m y p.right }
 
--- and keep what is among them
-pub AreAmong-more : (xs ss ts : List (List ℕ)) → AreAmong ss ts → AreAmong xs ss → AreAmong xs ts
-AreAmong-more xs ss ts m a = λ x c. m x (a x c)
-
 -- joined lists are among joined lists
 pub AreAmong-both : (xs ys ss ts : List (List ℕ)) → AreAmong xs ss → AreAmong ys ts → AreAmong (xs ++ ys) (ss ++ ts)
 AreAmong-both xs ys ss ts p q = λ x c. elim (Contains-append_cases xs ys x c) [

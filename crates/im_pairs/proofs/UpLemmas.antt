@@ -1,11 +1,11 @@
 -- A path at its node next to the root, and two paths of one leaf that give one root.
 use Rattle.std.proofs.Common.{◌≡◌, ◌⊎◌, ◌<◌, ◌≤◌, ℕ, ◌-◌, List, [], ◌∷◌, drop, refl, arith, ap, subst, ◌∙◌, sym, Contains, inl, inr, length}
 use Rattle.std.proofs.lemmas.List.Elements.{All-head, All-tail}
-use Rattle.im_digest.specs.Digests.{Hash}
+use Rattle.im_digest.specs.Digests.{Hash, GivesDigests}
 use Rattle.im_model.specs.Trees.{leaf_string, node_string, split_of}
 use Rattle.im_model.specs.Paths.{IsPath, up_string, up, up_strings}
 use Rattle.im_model.proofs.Steps.{up-leaf, up-left, up-right, ups-left, ups-right}
-use Rattle.im_pairs.specs.Pairs.{GivesDigests, AreDigests, HasPair, AreAmong}
+use Rattle.im_pairs.specs.Pairs.{AreDigests, HasPair, AreAmong}
 use Rattle.im_pairs.specs.Leads.{Leads}
 use Rattle.im_pairs.proofs.PairLemmas.{same_or_pair, same_node, AreAmong-head, AreAmong-tail}
 

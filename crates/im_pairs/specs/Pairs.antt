@@ -3,10 +3,6 @@
 use Rattle.std.specs.Prelude.{◌≡◌, ◌≢◌, ℕ, List, length, Contains, All}
 use Rattle.im_digest.specs.Digests.{Hash}
 
--- a hash function gives 32 octets
-abbrev pub GivesDigests : Hash → Type 0
-GivesDigests hash = (octets : List ℕ) → length (hash octets) ≡ 32
-
 -- each string has 32 octets
 abbrev pub AreDigests : List (List ℕ) → Type 0
 AreDigests digests = All (λ digest. length digest ≡ 32) digests

@@ -1,9 +1,8 @@
--- What the types say of a header and of an entry, where the strings that are hashed for them rest on it:
--- numbers fit their fields, and digests have 32 octets.
+-- What the types say of a header, where the strings that are hashed for it rest on it: numbers fit their
+-- fields, and digests have 32 octets.
 use Rattle.std.specs.Prelude.{◌≡◌, ◌<◌, ◌^◌, length, FitsSigned}
 use Rattle.std.specs.Int.{w64}
 use Rattle.im_model.specs.declared.headers.Header.{Header}
-use Rattle.im_model.specs.declared.entries.Entry.{Entry}
 
 -- each field of a header fits its place in the strings
 pub record HeaderFits (header : Header) : Type 0 where
@@ -16,8 +15,3 @@ pub record HeaderFits (header : Header) : Type 0 where
   pub md : length header.md < 2 ^ 16
   pub nentries : header.nentries < 2 ^ 32
   pub eh : length header.eh ≡ 32
-
--- the lengths of an entry's metadata and key fit their places in its string
-pub record EntryFits (entry : Entry) : Type 0 where
-  pub md : length entry.md < 2 ^ 16
-  pub key : length entry.key < 2 ^ 16

@@ -3,15 +3,15 @@
 //! gives 32 octets, it says so.
 
 ghost use Rattle.std.specs.Prelude.{◌≡◌, ◌⊎◌, ℕ, List, length, Contains};
-ghost use Rattle.im_digest.specs.Digests.{Hash};
+ghost use Rattle.im_digest.specs.Digests.{Hash, GivesDigests};
 ghost use Rattle.im_model.specs.Trees.{node, node_string};
-ghost use Rattle.im_model.specs.Entries.{entry_digest, entry_strings};
+ghost use Rattle.im_model.specs.Entries.{entry_digest, entry_strings, EntryFits};
 ghost use Rattle.im_model.specs.Headers.{alh, header_strings};
 ghost use Rattle.im_model.specs.declared.entries.Entry.{Entry};
 ghost use Rattle.im_model.specs.declared.headers.Header.{Header};
-ghost use Rattle.im_pairs.specs.Pairs.{GivesDigests, HasPair, AreAmong};
+ghost use Rattle.im_pairs.specs.Pairs.{HasPair, AreAmong};
 ghost use Rattle.im_pairs.specs.Leads.{Leads};
-ghost use Rattle.im_pairs.specs.Ranges.{HeaderFits, EntryFits};
+ghost use Rattle.im_pairs.specs.Ranges.{HeaderFits};
 
 /// Two nodes of one digest (RFC 6962, section 2.1) have equal children, or there are two unequal strings of
 /// one digest.

@@ -2,13 +2,13 @@
 use Rattle.std.proofs.Common.{◌≡◌, ◌<◌, ◌≤◌, length, ℕ, ◌-◌, List, [], ◌∷◌, refl, arith, ap, subst, ◌∙◌, sym, Contains, inl, inr}
 use Rattle.std.proofs.lemmas.Bool.{cases_lt}
 use Rattle.std.proofs.lemmas.List.Elements.{All-cons, All-head, All-tail}
-use Rattle.im_digest.specs.Digests.{Hash}
+use Rattle.im_digest.specs.Digests.{Hash, GivesDigests}
 use Rattle.im_model.specs.Trees.{node_string, split_of}
 use Rattle.im_model.specs.Paths.{IsPath, up_string, up, up_strings}
 use Rattle.im_model.specs.Growth.{IsGrowth, older, newer, grow_strings}
 use Rattle.im_model.proofs.TreeLemmas.{split-within, split-same}
 use Rattle.im_model.proofs.Steps.{up-left, up-right, ups-left, ups-right, older-first, newer-first, older-left, older-right, newer-left, newer-right, grows-left, grows-right}
-use Rattle.im_pairs.specs.Pairs.{GivesDigests, AreDigests, AreAmong}
+use Rattle.im_pairs.specs.Pairs.{AreDigests, AreAmong}
 use Rattle.im_pairs.specs.Leads.{Leads, Ends}
 use Rattle.im_pairs.proofs.PairLemmas.{same_node, AreAmong-head, AreAmong-tail, AreAmong-cons}
 use Rattle.im_pairs.proofs.UpLemmas.{at-node, top-among}

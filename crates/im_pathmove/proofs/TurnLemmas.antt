@@ -3,13 +3,12 @@ use Rattle.std.proofs.Common.{◌≡◌, ◌<◌, ◌≤◌, length, ℕ, suc, �
 use Rattle.std.proofs.lemmas.Result.{IfOk-weaker}
 use Rattle.std.proofs.lemmas.List.{length-reverse}
 use Rattle.std.proofs.lemmas.List.Elements.{All-head, Contains-append_left}
-use Rattle.im_digest.specs.Digests.{Hash}
+use Rattle.im_digest.specs.Digests.{Hash, GivesDigests}
 use Rattle.im_model.specs.Trees.{node, node_string, split_of}
 use Rattle.im_model.specs.Paths.{path_length, up, up_strings}
 use Rattle.im_model.specs.Growth.{IsConsistency, consistency_length, older, newer, grow_strings, older_root, newer_root, consistency_strings}
 use Rattle.im_model.proofs.Lengths.{path-fits, consistency-fits}
 use Rattle.im_model.proofs.Reversed.{reverse-last}
-use Rattle.im_pairs.specs.Pairs.{GivesDigests}
 use Rattle.im_pairs.specs.Leads.{Leads}
 use Rattle.im_pathmove.specs.Carried.{IsCarried, extended}
 use Rattle.im_pathmove.specs.Walked.{HaveShape, IsWalked, IsJoined, Picks}

@@ -1,14 +1,14 @@
 -- The turns of a walk from the root down along a path and a consistency list.
 use Rattle.std.proofs.Common.{◌≡◌, ◌<◌, ◌≤◌, length, ℕ, ◌-◌, List, [], ◌∷◌, ◌++◌, reverse, refl, arith, ap, subst, ◌∙◌, sym, Contains, inl, inr}
 use Rattle.std.proofs.lemmas.List.Elements.{All-head, All-tail, Contains-append_left, Contains-append_right}
-use Rattle.im_digest.specs.Digests.{Hash}
+use Rattle.im_digest.specs.Digests.{Hash, GivesDigests}
 use Rattle.im_model.specs.Trees.{node, node_string, split_of}
 use Rattle.im_model.specs.Paths.{IsPath, up_string, up, up_strings}
 use Rattle.im_model.specs.Growth.{IsGrowth, older, newer, grow_strings}
 use Rattle.im_model.proofs.TreeLemmas.{split-same}
 use Rattle.im_model.proofs.Steps.{older-first, newer-first, older-left, older-right, newer-left, newer-right, grows-left, grows-right}
 use Rattle.im_model.proofs.Reversed.{reverse-last}
-use Rattle.im_pairs.specs.Pairs.{GivesDigests, AreAmong, IsPair}
+use Rattle.im_pairs.specs.Pairs.{AreAmong, IsPair}
 use Rattle.im_pairs.specs.Leads.{Leads}
 use Rattle.im_pairs.proofs.PairLemmas.{node_parts, AreAmong-head, AreAmong-tail, AreAmong-both, IsPair-more}
 use Rattle.im_pairs.proofs.UpLemmas.{AtLeft, AtRight, at-node, top-among, Leads-more}

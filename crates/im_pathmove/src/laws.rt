@@ -1,9 +1,9 @@
 //! What holds of the definitions. The function does nothing, and its contract is the law.
 
 ghost use Rattle.std.specs.Prelude.{◌≡◌, ℕ, ◌<◌, List, length};
-ghost use Rattle.im_digest.specs.Digests.{Hash};
+ghost use Rattle.im_digest.specs.Digests.{Hash, GivesDigests};
 ghost use Rattle.im_model.specs.Growth.{IsGrowth, older, newer, grow_strings};
-ghost use Rattle.im_pairs.specs.Pairs.{GivesDigests, AreDigests, AreAmong};
+ghost use Rattle.im_pairs.specs.Pairs.{AreDigests, AreAmong};
 ghost use Rattle.im_pairs.specs.Leads.{Leads, Ends};
 
 /// A path that leads to the older root of a consistency list has one of the same leaf that leads to the newer

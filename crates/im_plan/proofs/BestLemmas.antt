@@ -1,23 +1,20 @@
 -- The index with the most leading columns bound.
-use Rattle.std.proofs.Common.{◌≡◌, ◌≤◌, ◌<◌, ◌+◌, ℕ, zero, suc, false, List, [], ◌∷◌, ◌++◌, length, take, get_or, All, Option, Some, None, MatchOption, sym, ap, ◌∙◌, subst, arith}
+use Rattle.std.proofs.Common.{◌≡◌, ◌≤◌, ◌<◌, ◌+◌, ℕ, zero, suc, false, List, [], ◌∷◌, length, take, get_or, All, Option, Some, None, MatchOption, sym, ap, ◌∙◌, subst, arith}
 use Rattle.std.proofs.lemmas.List.{take_all}
 use Rattle.std.proofs.lemmas.List.Elements.{All-more, All-weaker}
-use Rattle.std.specs.List.{AllZip, IsAmong}
+use Rattle.std.specs.List.{IsAmong}
 use Rattle.std.specs.Option.{IfSome, IfNone}
 use Rattle.im_model.specs.declared.transactions.Transaction.{Transaction}
 use Rattle.im_versions.specs.Versions.{last_version}
 use Rattle.im_versions.specs.declared.versions.Version.{Version}
 use Rattle.im_versions.proofs.ListLemmas.{All-among, among-first, among-rest}
-use Rattle.im_sqltype.specs.Texts.{row_text}
 use Rattle.im_sqlparse.specs.declared.statements.Condition.{Condition}
 use Rattle.im_sqlmodel.specs.Rows.{IndexesAre, IsIndexVersion}
 use Rattle.im_sqlmodel.specs.Kept.{IsTableOf, IsSqlIndexOf}
 use Rattle.im_sqlmodel.specs.declared.tables.SqlIndex.{SqlIndex}
 use Rattle.im_sqlmodel.specs.declared.tables.Table.{Table}
-use Rattle.im_catalog.specs.Rows.{entries_prefix}
 use Rattle.im_plan.specs.Bounds.{leading}
-use Rattle.im_plan.specs.Plans.{no_index, index_at, IsWay, IsBest}
-use Rattle.im_plan.specs.declared.ways.Way.TheVariants as way
+use Rattle.im_plan.specs.Plans.{no_index, index_at}
 use Rattle.im_plan.proofs.EntryLemmas.{zip-among}
 
 -- what stands in a list doesn't depend on what is taken behind its end
@@ -114,24 +111,3 @@ module _ (cs : List Condition) (t : Table) where
   pub best-if-none : (indexes : List SqlIndex) (least at most : ℕ) (best : Option ℕ) → length indexes ≤ at → Best indexes least at most best → IfNone best (All (λ i. bound_of i ≤ least) indexes)
   best-if-none indexes least at most None past h = best-none indexes least at most past h
   best-if-none indexes least at most (Some b) past h = tt
-
--- ---- the way
-
--- by an index, what it looks under is what the conditions say of its columns
-pub entries-way : (cs : List Condition) (t : Table) (indexes : List SqlIndex) (at : ℕ) (index : SqlIndex) (front : List ℕ) → at < length indexes → index ≡ get_or indexes at index
-    → front ≡ entries_prefix t index ++ row_text (leading cs t index.columns) → IsWay t indexes cs (way.Entries at front)
-entries-way cs t indexes at index front l is e =
-    (l, subst (λ (i : SqlIndex). front ≡ entries_prefix t i ++ row_text (leading cs t i.columns)) (index-is indexes at index l is) e)
-
--- and no other way has more columns bound
-pub entries-best : (cs : List Condition) (t : Table) (indexes : List SqlIndex) (least at : ℕ) (front : List ℕ) → least ≡ length (leading cs t t.key) → least < bound_of cs t (index_at indexes at)
-    → All (λ i. bound_of cs t i ≤ bound_of cs t (index_at indexes at)) indexes → IsBest t indexes cs (way.Entries at front)
-entries-best cs t indexes least at front is more most =
-    ((let low : length (leading cs t t.key) ≤ bound_of cs t (index_at indexes at) = omega (arith, is, more) in low), most)
-
-pub rows-best : (cs : List Condition) (t : Table) (indexes : List SqlIndex) (least : ℕ) (front : List ℕ) → least ≡ length (leading cs t t.key) → All (λ i. bound_of cs t i ≤ least) indexes
-    → IsBest t indexes cs (way.Rows front)
-rows-best cs t indexes least front is most = (
-  (let same : length (leading cs t t.key) ≤ length (leading cs t t.key) = omega arith in same),
-  subst (λ (n : ℕ). All (λ i. bound_of cs t i ≤ n) indexes) is most,
-)

@@ -4,7 +4,6 @@ use Rattle.std.proofs.lemmas.List.Kept.{AllPairs-filter}
 use Rattle.std.specs.List.{AllZip, IsAmong}
 use Rattle.im_model.specs.declared.transactions.Transaction.{Transaction}
 use Rattle.im_versions.specs.Versions.{IsBelow}
-use Rattle.im_versions.specs.declared.versions.Version.{Version}
 use Rattle.im_versions.proofs.ListLemmas.{among-cons, among-first, among-rest, among-filter, rising-unique}
 use Rattle.im_versions.proofs.VersionLemmas.{last-of-key, below-strict}
 use Rattle.im_sqlmodel.specs.Rows.{IsStoredRow, RowsAre, key_of}
@@ -12,6 +11,7 @@ use Rattle.im_sqlmodel.specs.declared.rows.StoredRow.{StoredRow}
 use Rattle.im_sqlmodel.specs.declared.tables.Table.{Table}
 use Rattle.im_catalog.specs.Rows.{RowAt}
 use Rattle.im_catalog.proofs.FrontLemmas.{among-kept}
+use Rattle.im_catalog.proofs.ThereLemmas.{no_version}
 
 -- the keys of rows
 abbrev pub KeysRise : Table → List StoredRow → Type 0
@@ -49,9 +49,6 @@ zip-length R [] [] h = refl
 zip-length R [] (y ∷ ys) h = absurd h
 zip-length R (x ∷ xs) [] h = absurd h
 zip-length R (x ∷ xs) (y ∷ ys) h = omega (arith, zip-length R xs ys h.1)
-
-abbrev pub no_version : Version
-no_version = record { tx = 0; deleted = true; key = []; value = [] }
 
 -- rows stand by rising key
 pub rows-rise : (history : List Transaction) (t : Table) (rows : List StoredRow) → RowsAre history t rows → KeysRise t rows

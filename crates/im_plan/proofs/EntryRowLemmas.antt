@@ -1,5 +1,5 @@
 -- What stands under the keys of an index where keys are SQL's: an entry of a row, and each row's once.
-use Rattle.std.proofs.Common.{◌≡◌, ◌≢◌, ◌≤◌, ◌<◌, ◌^◌, ◌⊎◌, inl, inr, ℕ, zero, suc, Bool, true, false, if◌then◌else◌, List, [], ◌∷◌, ◌++◌, length, drop, get_or, map, filter, All, AllPairs, Some, None, Vec, Global, refl, sym, ap, ap₂, ◌∙◌, subst, append_assoc, arith}
+use Rattle.std.proofs.Common.{◌≡◌, ◌≢◌, ◌≤◌, ◌<◌, ◌^◌, inl, inr, ℕ, suc, Bool, true, false, if◌then◌else◌, List, [], ◌∷◌, ◌++◌, length, drop, get_or, map, filter, All, AllPairs, Some, None, Vec, Global, refl, sym, ap, ◌∙◌, subst, append_assoc, arith}
 use Rattle.std.proofs.lemmas.Bool.{true≢false}
 use Rattle.std.proofs.lemmas.Cmp.{nat_list_cmp_total}
 use Rattle.std.proofs.lemmas.List.Elements.{All-from_recursion, recursion_from_All}
@@ -28,9 +28,9 @@ use Rattle.im_sqltype.specs.declared.values.Value.{Value}
 use Rattle.im_sqltype.proofs.FrontLemmas.{row-front}
 use Rattle.im_sqlmodel.specs.Keys.{tables_key, table_key, index_key, mark_key, rows_prefix, plain_prefix, unique_prefix}
 use Rattle.im_sqlmodel.specs.Tables.{kinds_of, index_text}
-use Rattle.im_sqlmodel.specs.Rows.{IsLiveAs, IsIndexVersion, IsStoredRow, RowsAre, columns_of, key_of}
+use Rattle.im_sqlmodel.specs.Rows.{IsLiveAs, IsStoredRow, RowsAre, columns_of, key_of}
 use Rattle.im_sqlmodel.specs.Writes.{entry_written}
-use Rattle.im_sqlmodel.specs.Kept.{IsTableOf, IsSqlIndexOf, IsRowOf, IsText, IsSqlSound}
+use Rattle.im_sqlmodel.specs.Kept.{IsSqlIndexOf, IsRowOf, IsText, IsSqlSound}
 use Rattle.im_sqlmodel.specs.declared.rows.StoredRow.{StoredRow}
 use Rattle.im_sqlmodel.specs.declared.tables.SqlIndex.{SqlIndex}
 use Rattle.im_sqlmodel.specs.declared.tables.Table.{Table}
@@ -41,8 +41,9 @@ use Rattle.im_catalog.proofs.FoundLemmas.{begins-is}
 use Rattle.im_catalog.proofs.FrontLemmas.{begins-from}
 use Rattle.im_catalog.proofs.OneLemmas.{one-index-version}
 use Rattle.im_catalog.proofs.TableLemmas.{tid-cut}
-use Rattle.im_plan.specs.Plans.{IsEntryOfRow, HasEntryText, IsKeyOfEntry}
-use Rattle.im_plan.proofs.EntryLemmas.{rows-by-keys, zip-among, zip-among-left, zip-at, zip-length, no_version}
+use Rattle.im_catalog.proofs.ThereLemmas.{no_version}
+use Rattle.im_plan.specs.Plans.{HasEntryText, IsKeyOfEntry}
+use Rattle.im_plan.proofs.EntryLemmas.{rows-by-keys, zip-among, zip-among-left, zip-at, zip-length}
 use Rattle.im_plan.proofs.ReachLemmas.{entry-parts}
 
 -- ---- the parts of an entry's key

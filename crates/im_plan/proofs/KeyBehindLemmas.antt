@@ -1,11 +1,11 @@
 -- The primary key in an entry of an index that isn't unique: behind the columns in its key.
-use Rattle.std.proofs.Common.{◌≡◌, ◌≤◌, ◌<◌, ◌+◌, ℕ, zero, suc, Bool, true, false, if◌then◌else◌, List, [], ◌∷◌, ◌++◌, length, drop, get_or, map, Some, None, refl, sym, ap, ap₂, ◌∙◌, subst, append_assoc, length-append, arith}
+use Rattle.std.proofs.Common.{◌≡◌, ◌≤◌, ◌<◌, ◌+◌, ℕ, zero, suc, Bool, true, false, if◌then◌else◌, List, [], ◌∷◌, ◌++◌, length, drop, get_or, map, Some, None, refl, sym, ap, ◌∙◌, append_assoc, length-append, arith}
 use Rattle.std.proofs.lemmas.Bool.{true≢false}
 use Rattle.std.proofs.lemmas.List.{length-map}
 use Rattle.std.proofs.lemmas.List.Concat.{flat_map-append}
 use Rattle.std.proofs.lemmas.List.Elements.{recursion_from_All}
 use Rattle.std.proofs.Math.Seq.{drop-append_seam}
-use Rattle.std.specs.List.{All, AllByRecursion}
+use Rattle.std.specs.List.{AllByRecursion}
 use Rattle.im_octet.specs.Fields.{field4}
 use Rattle.im_octet.proofs.FieldLemmas.{length-field4}
 use Rattle.im_versions.specs.declared.versions.Version.{Version}
@@ -17,8 +17,7 @@ use Rattle.im_sqltype.specs.declared.values.Value.TheVariants.{Null}
 use Rattle.im_sqltype.proofs.FrontLemmas.{row-front}
 use Rattle.im_sqlmodel.specs.Keys.{rows_prefix, plain_prefix}
 use Rattle.im_sqlmodel.specs.Tables.{IsTable, IsTableIndex, kinds_of}
-use Rattle.im_sqlmodel.specs.Rows.{columns_of, key_of}
-use Rattle.im_sqlmodel.specs.Writes.{entry_written}
+use Rattle.im_sqlmodel.specs.Rows.{columns_of}
 use Rattle.im_sqlmodel.specs.declared.tables.Column.{Column}
 use Rattle.im_sqlmodel.specs.declared.tables.SqlIndex.{SqlIndex}
 use Rattle.im_sqlmodel.specs.declared.tables.Table.{Table}

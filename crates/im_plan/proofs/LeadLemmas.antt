@@ -9,7 +9,7 @@ use Rattle.im_sqltype.specs.Texts.{value_text, row_text}
 use Rattle.im_sqltype.specs.declared.values.Value.{Value}
 use Rattle.im_sqltype.specs.declared.values.Value.TheVariants.{Null}
 use Rattle.im_sqlparse.specs.declared.statements.Condition.{Condition}
-use Rattle.im_sqlmodel.specs.Conditions.{named_of, scope_of, value_named, cell_at, place_of, meets}
+use Rattle.im_sqlmodel.specs.Conditions.{named_of, scope_of, value_named, cell_at, place_of}
 use Rattle.im_sqlmodel.specs.Options.{by_option}
 use Rattle.im_sqlmodel.specs.Rows.{columns_of}
 use Rattle.im_sqlmodel.specs.declared.tables.Column.{Column}

@@ -11,7 +11,8 @@ use Rattle.im_format.specs.Records.{entries_octets, entry_octets, head_octets, r
 use Rattle.im_format.specs.Spans.{octets_at}
 use Rattle.im_format.specs.declared.records.Record.{Record}
 use Rattle.im_format.specs.declared.references.ValueRef.{ValueRef}
-use Rattle.im_record.specs.Back.{AreEntriesOf, FitsEntry, FitsRecord, FitsRef, HasAt, IsEntryOf, IsReadAs}
+use Rattle.im_model.specs.Entries.{EntryFits}
+use Rattle.im_record.specs.Back.{AreEntriesOf, FitsRecord, FitsRef, HasAt, IsEntryOf, IsReadAs}
 use Rattle.im_record.specs.Slots.{ref_at}
 use Rattle.im_record.proofs.AtLemmas.{HasAt-front, HasAt-back, HasAt-moved, HasAt-within, number2-field, number4-field, number8-field, signed-field, octet-at}
 use Rattle.im_octet.proofs.FieldLemmas.{length-field2, length-field4, length-field8, length-signed}
@@ -70,7 +71,7 @@ ref-back log at ref fits h =
     ∙ ap (λ (x : ℕ). ref_of ref.hval ref.len x (number8 log (at + 37))) number
     ∙ ap (λ (x : ℕ). ref_of ref.hval ref.len ref.log x) place
 
-pub entry-back : (log : List ℕ) (at : ℕ) (entry : Entry) (ref : ValueRef) → FitsEntry entry → FitsRef ref
+pub entry-back : (log : List ℕ) (at : ℕ) (entry : Entry) (ref : ValueRef) → EntryFits entry → FitsRef ref
     → HasAt log at (entry_octets entry ref)
     → IsEntryOf entry ref (slot_at log at) × ((slot_at log at).end ≡ at + length (entry_octets entry ref))
 unfolding entry_octets slot_at
@@ -103,7 +104,7 @@ entry-back log at entry ref fits rfits h =
 
 -- entries, and where they end
 pub entries-back : (log : List ℕ) (at : ℕ) (entries : List Entry) (refs : List ValueRef) → length refs ≡ length entries
-    → All FitsEntry entries → All FitsRef refs → HasAt log at (entries_octets entries refs)
+    → All EntryFits entries → All FitsRef refs → HasAt log at (entries_octets entries refs)
     → AreEntriesOf entries refs (slots_at log at (length entries)) × (slots_end log at (length entries) ≡ at + length (entries_octets entries refs))
 entries-back log at [] [] e fits rfits h = (tt, omega arith)
 entries-back log at [] (ref ∷ refs) e fits rfits h = absurd (omega arith)
@@ -111,11 +112,11 @@ entries-back log at (entry ∷ entries) [] e fits rfits h = absurd (omega arith)
 entries-back log at (entry ∷ entries) (ref ∷ refs) e fits rfits h =
     let a : List ℕ = entry_octets entry ref in
     let b : List ℕ = entries_octets entries refs in
-    let here : FitsEntry entry = fits 0 entry (omega arith) in
+    let here : EntryFits entry = fits 0 entry (omega arith) in
     let rhere : FitsRef ref = rfits 0 ref (omega arith) in
     let one = entry-back log at entry ref here rhere (HasAt-front log at a b h) in
     let end : ℕ = (slot_at log at).end in
-    let rest = entries-back log end entries refs (omega arith) (All-tail FitsEntry entry entries fits) (All-tail FitsRef ref refs rfits)
+    let rest = entries-back log end entries refs (omega arith) (All-tail EntryFits entry entries fits) (All-tail FitsRef ref refs rfits)
     (HasAt-moved log _ end b (HasAt-back log at a b h) (sym one.1)) in
     ((one.0, rest.0), omega (arith, rest.1, one.1, length-append a b))
 

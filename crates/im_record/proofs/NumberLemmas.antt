@@ -8,7 +8,8 @@ use Rattle.std.proofs.lemmas.Bool.{cases_lt, lt-ltb, le-ltb}
 use Rattle.std.proofs.lemmas.List.{map-append, length-map}
 use Rattle.std.proofs.lemmas.Slice.Eq.{bytes_eq-Decides}
 use Rattle.im_format.specs.Damages.{index_of}
-use Rattle.im_record.specs.Keys.{AreNumbered, lent, number_in, key_number}
+use Rattle.im_octet.specs.Places.{PutsPlace}
+use Rattle.im_record.specs.Keys.{AreNumbered, lent, key_number}
 
 -- where a key stands when one more is put behind
 pub record Put (key put : List ℕ) (keys : List (List ℕ)) : Type 0 where
@@ -74,7 +75,7 @@ number_of-put keys new key fresh =
 -- lent keys behind which one more is put that isn't among them are numbered, where the map has that one's number
 pub AreNumbered-put : (keys : List (Bor (List ℕ))) (new : Bor (List ℕ)) (old next : BTreeMap (Bor (List ℕ)) ℕ) (n : ℕ)
     → AreNumbered (lent keys) old → index_of new.now (lent keys) ≡ length (lent keys) → n ≡ length keys
-    → ((key : List ℕ) → number_in next key ≡ update bytes_eq (number_in old) new.now (Some n) key)
+    → PutsPlace old next new.now n
     → AreNumbered (lent (keys ++ new ∷ [])) next
 AreNumbered-put keys new old next n are fresh count steps = record {
   each = λ key.

@@ -6,7 +6,7 @@ use Rattle.std.proofs.lemmas.List.Elements.{All-cons, All-tail}
 use Rattle.std.proofs.lemmas.Slice.Eq.{bytes_eq-Decides}
 use Rattle.im_digest.specs.Digests.{Hash}
 use Rattle.im_disk.specs.Disk.{Files}
-use Rattle.im_model.specs.Entries.{attributes}
+use Rattle.im_model.specs.Entries.{attributes, EntryFits}
 use Rattle.im_model.specs.History.{IsEntry}
 use Rattle.im_model.specs.declared.entries.Entry.{Entry}
 use Rattle.im_mtree.specs.Checks.{first_fail}
@@ -18,7 +18,7 @@ use Rattle.im_format.specs.Spans.{Reads, octets_at}
 use Rattle.im_format.specs.Standing.{LiesIn}
 use Rattle.im_format.specs.declared.records.Record.{Record}
 use Rattle.im_format.specs.declared.references.ValueRef.{ValueRef}
-use Rattle.im_record.specs.Back.{FitsEntry, FitsRecord, FitsRef, HasAt, HasRecord, IsEntryOf, IsReadAs, IsSound, PassesChecks}
+use Rattle.im_record.specs.Back.{FitsRecord, FitsRef, HasAt, HasRecord, IsEntryOf, IsReadAs, IsSound, PassesChecks}
 use Rattle.im_record.specs.Slots.{AreAttributes}
 use Rattle.im_record.proofs.AtLemmas.{HasAt-front, HasAt-back, HasAt-moved, HasAt-within}
 use Rattle.im_record.proofs.BackLemmas.{entry-back, record-back}
@@ -178,7 +178,7 @@ fresh-put keys new entries fresh other k d h =
 
 -- entries that follow each other, with their values
 pub entries-pass : (hash : Hash) (image : Files) (id : ℕ) (keys : List (List ℕ)) (at : ℕ) (entries : List Entry) (refs : List ValueRef)
-    → All FitsEntry entries → All FitsRef refs → HasAt (image 0) at (entries_octets entries refs)
+    → All EntryFits entries → All FitsRef refs → HasAt (image 0) at (entries_octets entries refs)
     → All IsEntry entries → All (λ e. index_of e.key keys ≡ length keys) entries → AllPairs (λ a b. a.key ≢ b.key) entries
     → AreReferences hash id entries refs → All (Reads image) (entries_spans entries refs) → All (LiesIn image) refs
     → (first_fail (slots_checks hash image id keys at (length entries)) ≡ Ok tt)
@@ -201,7 +201,7 @@ entries-pass hash image id keys at (entry ∷ entries) (ref ∷ refs) fits rfits
     let fine : IsFineSlot image id keys s =
     fine-slot hash image id keys entry ref s one.0 w (each 0 entry (omega arith)) are.0 (fresh 0 entry (omega arith)) (lie 0 ref (omega arith)) in
     let v : value_at image ref ≡ entry.value = value-read image entry ref are.0.len (reads 0 (value_span entry.value ref) (omega arith)) in
-    let rest = entries-pass hash image id (keys ++ s.key ∷ []) s.end entries refs (All-tail FitsEntry entry entries fits) (All-tail FitsRef ref refs rfits)
+    let rest = entries-pass hash image id (keys ++ s.key ∷ []) s.end entries refs (All-tail EntryFits entry entries fits) (All-tail FitsRef ref refs rfits)
     (HasAt-moved log _ s.end b (HasAt-back log at a b h) (sym one.1)) (All-tail IsEntry entry entries each)
     (subst (λ (k : List ℕ). All (λ e. index_of e.key (keys ++ k ∷ []) ≡ length (keys ++ k ∷ [])) entries) (sym one.0.key)
     (fresh-put keys entry.key entries (λ k d p. fresh (suc k) d (omega arith)) (λ k d p. distinct 0 (suc k) d (omega arith) (omega arith))))
@@ -218,7 +218,7 @@ entries-pass hash image id keys at (entry ∷ entries) (ref ∷ refs) fits rfits
     )
 
 -- an entry of a history fits its fields
-fits-entry : (entry : Entry) → IsEntry entry → FitsEntry entry
+fits-entry : (entry : Entry) → IsEntry entry → EntryFits entry
 fits-entry entry e = record {
   md = omega (arith, attributes-short entry.md (e.deleted, e.non_indexable, e.md));
   key = omega (arith, e.key_short);

@@ -3,6 +3,7 @@ use Rattle.std.specs.Prelude.{◌≡◌, ◌≤◌, ◌<◌, ◌+◌, ◌^◌, �
 use Rattle.std.specs.Int.{w64}
 use Rattle.im_digest.specs.Digests.{Hash}
 use Rattle.im_disk.specs.Disk.{Files}
+use Rattle.im_model.specs.Entries.{EntryFits}
 use Rattle.im_model.specs.History.{IsTransaction}
 use Rattle.im_mtree.specs.Checks.{first_fail}
 use Rattle.im_model.specs.declared.entries.Entry.{Entry}
@@ -25,11 +26,6 @@ pub record FitsRef (ref : ValueRef) : Type 0 where
   pub len : ref.len < 2 ^ 32
   pub at : ref.at < 2 ^ 64
 
--- metadata and key whose lengths fit their fields
-pub record FitsEntry (entry : Entry) : Type 0 where
-  pub md : length entry.md < 2 ^ 16
-  pub key : length entry.key < 2 ^ 16
-
 -- a record of transaction id of which every number but a reference's log fits its field, with one reference for each
 -- entry, and with an Alh of 32 octets
 pub record FitsRecord (id : ℕ) (r : Record) : Type 0 where
@@ -37,7 +33,7 @@ pub record FitsRecord (id : ℕ) (r : Record) : Type 0 where
   pub ts : FitsSigned w64 r.tx.ts
   pub bl : r.tx.bl < 2 ^ 64
   pub count : length r.tx.entries < 2 ^ 32
-  pub entries : All FitsEntry r.tx.entries
+  pub entries : All EntryFits r.tx.entries
   pub one_each : length r.refs ≡ length r.tx.entries
   pub refs : All FitsRef r.refs
   pub alh : length r.alh ≡ 32

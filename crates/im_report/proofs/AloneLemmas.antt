@@ -17,9 +17,10 @@ use Rattle.im_report.proofs.RangeLemmas.{range-next, rising_range}
 use Rattle.im_report.proofs.SingleLemmas.{highest_each, one_session}
 use Rattle.im_report.specs.Alone.{IsOneLate, ReportsAlone, all_replies}
 use Rattle.im_report.specs.Further.{number_of_reply}
-use Rattle.im_report.specs.Outcomes.{AreAnswers, IsCutOff, IsLate, IsSession, Outcome, Rises, answer_or_none, answered, floors_told, halted, highest, line_in, not_run, number_or_none, numbers_in}
+use Rattle.im_model.specs.Counts.{number_or_none, times}
+use Rattle.im_report.specs.Outcomes.{AreAnswers, IsCutOff, IsLate, IsSession, Outcome, Rises, answer_or_none, answered, floors_told, halted, highest, line_in, not_run, numbers_in}
 use Rattle.im_report.specs.Report.{Answered, IsAnswer, ReadsFrom, Report, answer_line, floor_after, floor_by, floors, is_placed}
-use Rattle.im_report.specs.Sessions.{AreAnswered, AreOfOne, IsJustOver, SessionsReport, first_replies, floors_of, lines_in, phases_text, replies_in, times}
+use Rattle.im_report.specs.Sessions.{AreAnswered, AreOfOne, IsJustOver, SessionsReport, first_replies, floors_of, lines_in, phases_text, replies_in}
 use Rattle.im_script.specs.Script.{lines_of}
 use Rattle.im_script.specs.declared.commands.Line.{Line}
 

@@ -8,13 +8,15 @@ use Rattle.im_digest.specs.Digests.{Hash}
 use Rattle.im_model.specs.declared.transactions.Transaction.{Transaction}
 use Rattle.im_report.proofs.FrontLemmas.{AsksFor, placed_asks}
 use Rattle.im_report.proofs.KnownLemmas.{IsKnown}
-use Rattle.im_report.proofs.OutcomeLemmas.{all_in, first_all, lines_all, lines_answered, numbers_answered, times_all, times_both}
+use Rattle.im_report.proofs.OutcomeLemmas.{all_in, first_all, lines_all, lines_answered, numbers_answered, times_all}
+use Rattle.im_model.proofs.CountLemmas.{times_append}
 use Rattle.im_report.proofs.RangeLemmas.{numbers_of}
 use Rattle.im_report.proofs.SingleLemmas.{pairs_both}
 use Rattle.im_report.specs.Further.{IsOfLine, number_of_reply, written_replies}
 use Rattle.im_report.specs.Outcomes.{Outcome, answered, halted, line_in, numbers_in}
 use Rattle.im_report.specs.Report.{Answered, is_placed}
-use Rattle.im_report.specs.Sessions.{AreAllButLast, first_replies, lines_in, times, times_placed}
+use Rattle.im_report.specs.Sessions.{AreAllButLast, first_replies, lines_in, times_placed}
+use Rattle.im_model.specs.Counts.{times}
 use Rattle.im_script.specs.Script.{lines_of}
 use Rattle.im_script.specs.declared.commands.Line.{Line}
 
@@ -150,7 +152,7 @@ pub split_numbers : (phases : List (List Outcome)) (told : List Answered) (back 
 split_numbers phases told back place are k =
     let numbers : flat_map numbers_in (all_in phases) ≡ flat_map number_of_reply told ++ numbers_of (further_from place back) =
     ap (flat_map numbers_in) are ∙ (numbers_answered told back ∙ ap (λ (l : List ℕ). flat_map number_of_reply told ++ l) (sym (further_numbers place back))) in
-    sym (times_both k (flat_map number_of_reply told) (numbers_of (further_from place back))) ∙ (ap (times k) (sym numbers) ∙ sym (times_all k phases))
+    sym (times_append k (flat_map number_of_reply told) (numbers_of (further_from place back))) ∙ (ap (times k) (sym numbers) ∙ sym (times_all k phases))
 
 -- the first replies, so many, and what is behind their lines
 pub split_at : (hash : Hash) (h : List Transaction) (phases : List (List Outcome)) (count : ℕ) → AreAllButLast phases → All (IsKnown hash h) (all_in phases)

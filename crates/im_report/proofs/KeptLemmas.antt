@@ -18,7 +18,8 @@ use Rattle.im_report.proofs.RangeLemmas.{numbers_of, passing, range_none, range_
 use Rattle.im_report.specs.Further.{AreFurther, IsOfLine, KeepsReplies, number_of_reply, written_replies}
 use Rattle.im_report.specs.Outcomes.{Outcome, answered}
 use Rattle.im_report.specs.Report.{Answered, IsAnswer, is_placed}
-use Rattle.im_report.specs.Sessions.{AreAllButLast, SessionsReport, replies_in, times}
+use Rattle.im_report.specs.Sessions.{AreAllButLast, SessionsReport, replies_in}
+use Rattle.im_model.specs.Counts.{times}
 use Rattle.im_script.specs.declared.commands.Line.{Line}
 
 -- the numbers told by replies are those of the replies

@@ -6,12 +6,14 @@ use Rattle.std.proofs.lemmas.List.{map-append}
 use Rattle.std.proofs.lemmas.List.Concat.{flat_map-append}
 use Rattle.std.proofs.lemmas.List.Elements.{All-append}
 use Rattle.std.proofs.lemmas.List.Sums.{sum_by-cons}
+use Rattle.im_model.proofs.CountLemmas.{times_append}
 use Rattle.im_model.specs.declared.transactions.Transaction.{Transaction}
 use Rattle.im_octet.proofs.Common.{all-right}
 use Rattle.im_report.specs.Further.{number_of_reply}
-use Rattle.im_report.specs.Outcomes.{IsCutOff, Outcome, answered, halted, line_in, not_run, numbers_in, number_or_none, reply_in}
+use Rattle.im_model.specs.Counts.{number_or_none, times}
+use Rattle.im_report.specs.Outcomes.{IsCutOff, Outcome, answered, halted, line_in, not_run, numbers_in, reply_in}
 use Rattle.im_report.specs.Report.{Answered, answer_line}
-use Rattle.im_report.specs.Sessions.{AreAllButLast, AreAnswered, before_others, first_replies, lines_in, phase_text, phases_text, replies_in, times, times_placed}
+use Rattle.im_report.specs.Sessions.{AreAllButLast, AreAnswered, before_others, first_replies, lines_in, phase_text, phases_text, replies_in, times_placed}
 use Rattle.im_script.specs.Script.{lines_of}
 use Rattle.im_script.specs.declared.commands.Line.{Line}
 
@@ -65,22 +67,18 @@ numbers_unrun (l ∷ lines) = numbers_unrun lines
 pub numbers_halted : (line : Line) (late : Option ℕ) (lines : List Line) → flat_map numbers_in (halted line late ∷ map not_run lines) ≡ number_or_none late
 numbers_halted line late lines = ap (λ (l : List ℕ). number_or_none late ++ l) (numbers_unrun lines) ∙ append-nil (number_or_none late)
 
--- how often a number stands in two lists
-pub times_both : (n : ℕ) (xs ys : List ℕ) → times n (xs ++ ys) ≡ times n xs + times n ys
-times_both n [] ys = omega arith
-times_both n (x ∷ xs) ys = omega (arith, times_both n xs ys)
-
+-- how often a number stands among those of a phase
 times_flat : (k : ℕ) (outcomes : List Outcome) → sum_by (λ o. times k (numbers_in o)) outcomes ≡ times k (flat_map numbers_in outcomes)
 times_flat k [] = refl
 times_flat k (o ∷ outcomes) =
-    omega (arith, sum_by-cons (λ (p : Outcome). times k (numbers_in p)) o outcomes, times_flat k outcomes, times_both k (numbers_in o) (flat_map numbers_in outcomes))
+    omega (arith, sum_by-cons (λ (p : Outcome). times k (numbers_in p)) o outcomes, times_flat k outcomes, times_append k (numbers_in o) (flat_map numbers_in outcomes))
 
 -- and among those of all phases
 pub times_all : (k : ℕ) (phases : List (List Outcome)) → times_placed k phases ≡ times k (flat_map numbers_in (all_in phases))
 times_all k [] = refl
 times_all k (outcomes ∷ phases) =
     let both : times k (flat_map numbers_in (outcomes ++ all_in phases)) ≡ times k (flat_map numbers_in outcomes) + times k (flat_map numbers_in (all_in phases)) =
-    ap (times k) (flat_map-append numbers_in outcomes (all_in phases)) ∙ times_both k (flat_map numbers_in outcomes) (flat_map numbers_in (all_in phases)) in
+    ap (times k) (flat_map-append numbers_in outcomes (all_in phases)) ∙ times_append k (flat_map numbers_in outcomes) (flat_map numbers_in (all_in phases)) in
     omega (arith, sum_by-cons (λ (os : List Outcome). sum_by (λ o. times k (numbers_in o)) os) outcomes phases, times_all k phases, times_flat k outcomes, both)
 
 -- the lines of all phases

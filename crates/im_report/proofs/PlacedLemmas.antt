@@ -2,7 +2,7 @@
 use Rattle.std.proofs.Common.{◌≡◌, ◌==◌, ◌||◌, ℕ, List, [], ◌∷◌, Bool, true, false, codes, refl, sym, ◌∙◌, ap, if◌then◌else◌, nat_eq, nat_lt, length, Option, Some, None, inl, inr, ◌++◌, take}
 use Rattle.std.specs.Fmt.{decimal}
 use Rattle.std.specs.List.{starts_with}
-use Rattle.std.proofs.lemmas.Bool.{or_left, or_right}
+use Rattle.std.proofs.lemmas.Bool.{false_from_ne_true, or_left, or_right}
 use Rattle.std.proofs.lemmas.Bool.Decides.{Decides-eqb}
 use Rattle.std.proofs.lemmas.Slice.Eq.{bytes_eq-Decides, starts_is}
 use Rattle.std.specs.Str.{bytes_eq}
@@ -39,10 +39,6 @@ tx-read-placed n read =
     or_right (bytes_eq (tx_read_reply n read) (tx_reply n)) (starts_with nat_eq (tx_read_reply n read) (tx_reply n ++ codes " read "))
     ((starts_is Decides-eqb (tx_read_reply n read) (tx_reply n ++ codes " read ") _ refl).1 (decimal read) refl)
 
-never : (b : Bool) → (b ≡ true → ⊥) → b ≡ false
-never true h = absurd (h refl)
-never false h = refl
-
 neither : (a b : Bool) → a ≡ false → b ≡ false → (a || b) ≡ false
 neither a b x y = ap (λ (c : Bool). c || b) x ∙ y
 
@@ -51,8 +47,8 @@ pub other-letter : (o : ℕ) (rest reply : List ℕ) (n : ℕ) → (o == 116) �
 unfolding tx_reply
 other-letter o rest reply n other e =
     neither (bytes_eq reply (tx_reply n)) (starts_with nat_eq reply (tx_reply n ++ codes " read "))
-    (never (bytes_eq reply (tx_reply n)) (λ h. heads-differ o 116 rest _ other (sym e ∙ (bytes_eq-Decides reply (tx_reply n)).0 h)))
-    (never (starts_with nat_eq reply (tx_reply n ++ codes " read "))
+    (false_from_ne_true (bytes_eq reply (tx_reply n)) (λ h. heads-differ o 116 rest _ other (sym e ∙ (bytes_eq-Decides reply (tx_reply n)).0 h)))
+    (false_from_ne_true (starts_with nat_eq reply (tx_reply n ++ codes " read "))
     (λ h. heads-differ o 116 rest _ other (sym e ∙ (starts_is Decides-eqb reply (tx_reply n ++ codes " read ") _ refl).0 h)))
 
 -- nor does one without a letter

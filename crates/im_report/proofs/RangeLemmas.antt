@@ -4,7 +4,7 @@ use Rattle.std.specs.Prelude.{All, AllPairs}
 use Rattle.std.specs.List.{range_with_len}
 use Rattle.std.proofs.lemmas.Bool.{cases_lt}
 use Rattle.std.proofs.lemmas.Bool.Decides.{eqb_tells}
-use Rattle.im_report.specs.Sessions.{times}
+use Rattle.im_model.specs.Counts.{times}
 
 -- a number stands in a list that begins with it
 times_here : (n : ℕ) (xs : List ℕ) → times n (n ∷ xs) ≡ suc (times n xs)

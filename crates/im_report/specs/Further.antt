@@ -7,7 +7,8 @@ use Rattle.im_model.specs.declared.transactions.Transaction.{Transaction}
 use Rattle.im_report.specs.Asking.{MayAsk}
 use Rattle.im_report.specs.Outcomes.{Outcome, number_told}
 use Rattle.im_report.specs.Report.{Answered, IsAnswer}
-use Rattle.im_report.specs.Sessions.{first_replies, lines_in, times}
+use Rattle.im_report.specs.Sessions.{first_replies, lines_in}
+use Rattle.im_model.specs.Counts.{times}
 use Rattle.im_script.specs.Script.{lines_of}
 use Rattle.im_tx.specs.Asked.{Asked}
 use Rattle.im_script.specs.declared.commands.Line.{Line}

@@ -2,6 +2,7 @@
 use Rattle.std.specs.Prelude.{◌≡◌, ◌⊎◌, ℕ, ◌<◌, ◌≤◌, ◌-◌, List, [], ◌∷◌, ◌++◌, length, take, map, filter, max, IsTrue, IfSome, All, AllPairs, Option, Some, None, if◌then◌else◌}
 use Rattle.std.specs.Str.{bytes_eq}
 use Rattle.im_digest.specs.Digests.{Hash}
+use Rattle.im_model.specs.Counts.{number_or_none}
 use Rattle.im_model.specs.History.{transaction_of}
 use Rattle.im_model.specs.declared.transactions.Transaction.{Transaction}
 use Rattle.im_tx.specs.Asked.{Asked}
@@ -47,10 +48,6 @@ abbrev pub reply_in : Outcome → List Answered
 reply_in o = answer_or_none o.reply
 
 -- the number of the transaction that was placed for a line, where one was: it is told by a `tx`, or isn't told
-abbrev pub number_or_none : Option ℕ → List ℕ
-number_or_none None = []
-number_or_none (Some n) = n ∷ []
-
 abbrev pub number_told : Option Answered → List ℕ
 number_told None = []
 number_told (Some a) = if is_placed a then a.number ∷ [] else []

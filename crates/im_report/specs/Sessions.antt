@@ -1,7 +1,8 @@
 -- What sessions that run side by side come to, phase by phase, read off one history.
-use Rattle.std.specs.Prelude.{◌≡◌, ℕ, ◌≤◌, ◌+◌, ◌-◌, ◌==◌, List, [], ◌∷◌, ◌++◌, length, take, map, max, Bool, false, All, Option, Some, None, IsSome, cond}
+use Rattle.std.specs.Prelude.{◌≡◌, ℕ, ◌≤◌, ◌+◌, ◌-◌, List, [], ◌∷◌, ◌++◌, length, take, map, max, Bool, false, All, Option, Some, None, IsSome}
 use Rattle.std.specs.List.{flat_map, range_with_len, sum_by}
 use Rattle.im_digest.specs.Digests.{Hash}
+use Rattle.im_model.specs.Counts.{times}
 use Rattle.im_model.specs.History.{transaction_of, IsHistory}
 use Rattle.im_model.specs.declared.transactions.Transaction.{Transaction}
 use Rattle.im_script.specs.declared.commands.Line.{Line}
@@ -59,14 +60,13 @@ AreAllButLast [] = Unit {0}
 AreAllButLast (outcomes ∷ []) = Unit {0}
 AreAllButLast (outcomes ∷ next ∷ phases) = AreAnswered outcomes × AreAllButLast (next ∷ phases)
 
--- how often a number stands in a list
-abbrev pub times : ℕ → List ℕ → ℕ
-times n [] = 0
-times n (x ∷ xs) = cond (x == n) 1 0 + times n xs
-
 -- how often a number is that of a transaction placed for a line of these
+abbrev pub times_in : ℕ → List Outcome → ℕ
+times_in k outcomes = sum_by (λ o. times k (numbers_in o)) outcomes
+
+-- and for a line of these phases
 abbrev pub times_placed : ℕ → List (List Outcome) → ℕ
-times_placed k phases = sum_by (λ outcomes. sum_by (λ o. times k (numbers_in o)) outcomes) phases
+times_placed k phases = sum_by (times_in k) phases
 
 -- The transaction of each pair was placed over just that floor.
 abbrev pub IsJustOver : List Transaction → ℕ × ℕ → Type 0

@@ -15,7 +15,8 @@ use Rattle.im_text.specs.Fields.{IsOctets, is_session_octet}
 use Rattle.im_script.specs.declared.commands.Command.{Command}
 use Rattle.im_script.specs.declared.commands.Command.TheVariants.{Set, Get, Scan, History, Header, State, Prove, Advance, Item, Link, Sql}
 use Rattle.im_script.specs.declared.commands.Line.{Line}
-use Rattle.im_script.specs.Script.{deletion, AreNumbers, IsAt, IsCommand, IsScriptLine, IsLookup, IsPassedOver, IsScript, IsStatementText, MayFollow, Say, Stop, end_of_phase, has_name, with_name, StopsAfter}
+use Rattle.im_draft.specs.Drafts.{deletion}
+use Rattle.im_script.specs.Script.{AreNumbers, IsAt, IsCommand, IsScriptLine, IsLookup, IsPassedOver, IsScript, IsStatementText, MayFollow, Say, Stop, end_of_phase, has_name, with_name, StopsAfter}
 use Rattle.im_script.specs.Arguments.{IsSet, IsDelete, IsGet, IsScanCommand, IsHistoryCommand, IsHeaderCommand, IsIndex, IsState, IsProve, IsAdvance, IsItemCommand, IsLink, IsSql}
 use Rattle.im_script.proofs.CommandLemmas.{advance-no-numbers, found-set, found-delete, found-get, found-scan, found-history, found-header, found-state, found-prove, found-advance, found-item, found-link, found-sql, prove-no-numbers}
 use Rattle.im_text.proofs.DecideLemmas.{truth}

@@ -65,10 +65,6 @@ stops-next before after octets rest text behind number some first taken stops n 
     let same : number + suc n ≡ number + 1 + n = omega arith in
     subst (λ (m : ℕ). StopsAfter octets m) same (stops (suc n) (stops-more before after rest text behind n some first taken h))
 
--- nothing was read yet
-pub read-none : (octets : List ℕ) → IsReadSoFar octets (record { names = []; phases = []; lines = [] }) octets
-read-none octets = λ lines more h. (h.0, h.1, (lines, more, refl, h.2))
-
 -- all is read
 pub script-end : (octets rest : List ℕ) (before : ReadSoFar) → (length rest == 0) ≡ true → IsReadSoFar octets before rest → IsScript octets (with_end before).phases
 script-end octets [] before e read =

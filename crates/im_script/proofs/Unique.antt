@@ -11,7 +11,8 @@ use Rattle.im_script.specs.declared.commands.Command.TheVariants.{Set, Get, Scan
 use Rattle.im_script.specs.declared.commands.Line.{Line}
 use Rattle.im_text.specs.Fields.{is_session_octet, IsSession}
 use Rattle.im_text.proofs.LineLemmas.{texts-unique}
-use Rattle.im_script.specs.Script.{deletion, IsCommand, IsScriptLine, IsPassedOver, Say, Stop, end_of_phase, with_name, IsScript, StopsAfter}
+use Rattle.im_draft.specs.Drafts.{deletion}
+use Rattle.im_script.specs.Script.{IsCommand, IsScriptLine, IsPassedOver, Say, Stop, end_of_phase, with_name, IsScript, StopsAfter}
 use Rattle.im_script.proofs.FieldLemmas.{octets-unique, session-lacks}
 use Rattle.im_script.proofs.AskedLemmas.{asked-unique}
 use Rattle.im_script.proofs.NumberLemmas.{numbers-unique, item-unique}

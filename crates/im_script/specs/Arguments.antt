@@ -5,7 +5,8 @@ use Rattle.im_text.specs.Words.{IsNumber}
 use Rattle.im_text.specs.Fields.{IsOctets}
 use Rattle.im_draft.specs.declared.drafts.Draft.{Draft}
 use Rattle.im_draft.specs.declared.preconditions.Pre.{Pre}
-use Rattle.im_script.specs.Script.{deletion, AreAsked, AreNumbers, IsItem, IsLookup, IsScriptLine, IsStatementText, IsPassedOver, MayFollow, end_of_phase, with_name}
+use Rattle.im_draft.specs.Drafts.{deletion}
+use Rattle.im_script.specs.Script.{AreAsked, AreNumbers, IsItem, IsLookup, IsScriptLine, IsStatementText, IsPassedOver, MayFollow, end_of_phase, with_name}
 use Rattle.im_script.specs.declared.commands.Command.{Command}
 use Rattle.im_script.specs.declared.commands.Command.TheVariants.{Set, Get, Scan, History, Header, State, Prove, Advance, Item, Link, Sql}
 use Rattle.im_script.specs.declared.commands.Line.{Line}

@@ -4,7 +4,7 @@ use Rattle.std.specs.List.{flat_map, list_any}
 use Rattle.std.specs.Str.{bytes_eq}
 use Rattle.im_text.specs.Lines.{AreTexts}
 use Rattle.im_text.specs.Words.{IsNumber}
-use Rattle.im_draft.specs.Drafts.{no_attributes}
+use Rattle.im_draft.specs.Drafts.{deletion, no_attributes}
 use Rattle.im_draft.specs.declared.drafts.Attrs.{Attrs}
 use Rattle.im_draft.specs.declared.drafts.Draft.{Draft}
 use Rattle.im_draft.specs.declared.preconditions.Pre.{Pre}
@@ -50,10 +50,6 @@ AreFields text (draft ∷ drafts) =
 -- what a set asks for: all preconditions stand before all entries
 abbrev pub AreAsked : List ℕ → List Pre → List Draft → Type 0
 AreAsked text pres drafts = (front : List ℕ) × (back : List ℕ) × (text ≡ front ++ back) × ArePres front pres × AreFields back drafts
-
--- the one entry that deletes a key: its value is empty
-abbrev pub deletion : List ℕ → Draft
-deletion key = record { attrs = record { deleted = true; non_indexable = false }; key = key; value = [] }
 
 -- two numbers behind one another
 abbrev pub AreNumbers : List ℕ → ℕ → ℕ → Type 0

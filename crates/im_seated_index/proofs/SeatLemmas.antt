@@ -5,19 +5,13 @@ use mathlib.Core.List.{IsPrefix}
 use Rattle.im_model.specs.declared.transactions.Transaction.{Transaction}
 use Rattle.im_table.specs.Histories.{history_of}
 use Rattle.im_table.specs.declared.items.LogItem.{LogItem}
+use Rattle.im_table.proofs.FrontLemmas.{get_front}
 use Rattle.im_table.proofs.HistoryLemmas.{history_front, history_length, take_front}
 use Rattle.im_index.specs.Indexed.{Indexed, IsIndexOf}
 use Rattle.im_seated_index.specs.Seats.{HasTaken}
 
 module _ {A : Type 0} where
-  -- what stands at a place of a front part stands there in the list
-  get_front : (xs ys : List A) (n : ℕ) (x : A) → IsPrefix xs ys → slice_get xs n ≡ Some x → slice_get ys n ≡ Some x
-  get_front [] ys n x p h = absurd (cc (h))
-  get_front (y ∷ xs) [] n x p h = absurd (cc (p.1))
-  get_front (y ∷ xs) (z ∷ ys) zero x p h = cc (p.1, h)
-  get_front (y ∷ xs) (z ∷ ys) (suc n) x p h = get_front xs ys n x (p.0, cc (p.1)) h
-
-  -- it ends the part with one element more
+  -- an element of a list ends its front part with one element more
   take_get : (xs : List A) (n : ℕ) (x : A) → slice_get xs n ≡ Some x → take (n + 1) xs ≡ take n xs ++ x ∷ []
   take_get [] n x h = absurd (cc (h))
   take_get (y ∷ xs) zero x h = let same : y ≡ x = cc (h) in ap (λ (z : A). z ∷ []) same

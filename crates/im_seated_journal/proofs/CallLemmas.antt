@@ -6,7 +6,7 @@ use Rattle.im_disk.specs.Disk.{Told, after}
 use Rattle.im_disk.specs.Grown.{after_all}
 use Rattle.im_disk.specs.declared.calls.Call.{Call}
 use Rattle.im_disk.specs.declared.calls.Call.TheVariants.{Wrote, Synced}
-use Rattle.im_disk.proofs.Growing.{told_both, told_none}
+use Rattle.im_disk.proofs.Growing.{told_none}
 use Rattle.im_format.specs.Batches.{gate_of, joined}
 use Rattle.im_format.specs.declared.records.Record.{Record}
 use Rattle.im_journal.specs.Holding.{ends_of}

@@ -1,6 +1,6 @@
 -- Which calls the disk got since it was opened, behind a step of its journal.
-use Rattle.std.proofs.Common.{◌≡◌, ℕ, ◌+◌, ◌≤◌, ◌∙◌, List, [], ◌∷◌, ◌++◌, length, take, drop, refl, sym, ap, subst, arith, append-nil, append_assoc, Result, Ok, Err}
-use Rattle.std.specs.Prelude.{Option, IfSome, IsErrOf, OnOk}
+use Rattle.std.proofs.Common.{◌≡◌, ℕ, ◌+◌, ◌≤◌, ◌∙◌, List, [], ◌∷◌, ◌++◌, length, drop, refl, sym, ap, subst, arith, append-nil, append_assoc, Result, Ok}
+use Rattle.std.specs.Prelude.{Option, IfSome, IsErrOf}
 use Rattle.std.specs.Option.{option_map}
 use Rattle.im_octet.proofs.Common.{on-ok}
 use Rattle.im_digest.specs.Digests.{Hash}
@@ -10,7 +10,7 @@ use Rattle.im_disk.specs.declared.calls.Call.{Call}
 use Rattle.im_disk.specs.declared.calls.Call.TheVariants.{Wrote, Synced}
 use Rattle.im_disk.proofs.Growing.{told_both, told_none}
 use Rattle.im_disk.proofs.Leaving.{if_told}
-use Rattle.im_format.specs.Batches.{gate_of, joined, spans_of}
+use Rattle.im_format.specs.Batches.{gate_of, spans_of}
 use Rattle.im_format.specs.Standing.{HasBatches}
 use Rattle.im_format.specs.declared.records.Record.{Record}
 use Rattle.im_format.specs.declared.spans.Span.{Span}
@@ -18,7 +18,6 @@ use Rattle.im_model.specs.declared.transactions.Transaction.{Transaction}
 use Rattle.im_table.specs.Histories.{history_of}
 use Rattle.im_table.specs.Records.{AreRecordsOf}
 use Rattle.im_table.specs.declared.items.LogItem.{LogItem}
-use Rattle.im_table.proofs.HistoryLemmas.{history_length}
 use Rattle.im_journal.specs.Holding.{IsResting}
 use Rattle.im_journal.specs.Kept.{Batch, IsAtRest, Kept}
 use Rattle.im_journal.specs.Made.{MadeUpTo, writes_of}
@@ -28,7 +27,7 @@ use Rattle.im_journal.specs.declared.batches.Step.{Step}
 use Rattle.im_journal.specs.declared.batches.Step.TheVariants.{Idle, Staging, Staged, Sealed, Gated}
 use Rattle.im_journal.specs.declared.ends.Ends.{Ends}
 use Rattle.im_journal.specs.declared.errors.JournalError.{JournalError}
-use Rattle.im_journal.specs.declared.errors.JournalError.TheVariants.{DiskFault, Memory, Stopped}
+use Rattle.im_journal.specs.declared.errors.JournalError.TheVariants.{DiskFault, Stopped}
 use Rattle.im_journal.proofs.Limits.{first_number}
 use Rattle.im_journal.proofs.Making.{all_made, none_made}
 use Rattle.im_journal.proofs.Mids.{first_at}

@@ -15,6 +15,7 @@ use Rattle.im_table.specs.Histories.{history_of}
 use Rattle.im_table.specs.Views.{failed_once}
 use Rattle.im_table.specs.declared.items.LogItem.{LogItem}
 use Rattle.im_table.specs.declared.view.View.{View}
+use Rattle.im_table.proofs.FrontLemmas.{get_front}
 use Rattle.im_table.proofs.HistoryLemmas.{history_length}
 use Rattle.im_journal.specs.Faults.{IsReadCounted}
 use Rattle.im_journal.specs.Kept.{Kept}
@@ -36,13 +37,6 @@ module _ {A : Type 0} where
   get_within [] (suc n) k x lt h = absurd (cc (h))
   get_within (y ∷ xs) (suc n) zero x lt h = h
   get_within (y ∷ xs) (suc n) (suc k) x lt h = get_within xs n k x (omega (arith, lt)) h
-
-  -- what stands at a place of a front part stands there in the list
-  get_front : (xs ys : List A) (n : ℕ) (x : A) → IsPrefix xs ys → slice_get xs n ≡ Some x → slice_get ys n ≡ Some x
-  get_front [] ys n x p h = absurd (cc (h))
-  get_front (y ∷ xs) [] n x p h = absurd (cc (p.1))
-  get_front (y ∷ xs) (z ∷ ys) zero x p h = cc (p.1, h)
-  get_front (y ∷ xs) (z ∷ ys) (suc n) x p h = get_front xs ys n x (p.0, cc (p.1)) h
 
   -- and what stands at a place of the list in the front part, where it reaches there
   get_back : (xs ys : List A) (n : ℕ) (x : A) → IsPrefix xs ys → n < length xs → slice_get ys n ≡ Some x → slice_get xs n ≡ Some x

@@ -1,5 +1,5 @@
 -- What the journal's lock keeps, and what it tells of the disk's images.
-use Rattle.std.proofs.Common.{◌≡◌, ℕ, ◌+◌, ◌^◌, ◌-◌, ◌<◌, ◌≤◌, ◌∙◌, List, [], length, map, take, refl, sym, ap, subst, arith, inl, inr, Result, Ok, Err}
+use Rattle.std.proofs.Common.{◌≡◌, ℕ, ◌+◌, ◌^◌, ◌-◌, ◌<◌, ◌≤◌, ◌∙◌, List, [], length, take, refl, sym, ap, subst, arith, inl, inr, Result, Ok, Err}
 use Rattle.std.specs.Prelude.{◌⊎◌, min, Option, IsErrOf, OnErr, OnOk}
 use Rattle.std.proofs.Math.Seq.{take-length}
 use Rattle.std.proofs.lemmas.Bool.{cases_lt}

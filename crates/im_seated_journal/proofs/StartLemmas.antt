@@ -9,7 +9,6 @@ use Rattle.im_disk.proofs.Leaving.{if_told, leaves_nothing}
 use Rattle.im_format.specs.Batches.{joined}
 use Rattle.im_format.specs.Standing.{Stands, StandsFrom}
 use Rattle.im_format.specs.declared.records.Record.{Record}
-use Rattle.im_format.specs.declared.references.ValueRef.{ValueRef}
 use Rattle.im_table.specs.Histories.{history_of}
 use Rattle.im_table.specs.declared.items.LogItem.{LogItem}
 use Rattle.im_table.proofs.FrontLemmas.{prefix_self}

@@ -1,12 +1,12 @@
 -- What the journal's lock keeps behind a step of a batch.
 use Rattle.std.proofs.Common.{◌≡◌, ℕ, ◌+◌, ◌<◌, ◌≤◌, ◌∙◌, List, [], ◌∷◌, ◌++◌, length, map, take, drop, refl, sym, ap, subst, arith, inl, inr, Result, Ok, Err}
-use Rattle.std.specs.Prelude.{◌⊎◌, Option, IsErrOf, OnErr, OnOk}
+use Rattle.std.specs.Prelude.{Option, IsErrOf, OnErr, OnOk}
 use Rattle.std.proofs.Math.Seq.{take-add}
 use Rattle.std.proofs.lemmas.Bool.{cases_lt}
 use Rattle.std.proofs.lemmas.List.{map-append}
 use Rattle.im_octet.proofs.Common.{on-ok}
 use Rattle.im_digest.specs.Digests.{Hash}
-use Rattle.im_disk.specs.Disk.{Files, Told}
+use Rattle.im_disk.specs.Disk.{Told}
 use Rattle.im_disk.specs.Moments.{Leaves, LeavesNow}
 use Rattle.im_disk.specs.declared.calls.Call.{Call}
 use Rattle.im_disk.proofs.Leaving.{leaves_both, leaves_weaker}

@@ -13,7 +13,8 @@ use Rattle.im_report.proofs.AloneLemmas.{floors_behind}
 use Rattle.im_report.proofs.OutcomeLemmas.{numbers_answered, numbers_halted, replies_answered}
 use Rattle.im_report.proofs.SingleLemmas.{floor_both}
 use Rattle.im_report.specs.Further.{number_of_reply}
-use Rattle.im_report.specs.Outcomes.{IsLate, Outcome, answered, floors_told, halted, not_run, number_or_none, numbers_in, reply_in}
+use Rattle.im_model.specs.Counts.{number_or_none}
+use Rattle.im_report.specs.Outcomes.{IsLate, Outcome, answered, floors_told, halted, not_run, numbers_in, reply_in}
 use Rattle.im_report.specs.Report.{Answered, floor_after}
 use Rattle.im_report.specs.Sessions.{AreAnswered, IsJustOver, floors_of, replies_in}
 use Rattle.im_script.specs.declared.commands.Line.{Line}

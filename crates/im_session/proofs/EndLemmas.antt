@@ -5,19 +5,19 @@ use Rattle.std.proofs.lemmas.List.{map-append}
 use Rattle.std.proofs.lemmas.List.Sums.{sum_by-cons}
 use Rattle.im_digest.specs.Digests.{Hash}
 use Rattle.im_report.proofs.OutcomeLemmas.{lines_answered}
-use Rattle.im_report.specs.Outcomes.{IsLate, IsSession, Outcome, answered, halted, highest, line_in, not_run, number_or_none, number_told, numbers_in}
+use Rattle.im_model.specs.Counts.{number_or_none, times}
+use Rattle.im_report.specs.Outcomes.{IsLate, IsSession, Outcome, answered, halted, highest, line_in, not_run, number_told, numbers_in}
 use Rattle.im_report.specs.Report.{Answered, floor_after}
 use Rattle.im_script.specs.declared.commands.Line.{Line}
 use Rattle.im_session.proofs.GrowLemmas.{may_before}
 use Rattle.im_session.proofs.PhaseLemmas.{highest_most, late_less}
 use Rattle.im_session.specs.Lines.{IsStuck, MayBecome}
-use Rattle.im_session.specs.Phases.{times_in}
+use Rattle.im_report.specs.Sessions.{times_in}
 use Rattle.im_session.specs.Runs.{HasRun, IsRun, Start, numbers_told}
 use Rattle.im_session.specs.declared.errors.LineError.{LineError}
 use Rattle.im_table.specs.Histories.{history_of}
 use Rattle.im_table.specs.Known.{KnownPass}
-use Rattle.im_table.specs.Views.{times}
-use Rattle.im_table.proofs.NumberLemmas.{times_append}
+use Rattle.im_model.proofs.CountLemmas.{times_append}
 use Rattle.im_table.specs.declared.items.LogItem.{LogItem}
 
 -- what became of the lines of a session, by how it ended

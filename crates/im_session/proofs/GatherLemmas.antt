@@ -15,10 +15,10 @@ use Rattle.im_session.specs.declared.errors.LineError.{LineError}
 use Rattle.im_session.specs.declared.sessions.Ended.{Ended}
 use Rattle.im_session.specs.declared.sessions.Session.{Session}
 use Rattle.im_table.proofs.FrontLemmas.{prefix_self, prefix_trans}
-use Rattle.im_table.proofs.NumberLemmas.{times_append}
+use Rattle.im_model.proofs.CountLemmas.{times_append}
 use Rattle.im_table.specs.Known.{KnownPass, TableId}
 use Rattle.im_table.specs.Passes.{IsPassOf}
-use Rattle.im_table.specs.Views.{times}
+use Rattle.im_model.specs.Counts.{times}
 use Rattle.im_table.specs.declared.items.LogItem.{LogItem}
 use Rattle.im_table.specs.declared.view.Least.{Least}
 

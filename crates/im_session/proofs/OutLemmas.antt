@@ -8,7 +8,7 @@ use Rattle.im_digest.specs.Digests.{Hash}
 use Rattle.im_report.proofs.OutcomeLemmas.{first_answered, replies_answered, replies_unrun}
 use Rattle.im_report.specs.Outcomes.{IsSession, Outcome, answered, halted, line_in, not_run, reply_in}
 use Rattle.im_report.specs.Report.{Answered, answer_line, floor_after}
-use Rattle.im_report.specs.Sessions.{AreAnswered, first_replies, replies_in}
+use Rattle.im_report.specs.Sessions.{AreAnswered, first_replies, replies_in, times_in}
 use Rattle.im_script.specs.declared.commands.Line.{Line}
 use Rattle.im_session.proofs.AloneLemmas.{ended_alone, ended_idle, not_answered}
 use Rattle.im_session.proofs.EachLemmas.{StopFits, texts_of}
@@ -17,7 +17,7 @@ use Rattle.im_session.proofs.FailLemmas.{StopsHere, stops_here}
 use Rattle.im_session.proofs.GrowLemmas.{may_before}
 use Rattle.im_session.specs.Gathered.{own_of}
 use Rattle.im_session.specs.Lines.{MayBecome}
-use Rattle.im_session.specs.Phases.{AreDone, RunsAlone, times_in}
+use Rattle.im_session.specs.Phases.{AreDone, RunsAlone}
 use Rattle.im_session.specs.Runs.{HasRun, IsDone, Start, start_of}
 use Rattle.im_session.specs.declared.errors.LineError.{LineError}
 use Rattle.im_session.specs.declared.errors.LineError.TheVariants.{DiskFault, Memory}
@@ -25,7 +25,7 @@ use Rattle.im_session.specs.declared.sessions.Session.{Session}
 use Rattle.im_table.specs.Histories.{history_of}
 use Rattle.im_table.specs.Known.{KnownPass, TableId}
 use Rattle.im_table.specs.Passes.{IsPassOf}
-use Rattle.im_table.specs.Views.{times}
+use Rattle.im_model.specs.Counts.{times}
 use Rattle.im_table.specs.declared.items.LogItem.{LogItem}
 
 -- the replies of a session's outcomes, and those before the first line without one, are its answers

@@ -15,7 +15,7 @@ use Rattle.im_report.proofs.OutcomeLemmas.{flat_all}
 use Rattle.im_report.proofs.SingleLemmas.{own_all, session_none}
 use Rattle.im_report.specs.Outcomes.{IsSession, Outcome, line_in, numbers_in, of_session, reply_in}
 use Rattle.im_report.specs.Report.{Answered, floor_after}
-use Rattle.im_report.specs.Sessions.{AreOfOne, floor_reached, replies_in}
+use Rattle.im_report.specs.Sessions.{AreOfOne, floor_reached, replies_in, times_in}
 use Rattle.im_script.specs.declared.commands.Line.{Line}
 use Rattle.im_session.proofs.EachLemmas.{each_all, each_matches, each_none, each_of, together_all}
 use Rattle.im_session.proofs.AloneLemmas.{alone_grown, alone_none}
@@ -24,13 +24,13 @@ use Rattle.im_session.proofs.TogetherLemmas.{Each, Matches, sum_each, together, 
 use Rattle.im_session.specs.Dealing.{AreDealt, AreNamed, lines_with}
 use Rattle.im_session.specs.Gathered.{AreGathered, leaves_of}
 use Rattle.im_session.specs.Lines.{MayBecome}
-use Rattle.im_session.specs.Phases.{HasGrown, IsPlayed, RanAlone, RunsAlone, times_in}
+use Rattle.im_session.specs.Phases.{HasGrown, IsPlayed, RanAlone, RunsAlone}
 use Rattle.im_session.specs.declared.sessions.Ended.{Ended}
 use Rattle.im_session.specs.declared.sessions.Session.{Session}
 use Rattle.im_table.proofs.FrontLemmas.{prefix_trans}
 use Rattle.im_table.specs.Histories.{history_of}
 use Rattle.im_table.specs.Known.{KnownPass, TableId}
-use Rattle.im_table.specs.Views.{times}
+use Rattle.im_model.specs.Counts.{times}
 use Rattle.im_table.specs.declared.items.LogItem.{LogItem}
 
 -- added up by the names it is what it is list by list

@@ -1,23 +1,22 @@
 -- What was played, as the report of sessions over the one list that is left.
-use Rattle.std.proofs.Common.{◌≡◌, ℕ, suc, ◌+◌, ◌-◌, ◌==◌, ◌≤◌, ◌++◌, List, [], ◌∷◌, length, Bool, true, false, cond, refl, ap, sym, ◌∙◌, subst, arith, length-append}
+use Rattle.std.proofs.Common.{◌≡◌, ℕ, suc, ◌+◌, ◌-◌, ◌≤◌, ◌++◌, List, [], ◌∷◌, length, Bool, true, false, cond, refl, ap, sym, ◌∙◌, subst, arith, length-append}
 use Rattle.std.specs.Prelude.{All, take}
-use Rattle.std.specs.List.{flat_map, range_with_len, sum_by}
+use Rattle.std.specs.List.{flat_map, range_with_len}
 use Rattle.std.proofs.lemmas.List.FromFn.{get_or-range_with_len, length-range_with_len}
-use Rattle.std.proofs.lemmas.List.Sums.{sum_by-cons}
 use Rattle.im_digest.specs.Digests.{Hash}
 use Rattle.im_model.specs.declared.transactions.Transaction.{Transaction}
 use Rattle.im_report.proofs.OutcomeLemmas.{all_in, times_all}
 use Rattle.im_report.proofs.RangeLemmas.{times_all_of, times_length}
 use Rattle.im_report.specs.Outcomes.{Outcome, numbers_in}
 use Rattle.im_report.specs.Sessions.{AreOfOne, ArePhases, IsJustOver, SessionsReport, floors_of, times_placed}
-use Rattle.im_report.specs.Sessions as told
 use Rattle.im_script.specs.declared.commands.Line.{Line}
 use Rattle.im_session.specs.Lines.{MayBecome}
-use Rattle.im_session.specs.Phases.{AreSoFar, RanAlone, count_in, times_in}
+use Rattle.im_session.specs.Phases.{AreSoFar, RanAlone, count_in}
 use Rattle.im_table.proofs.HistoryLemmas.{history_length}
 use Rattle.im_table.specs.Histories.{GoesOn, history_of}
 use Rattle.im_table.specs.Known.{KnownPass}
-use Rattle.im_table.specs.Views.{numbers, placed_by, times}
+use Rattle.im_table.specs.Views.{numbers, placed_by}
+use Rattle.im_model.specs.Counts.{times}
 use Rattle.im_table.specs.declared.items.LogItem.{LogItem}
 
 -- the numbers of items that weren't found are a range
@@ -47,21 +46,6 @@ placed_behind found items g old =
     ∙ (numbers_behind 1 found g.rest old g.fresh
     ∙ (ap (λ (m : ℕ). range_with_len m (length g.rest)) start ∙ ap (λ (m : ℕ). range_with_len (length (history_of found) + 1) m) count))
 
--- a number stands as often in the report's words as in the table's
-same_times : (k : ℕ) (xs : List ℕ) → times k xs ≡ told.times k xs
-same_times k [] = refl
-same_times k (x ∷ xs) = ap (λ (n : ℕ). cond (x == k) 1 0 + n) (same_times k xs)
-
-same_in : (k : ℕ) (outcomes : List Outcome) → times_in k outcomes ≡ sum_by (λ (o : Outcome). told.times k (numbers_in o)) outcomes
-same_in k [] = refl
-same_in k (o ∷ outcomes) =
-    omega (arith, same_in k outcomes, same_times k (numbers_in o), sum_by-cons (λ (p : Outcome). times k (numbers_in p)) o outcomes, sum_by-cons (λ (p : Outcome). told.times k (numbers_in p)) o outcomes)
-
-same_placed : (k : ℕ) (phases : List (List Outcome)) → sum_by (times_in k) phases ≡ times_placed k phases
-same_placed k [] = refl
-same_placed k (p ∷ phases) =
-    omega (arith, same_placed k phases, same_in k p, sum_by-cons (times_in k) p phases, sum_by-cons (λ (q : List Outcome). sum_by (λ (o : Outcome). told.times k (numbers_in o)) q) p phases)
-
 -- the history begins with what was found
 begins_found : (found items : List LogItem) → GoesOn found items → take (length (history_of found)) (history_of items) ≡ history_of found
 begins_found found items g = ap (λ (l : List LogItem). take (length (history_of found)) (history_of l)) g.begins ∙ front found g.rest
@@ -73,7 +57,7 @@ begins_found found items g = ap (λ (l : List LogItem). take (length (history_of
 -- where one session ran alone, each of its transactions was placed over just its floor
 just_over : (first now : KnownPass) (phases : List (List Outcome)) (found items : List LogItem) → first.view.least.durable ≡ length found → first.view.least.linked ≡ length found → first.view.leaves ≡ 0
     → now.view.least.linked ≡ length found + now.view.leaves → MayBecome now items → GoesOn found items
-    → ((k : ℕ) → told.times k (flat_map numbers_in (all_in phases)) ≡ told.times k (range_with_len (length (history_of found) + 1) (length (history_of items) - length (history_of found))))
+    → ((k : ℕ) → times k (flat_map numbers_in (all_in phases)) ≡ times k (range_with_len (length (history_of found) + 1) (length (history_of items) - length (history_of found))))
     → RanAlone first now (all_in phases) → All (IsJustOver (history_of items)) (floors_of (length (history_of found)) (all_in phases))
 just_over first now phases found items durable linked none raised m goes placed ran =
     let range : List ℕ = range_with_len (length (history_of found) + 1) (length (history_of items) - length (history_of found)) in
@@ -99,9 +83,10 @@ report_of hash links first now script phases found items a durable linked none u
     let h = history_of items in
     let start : first.view.least.durable ≡ length (history_of found) = durable ∙ sym (history_length found) in
     let floor : first.view.least.linked ≡ length (history_of found) = linked ∙ sym (history_length found) in
-    let placed : (k : ℕ) → times_placed k phases ≡ told.times k (range_with_len (length (history_of found) + 1) (length h - length (history_of found))) =
-    λ k. (let mine : times_placed k phases ≡ times k (placed_by items) = omega (arith, a.own k, ap (times k) none, owned k, same_placed k phases) in
-    mine ∙ (ap (times k) (placed_behind found items goes marked) ∙ same_times k (range_with_len (length (history_of found) + 1) (length h - length (history_of found))))) in
+    let placed : (k : ℕ) → times_placed k phases ≡ times k (range_with_len (length (history_of found) + 1) (length h - length (history_of found))) =
+    λ k. (let own : times k now.view.own ≡ times k first.view.own + times_placed k phases = a.own k in
+    let mine : times_placed k phases ≡ times k (placed_by items) = omega (arith, own, ap (times k) none, owned k) in
+    mine ∙ ap (times k) (placed_behind found items goes marked)) in
     record {
       history = m.history;
       begins = begins_found found items goes;

@@ -50,7 +50,8 @@ use Rattle.im_store.specs.Names.{Naming}
 use Rattle.im_table.proofs.HistoryLemmas.{history_length}
 use Rattle.im_table.specs.Histories.{history_of}
 use Rattle.im_table.specs.Known.{KnownPass}
-use Rattle.im_table.specs.Views.{placed_by, times}
+use Rattle.im_table.specs.Views.{placed_by}
+use Rattle.im_model.specs.Counts.{times}
 use Rattle.im_table.specs.declared.items.LogItem.{LogItem}
 
 -- ---- one phase

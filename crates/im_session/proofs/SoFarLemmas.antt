@@ -15,11 +15,11 @@ use Rattle.im_report.proofs.SingleLemmas.{greatest_most, session_none}
 use Rattle.im_report.specs.Outcomes.{Outcome, line_in, numbers_in, of_session, reply_in}
 use Rattle.im_report.specs.Report.{Answered, is_placed}
 use Rattle.im_session.proofs.AloneLemmas.{alone_both, alone_none}
-use Rattle.im_report.specs.Sessions.{AreAllButLast, AreAnswered, AreOfOne, floor_reached, next_floor, next_low, replies_in}
+use Rattle.im_report.specs.Sessions.{AreAllButLast, AreAnswered, AreOfOne, floor_reached, next_floor, next_low, replies_in, times_in}
 use Rattle.im_script.specs.declared.commands.Line.{Line}
 use Rattle.im_session.proofs.PhaseLemmas.{after_more, floor_push, highest_most, low_push, phase_less, phases_push}
 use Rattle.im_session.specs.Lines.{MayBecome}
-use Rattle.im_session.specs.Phases.{AreSoFar, HasGrown, IsPlayed, RanAlone, RunsAlone, floor_behind, low_after, times_in}
+use Rattle.im_session.specs.Phases.{AreSoFar, HasGrown, IsPlayed, RanAlone, RunsAlone, floor_behind, low_after}
 use Rattle.im_table.proofs.FrontLemmas.{prefix_self, prefix_trans}
 use Rattle.im_table.specs.Histories.{history_of}
 use Rattle.im_table.specs.Known.{KnownPass}

@@ -6,7 +6,8 @@ use Rattle.im_accept.specs.Messages.{IsReadBack}
 use Rattle.im_model.specs.History.{transaction_of, IsHistory}
 use Rattle.im_model.specs.declared.transactions.Transaction.{Transaction}
 use Rattle.im_report.specs.Asking.{MayAsk}
-use Rattle.im_report.specs.Outcomes.{IsLate, IsOver, Rises, number_or_none, number_told}
+use Rattle.im_model.specs.Counts.{number_or_none}
+use Rattle.im_report.specs.Outcomes.{IsLate, IsOver, Rises, number_told}
 use Rattle.im_report.specs.Report.{Answered, IsAnswer, ReadsFrom, floor_by, is_placed}
 use Rattle.im_script.specs.declared.commands.Command.{Command}
 use Rattle.im_script.specs.declared.commands.Command.TheVariants.{Set, Get, Scan, History, Header, State, Prove, Advance, Item, Link, Sql}

@@ -7,7 +7,7 @@ use Rattle.im_accept.specs.Taken.{AreReadBack}
 use Rattle.im_model.specs.declared.transactions.Transaction.{Transaction}
 use Rattle.im_report.specs.Outcomes.{Outcome, highest, line_in, numbers_in, of_session}
 use Rattle.im_report.specs.Report.{floor_after}
-use Rattle.im_report.specs.Sessions.{AreAllButLast, AreAnswered, AreOfOne, ArePhases, IsJustOver, IsPhase, first_replies, floor_reached, floors_of, lines_in, next_floor, next_low, replies_in}
+use Rattle.im_report.specs.Sessions.{AreAllButLast, AreAnswered, AreOfOne, ArePhases, IsJustOver, IsPhase, first_replies, floor_reached, floors_of, lines_in, next_floor, next_low, replies_in, times_in}
 use Rattle.im_script.specs.declared.commands.Line.{Line}
 use Rattle.im_session.specs.Lines.{MayBecome, WasRefused}
 use Rattle.im_session.specs.Runs.{IsDone}
@@ -16,7 +16,7 @@ use Rattle.im_session.specs.declared.errors.LineError.TheVariants.{DiskFault}
 use Rattle.im_session.specs.declared.sessions.Session.{Session}
 use Rattle.im_table.specs.Histories.{history_of}
 use Rattle.im_table.specs.Known.{KnownPass, TableId}
-use Rattle.im_table.specs.Views.{times}
+use Rattle.im_model.specs.Counts.{times}
 use Rattle.im_table.specs.declared.items.LogItem.{LogItem}
 
 -- each session has ended, one by one
@@ -55,10 +55,6 @@ pub record KnowsFaults (old new : KnownPass) (outcomes : List Outcome) (why : Op
   pub failed : why ≡ Some DiskFault → (items : List LogItem) → MayBecome new items → FailsAt (history_of items) old.view.least.durable outcomes
   pub calm : AreAnswered outcomes → new.view.faults ≡ old.view.faults
   pub alone : AreOfOne (outcomes ∷ []) → (why ≡ Some DiskFault → ⊥) → new.view.faults ≡ old.view.faults
-
--- how often a number is that of a transaction placed for a line of these
-abbrev pub times_in : ℕ → List Outcome → ℕ
-times_in k outcomes = sum_by (λ o. times k (numbers_in o)) outcomes
 
 -- how many transactions were placed for lines
 abbrev pub count_in : List Outcome → ℕ

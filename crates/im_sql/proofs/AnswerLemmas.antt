@@ -18,19 +18,16 @@ use Rattle.im_sqlmodel.specs.Tables.{table_names}
 use Rattle.im_sqlmodel.specs.Writes.{WriteIs, Work, write_rows, row_given, insertion_fault, inserted, marked, guarded, placed, rows_met, rows_dropped, erased}
 use Rattle.im_sqlmodel.specs.declared.answers.SqlError.{SqlError}
 use Rattle.im_sqlmodel.specs.declared.answers.SqlError.TheVariants as error
-use Rattle.im_sqlmodel.specs.declared.answers.SqlOut.{SqlOut}
 use Rattle.im_sqlmodel.specs.declared.answers.SqlOut.TheVariants as out
 use Rattle.im_sqlmodel.specs.declared.rows.StoredRow.{StoredRow}
 use Rattle.im_sqlmodel.specs.declared.tables.SqlIndex.{SqlIndex}
 use Rattle.im_sqlmodel.specs.declared.tables.Table.{Table}
 use Rattle.im_sqlmodel.specs.declared.written.Written.{Written}
+use Rattle.im_catalog.proofs.OneLemmas.{Answer}
 use Rattle.im_catalog.proofs.ThereLemmas.{table-of, rows-are, indexes-are}
 use Rattle.im_sql.specs.Working.{written_of}
 use Rattle.im_sql.specs.Writing.{Answers}
 use Rattle.im_sql.proofs.PutLemmas.{put-unguarded}
-
-abbrev pub Answer : Type 0
-Answer = Result SqlOut SqlError
 
 -- memory ran out, or this holds
 abbrev pub Or_short : Answer → Type 0 → Type 0
@@ -72,7 +69,7 @@ pub index-some : (history : List Transaction) (c : CreateIndex) (t : Table) (ans
 index-some history c t answer is (inl short) = inl short
 index-some history c t answer is (inr told) = inr (Some t, is, told)
 
-abbrev refused : SqlError → Answer
+abbrev pub refused : SqlError → Answer
 refused fault = Err fault
 
 -- what is wrong with it is its answer

@@ -21,7 +21,8 @@ use Rattle.im_sqlmodel.proofs.OnceLemmas.{one-count}
 use Rattle.im_catalog.proofs.FoundLemmas.{begins-is}
 use Rattle.im_catalog.proofs.FrontLemmas.{among-kept, begins-from}
 use Rattle.im_catalog.proofs.TableLemmas.{tid-cut}
-use Rattle.im_plan.proofs.EntryLemmas.{no_version, zip-length}
+use Rattle.im_catalog.proofs.ThereLemmas.{no_version}
+use Rattle.im_plan.proofs.EntryLemmas.{zip-length}
 
 -- ---- a list that has something of each number
 

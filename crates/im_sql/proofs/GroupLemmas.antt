@@ -10,14 +10,12 @@ use Rattle.im_catalog.proofs.FoundLemmas.{begins-is}
 use Rattle.im_catalog.proofs.TableLemmas.{tid-cut}
 use Rattle.im_sql.specs.declared.said.TableFound.{TableFound}
 use Rattle.im_sql.proofs.NextLemmas.{Apart, all-of}
-
-abbrev one_if : Bool → ℕ
-one_if b = cond b 1 0
+use Rattle.im_catalog.proofs.NumberLemmas.{unit_of}
 
 -- how many tests an item passes
 abbrev pub hits : {A : Type 0} → List (A → Bool) → A → ℕ
 hits [] x = 0
-hits (p ∷ ps) x = one_if (p x) + hits ps x
+hits (p ∷ ps) x = unit_of (p x) + hits ps x
 
 -- how many pass each test, added up
 abbrev pub sizes : {A : Type 0} → List (A → Bool) → List A → ℕ
@@ -36,7 +34,7 @@ hits-more : {A : Type 0} (p : A → Bool) (ps : List (A → Bool)) (xs : List A)
 hits-more p ps [] = refl
 hits-more p ps (x ∷ xs) =
     let rest : all_hits (p ∷ ps) xs ≡ length (filter p xs) + all_hits ps xs = hits-more p ps xs in
-    elim (p x) as (λ (b : Bool). (one_if b + hits ps x) + all_hits (p ∷ ps) xs ≡ length (cond b (x ∷ filter p xs) (filter p xs)) + (hits ps x + all_hits ps xs)) [
+    elim (p x) as (λ (b : Bool). (unit_of b + hits ps x) + all_hits (p ∷ ps) xs ≡ length (cond b (x ∷ filter p xs) (filter p xs)) + (hits ps x + all_hits ps xs)) [
       | true ↦ omega (arith, rest)
       | false ↦ omega (arith, rest)
     ]
@@ -89,7 +87,7 @@ no-hit p [] x e all = refl
 no-hit p (q ∷ qs) x e all = elim (cases_Bool (q x)) [
   | inl passes ↦ absurd (all.0 e passes)
   | inr fails ↦ (
-      let here : one_if (q x) ≡ 0 = ap one_if fails in
+      let here : unit_of (q x) ≡ 0 = ap unit_of fails in
       let rest : hits qs x ≡ 0 = no-hit p qs x e all.1 in
       omega (arith, here, rest))
 ]
@@ -98,11 +96,11 @@ pub few-hit : {A : Type 0} (ps : List (A → Bool)) (x : A) → Apart (Clash x) 
 few-hit [] x h = omega arith
 few-hit (p ∷ ps) x h = elim (cases_Bool (p x)) [
   | inl passes ↦ (
-      let here : one_if (p x) ≡ 1 = ap one_if passes in
+      let here : unit_of (p x) ≡ 1 = ap unit_of passes in
       let none : hits ps x ≡ 0 = no-hit p ps x passes h.0 in
       omega (arith, here, none))
   | inr fails ↦ (
-      let here : one_if (p x) ≡ 0 = ap one_if fails in
+      let here : unit_of (p x) ≡ 0 = ap unit_of fails in
       let rest : hits ps x ≤ 1 = few-hit ps x h.1 in
       omega (arith, here, rest))
 ]
@@ -111,11 +109,11 @@ few-hit (p ∷ ps) x h = elim (cases_Bool (p x)) [
 pub first-hit : {A : Type 0} (p : A → Bool) (ps : List (A → Bool)) (x : A) → 1 ≤ hits (p ∷ ps) x → (p x ≡ true) ⊎ (1 ≤ hits ps x)
 first-hit p ps x some = elim (cases_Bool (p x)) [
   | inl passes ↦ inl passes
-  | inr fails ↦ (let here : one_if (p x) ≡ 0 = ap one_if fails in inr (omega (arith, here, some)))
+  | inr fails ↦ (let here : unit_of (p x) ≡ 0 = ap unit_of fails in inr (omega (arith, here, some)))
 ]
 
 pub hit-first : {A : Type 0} (p : A → Bool) (ps : List (A → Bool)) (x : A) → p x ≡ true → 1 ≤ hits (p ∷ ps) x
-hit-first p ps x passes = (let here : one_if (p x) ≡ 1 = ap one_if passes in omega (arith, here))
+hit-first p ps x passes = (let here : unit_of (p x) ≡ 1 = ap unit_of passes in omega (arith, here))
 
 pub hit-rest : {A : Type 0} (p : A → Bool) (ps : List (A → Bool)) (x : A) → 1 ≤ hits ps x → 1 ≤ hits (p ∷ ps) x
 hit-rest p ps x some = omega (arith, some)

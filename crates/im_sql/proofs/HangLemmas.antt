@@ -1,5 +1,5 @@
 -- How what live keys say hangs together, one table, mark or entry after the other.
-use Rattle.std.proofs.Common.{◌≡◌, ◌≢◌, ◌≤◌, ◌<◌, ◌+◌, ◌-◌, ◌↔◌, ◌⊎◌, inl, inr, ℕ, zero, suc, Bool, true, false, min, List, [], ◌∷◌, ◌++◌, length, map, flat_map, sum_by, take, drop, get_or, nat_eq, nat_le, nat_lt, ◌^◌, All, AllPairs, refl, sym, ap, ◌∙◌, subst, append_assoc, length-append, arith}
+use Rattle.std.proofs.Common.{◌≡◌, ◌≢◌, ◌≤◌, ◌<◌, ◌+◌, ◌-◌, ◌↔◌, inl, inr, ℕ, zero, suc, Bool, true, false, min, List, [], ◌∷◌, ◌++◌, length, map, flat_map, sum_by, take, drop, get_or, nat_eq, nat_le, nat_lt, ◌^◌, All, AllPairs, refl, sym, ap, ◌∙◌, subst, append_assoc, length-append, arith}
 use Rattle.std.proofs.lemmas.Bool.{true≢false, false_from_ne_true, cases_lt, cases_order, eq-eqb, eqb-true, ltb-true, ltb-false, leb-true, leb-false, le-leb, lt-ltb}
 use Rattle.std.proofs.lemmas.List.{get_or-take, get_or-drop, length-take, length-drop, length-map, map-append, take_more, take_all, take_at, drop_at, take-append-drop, flat_map_more}
 use Rattle.std.proofs.lemmas.List.Sums.{sum_by_push, sum_by-take-le}

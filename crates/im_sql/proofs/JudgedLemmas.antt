@@ -28,9 +28,9 @@ use Rattle.im_sqlmodel.proofs.OnceLemmas.{value-live}
 use Rattle.im_catalog.proofs.FoundLemmas.{begins-is, entry-is, other-second, table-there}
 use Rattle.im_catalog.proofs.FrontLemmas.{among-kept, begins-from, begins-shorter, scan-front}
 use Rattle.im_catalog.proofs.HistoryLemmas.{among-either}
-use Rattle.im_catalog.proofs.ThereLemmas.{rows-are, indexes-are}
+use Rattle.im_catalog.proofs.ThereLemmas.{no_version, rows-are, indexes-are}
 use Rattle.im_plan.proofs.BestLemmas.{at-any}
-use Rattle.im_plan.proofs.EntryLemmas.{no_version, zip-at, zip-length}
+use Rattle.im_plan.proofs.EntryLemmas.{zip-at, zip-length}
 use Rattle.im_sql.specs.Sounding.{kind_shown, under, said_by, entries_of, IsTableVersion, IsFound, IsFoundBy, AreFound, IsCountShown, AreNumbered, AreGapless, IsMarked, IsSoundAlone, IsMarkShown, AreEntered, IsAll, Hang, AreByNumber}
 use Rattle.im_sql.specs.declared.said.TableFound.{TableFound}
 use Rattle.im_sql.proofs.AmongLemmas.{among-nil, among-left, among-right, among-map, map-among, among-flat, flat-among, among-sorted, sorted-among, sorted-rising, by_key, no-more, up_to, length-up_to, among-up_to}

@@ -7,8 +7,8 @@ use Rattle.im_changes.specs.Changes.{AreChanges}
 use Rattle.im_sqlmodel.specs.Sorts.{sorted}
 use Rattle.im_sqlmodel.specs.Kept.{IsSqlSound, IsSqlKept, IsFirstUnsound}
 use Rattle.im_sqlmodel.proofs.KeptLemmas.{nothing_kept}
+use Rattle.im_catalog.proofs.ThereLemmas.{no_version}
 use Rattle.im_plan.proofs.BestLemmas.{at-any}
-use Rattle.im_plan.proofs.EntryLemmas.{no_version}
 use Rattle.im_sql.specs.Sounding.{AreByNumber}
 use Rattle.im_sql.proofs.TurnLemmas.{IsQuiet, by_tx, changes-sorted, quiet-sound, quiet-between, all-within, upto-changes, sound-next, kept-whole, first-unsound}
 

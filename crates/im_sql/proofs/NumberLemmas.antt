@@ -1,5 +1,5 @@
 -- The keys of a table's indexes rise with the numbers of the indexes.
-use Rattle.std.proofs.Common.{◌≡◌, ◌≤◌, ◌<◌, ◌+◌, ◌^◌, ◌/◌, ◌%◌, inl, inr, ℕ, zero, suc, List, [], ◌∷◌, ◌++◌, length, get_or, refl, sym, ap, ◌∙◌, subst, arith}
+use Rattle.std.proofs.Common.{◌≡◌, ◌≤◌, ◌<◌, ◌+◌, ◌^◌, inl, inr, ℕ, zero, suc, List, [], ◌∷◌, ◌++◌, length, get_or, refl, sym, ap, ◌∙◌, subst, arith}
 use Rattle.std.proofs.lemmas.Bool.{cases_order}
 use Rattle.std.proofs.lemmas.List.{append-nil}
 use Rattle.std.specs.Cmp.{nat_cmp_is}
@@ -12,7 +12,7 @@ use Rattle.im_versions.specs.Versions.{IsBelow}
 use Rattle.im_versions.proofs.VersionLemmas.{below-strict}
 use Rattle.im_sqltype.specs.Orders.{octets_cmp}
 use Rattle.im_sqltype.proofs.FieldLemmas.{field8-order}
-use Rattle.im_sqltype.proofs.OrderLemmas.{then-Equal}
+use Rattle.im_sqltype.specs.Total.{then-Equal}
 use Rattle.im_sqlmodel.specs.Keys.{index_prefix, index_key}
 
 -- a number of four octets in eight

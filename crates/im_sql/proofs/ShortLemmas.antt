@@ -15,7 +15,7 @@ use Rattle.im_versions.specs.declared.versions.Version.{Version}
 use Rattle.im_versions.proofs.ListLemmas.{All-among}
 use Rattle.im_versions.proofs.ScanLemmas.{below-trans, below-turned, same-key}
 use Rattle.im_versions.proofs.VersionLemmas.{below-strict, last-of-key, last-among-all}
-use Rattle.im_draft.specs.Drafts.{entry_of, no_attributes, IsFine}
+use Rattle.im_draft.specs.Drafts.{deletion, entry_of, no_attributes, IsFine}
 use Rattle.im_draft.specs.declared.drafts.Draft.{Draft}
 use Rattle.im_sqltype.specs.Orders.{octets_cmp}
 use Rattle.im_sqltype.specs.Texts.{row_text}
@@ -48,16 +48,13 @@ use Rattle.im_sql.proofs.WorkLemmas.{index-of, row-of}
 abbrev pub IsShort : Written → Type 0
 IsShort w = IsFine (draft_written w)
 
-abbrev gone : List ℕ → Draft
-gone key = record { attrs = record { deleted = true; non_indexable = false }; key = key; value = [] }
-
 abbrev stands : List ℕ → List ℕ → Draft
 stands key value = record { attrs = no_attributes; key = key; value = value }
 
 -- one that has a value
 short-some : (w : Written) (value : List ℕ) → w.value ≡ Some value → 1 ≤ length w.key → length w.key ≤ 1024 → length value ≤ 4096 → IsShort w
 short-some w value e given short few =
-    subst (λ (o : Option (List ℕ)). IsFine (by_option o (gone w.key) (stands w.key))) (sym e) (record { key_given = given; key_short = short; value_short = few })
+    subst (λ (o : Option (List ℕ)). IsFine (by_option o (deletion w.key) (stands w.key))) (sym e) (record { key_given = given; key_short = short; value_short = few })
 
 -- one that is deleted
 short-none : (key : List ℕ) → 1 ≤ length key → length key ≤ 1024 → IsShort (record { key = key; value = None })
@@ -66,7 +63,7 @@ short-none key given short = record { key_given = given; key_short = short; valu
 key-given : (w : Written) → IsShort w → (1 ≤ length w.key) × (length w.key ≤ 1024)
 key-given w is = by-value w.value is
   where
-    by-value : (o : Option (List ℕ)) → IsFine (by_option o (gone w.key) (stands w.key)) → (1 ≤ length w.key) × (length w.key ≤ 1024)
+    by-value : (o : Option (List ℕ)) → IsFine (by_option o (deletion w.key) (stands w.key)) → (1 ≤ length w.key) × (length w.key ≤ 1024)
     by-value None fine = (fine.key_given, fine.key_short)
     by-value (Some value) fine = (fine.key_given, fine.key_short)
 
@@ -318,7 +315,7 @@ erased-fine t indexes q rows all =
 draft-key : (w : Written) → (draft_written w).key ≡ w.key
 draft-key w = by-value w.value
   where
-    by-value : (o : Option (List ℕ)) → (by_option o (gone w.key) (stands w.key)).key ≡ w.key
+    by-value : (o : Option (List ℕ)) → (by_option o (deletion w.key) (stands w.key)).key ≡ w.key
     by-value None = refl
     by-value (Some value) = refl
 

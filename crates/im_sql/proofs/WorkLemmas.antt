@@ -17,7 +17,8 @@ use Rattle.im_sqlmodel.specs.declared.tables.SqlIndex.{SqlIndex}
 use Rattle.im_sqlmodel.specs.declared.tables.Table.{Table}
 use Rattle.im_sqlmodel.specs.declared.written.Written.{Written}
 use Rattle.im_sqlmodel.proofs.OnceLemmas.{one-value}
-use Rattle.im_plan.proofs.EntryLemmas.{no_version, zip-at, zip-length, zip-among, rows-rise}
+use Rattle.im_catalog.proofs.ThereLemmas.{no_version}
+use Rattle.im_plan.proofs.EntryLemmas.{zip-at, zip-length, zip-among, rows-rise}
 use Rattle.im_sql.specs.Working.{IsWorking}
 
 -- a row of the list is a row of the history

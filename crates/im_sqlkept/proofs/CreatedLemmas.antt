@@ -1,5 +1,5 @@
 -- CREATE TABLE keeps the keys SQL's.
-use Rattle.std.proofs.Common.{◌≡◌, ◌≢◌, ◌≤◌, ◌<◌, ◌+◌, ◌^◌, ◌||◌, ◌⊎◌, inl, inr, ℕ, Bool, true, false, not, cond, if◌then◌else◌, List, [], ◌∷◌, ◌++◌, length, take, drop, get_or, map, bytes_eq, Option, Some, None, refl, sym, ap, ap₂, ◌∙◌, subst, length-append, arith}
+use Rattle.std.proofs.Common.{◌≡◌, ◌≢◌, ◌≤◌, ◌+◌, ◌||◌, ◌⊎◌, inl, inr, ℕ, Bool, true, false, not, cond, if◌then◌else◌, List, [], ◌∷◌, ◌++◌, length, take, drop, get_or, map, bytes_eq, Option, Some, None, refl, sym, ap, ap₂, ◌∙◌, subst, length-append, arith}
 use Rattle.std.proofs.lemmas.Bool.{true≢false, cases_Bool, cases_lt}
 use Rattle.std.proofs.lemmas.List.{take_all}
 use Rattle.std.proofs.lemmas.Slice.Eq.{bytes_eq-Decides}
@@ -26,34 +26,31 @@ use Rattle.im_catalog.specs.Parts.{HasParts}
 use Rattle.im_catalog.proofs.FoundLemmas.{entry-is}
 use Rattle.im_catalog.proofs.TableLemmas.{one-table, table-read, tid-cut}
 use Rattle.im_sqlkept.proofs.BehindLemmas.{written_at, Once, last_behind, last-pushed, live-still, live-new, live-by, IsLiveBy}
+use Rattle.im_sql.specs.Writing.{table_entries}
 use Rattle.im_sql.proofs.CarriedLemmas.{taken-front, push-grows}
 
--- what it writes
-abbrev pub created : Table → List Written
-created t = record { key = tables_key; value = Some (field4 t.tid) } ∷ record { key = table_key t.name; value = Some (table_text t) } ∷ []
-
-pub created-once : (t : Table) → Once (created t)
+pub created-once : (t : Table) → Once (table_entries t)
 created-once t = (((λ same. (let zero_one : 0 ≡ 1 = ap (λ (k : List ℕ). get_or k 1 0) same in omega (arith, zero_one))), tt), (tt, tt))
 
 abbrev by_tests : Table → Bool → Bool → Option (Option (List ℕ))
 by_tests t a b = option_map (λ (w : Written). w.value) (cond a (Some (record { key = tables_key; value = Some (field4 t.tid) })) (cond b (Some (record { key = table_key t.name; value = Some (table_text t) })) None))
 
-other-key : (t : Table) (key : List ℕ) → key ≢ tables_key → key ≢ table_key t.name → written_at (created t) key ≡ None
+other-key : (t : Table) (key : List ℕ) → key ≢ tables_key → key ≢ table_key t.name → written_at (table_entries t) key ≡ None
 other-key t key a b = ap₂ (by_tests t) (bytes-other key tables_key a) (bytes-other key (table_key t.name) b)
 
-count-key : (t : Table) → written_at (created t) tables_key ≡ Some (Some (field4 t.tid))
+count-key : (t : Table) → written_at (table_entries t) tables_key ≡ Some (Some (field4 t.tid))
 count-key t = ap (λ (a : Bool). by_tests t a (bytes_eq tables_key (table_key t.name))) ((bytes_eq-Decides tables_key tables_key).1 refl)
 
-own-key : (t : Table) → written_at (created t) (table_key t.name) ≡ Some (Some (table_text t))
+own-key : (t : Table) → written_at (table_entries t) (table_key t.name) ≡ Some (Some (table_text t))
 own-key t =
     ap₂ (by_tests t) (bytes-other (table_key t.name) tables_key (λ same. (let one_zero : 1 ≡ 0 = ap (λ (k : List ℕ). get_or k 1 0) same in omega (arith, one_zero))))
     ((bytes_eq-Decides (table_key t.name) (table_key t.name)).1 refl)
 
 abbrev Writes : Transaction → Table → Type 0
-Writes tx t = tx.entries ≡ map (λ (w : Written). entry_of (draft_written w)) (created t)
+Writes tx t = tx.entries ≡ map (λ (w : Written). entry_of (draft_written w)) (table_entries t)
 
 -- a key behind whose second octet no table and no number of tables stands isn't written
-high-key : (t : Table) (key : List ℕ) (n : ℕ) → 2 ≤ n → get_or key 1 0 ≡ n → written_at (created t) key ≡ None
+high-key : (t : Table) (key : List ℕ) (n : ℕ) → 2 ≤ n → get_or key 1 0 ≡ n → written_at (table_entries t) key ≡ None
 high-key t key n high second =
     other-key t key
     (λ same. (let zero_is : get_or key 1 0 ≡ 0 = ap (λ (k : List ℕ). get_or k 1 0) same in omega (arith, zero_is, second, high)))
@@ -72,12 +69,12 @@ module _ (history : List Transaction) (tx : Transaction) (t : Table) (count : �
   pub table-old : (u : Table) → IsTableOf history u → IsTableOf after u
   table-old u of = (
     of.0,
-    live-still history tx (created t) (created-once t) writes (table_key u.name) (table_text u)
+    live-still history tx (table_entries t) (created-once t) writes (table_key u.name) (table_text u)
         (other-key t (table_key u.name) (λ same. (let one_zero : 1 ≡ 0 = ap (λ (k : List ℕ). get_or k 1 0) same in omega (arith, one_zero))) (other-name u of)) of.1,
   )
 
   pub table-new : IsTableOf after t
-  table-new = (is, live-new history tx (created t) (created-once t) writes (table_key t.name) (table_text t) (own-key t))
+  table-new = (is, live-new history tx (table_entries t) (created-once t) writes (table_key t.name) (table_text t) (own-key t))
 
   pub table-by : (u : Table) → IsTableOf after u → IsTableOf history u ⊎ (u ≡ t)
   table-by u of = elim (cases_Bool (bytes_eq (table_key u.name) (table_key t.name))) [
@@ -85,19 +82,19 @@ module _ (history : List Transaction) (tx : Transaction) (t : Table) (count : �
         let key : table_key u.name ≡ table_key t.name = (bytes_eq-Decides (table_key u.name) (table_key t.name)).0 same in
         let live : IsLiveAs after (table_key t.name) (table_text u) = subst (λ (k : List ℕ). IsLiveAs after k (table_text u)) key of.1 in
         let text : table_text t ≡ table_text u =
-        subst (λ (there : Option (Option (List ℕ))). IsLiveBy history tx (created t) (created-once t) writes (table_key t.name) (table_text u) there) (own-key t)
-        (live-by history tx (created t) (created-once t) writes (table_key t.name) (table_text u) live) in
+        subst (λ (there : Option (Option (List ℕ))). IsLiveBy history tx (table_entries t) (created-once t) writes (table_key t.name) (table_text u) there) (own-key t)
+        (live-by history tx (table_entries t) (created-once t) writes (table_key t.name) (table_text u) live) in
         let names : u.name ≡ t.name = ap (λ (k : List ℕ). drop 2 k) key in
         let has : HasParts u.name (table_text u) u = record { is = table-read u of.0; named = refl; says = refl } in
         inr (one-table u.name (table_text u) u t has (table-read t is) (sym names) (sym text)))
     | inr other ↦ (
-        let none : written_at (created t) (table_key u.name) ≡ None =
+        let none : written_at (table_entries t) (table_key u.name) ≡ None =
         other-key t (table_key u.name) (λ same. (let one_zero : 1 ≡ 0 = ap (λ (k : List ℕ). get_or k 1 0) same in omega (arith, one_zero)))
         (λ same. true≢false (sym ((bytes_eq-Decides (table_key u.name) (table_key t.name)).1 same) ∙ other)) in
         inl (
           of.0,
-          subst (λ (there : Option (Option (List ℕ))). IsLiveBy history tx (created t) (created-once t) writes (table_key u.name) (table_text u) there) none
-              (live-by history tx (created t) (created-once t) writes (table_key u.name) (table_text u) of.1),
+          subst (λ (there : Option (Option (List ℕ))). IsLiveBy history tx (table_entries t) (created-once t) writes (table_key u.name) (table_text u) there) none
+              (live-by history tx (table_entries t) (created-once t) writes (table_key u.name) (table_text u) of.1),
         ))
   ]
 
@@ -105,11 +102,11 @@ module _ (history : List Transaction) (tx : Transaction) (t : Table) (count : �
 
   pub high-live : (key value : List ℕ) (n : ℕ) → 2 ≤ n → get_or key 1 0 ≡ n → IsLiveAs after key value → IsLiveAs history key value
   high-live key value n high second live =
-      subst (λ (there : Option (Option (List ℕ))). IsLiveBy history tx (created t) (created-once t) writes key value there) (high-key t key n high second)
-      (live-by history tx (created t) (created-once t) writes key value live)
+      subst (λ (there : Option (Option (List ℕ))). IsLiveBy history tx (table_entries t) (created-once t) writes key value there) (high-key t key n high second)
+      (live-by history tx (table_entries t) (created-once t) writes key value live)
 
   pub high-still : (key value : List ℕ) (n : ℕ) → 2 ≤ n → get_or key 1 0 ≡ n → IsLiveAs history key value → IsLiveAs after key value
-  high-still key value n high second live = live-still history tx (created t) (created-once t) writes key value (high-key t key n high second) live
+  high-still key value n high second live = live-still history tx (table_entries t) (created-once t) writes key value (high-key t key n high second) live
 
   -- ---- what hangs on a table
 
@@ -178,24 +175,24 @@ module _ (history : List Transaction) (tx : Transaction) (t : Table) (count : �
       inr (inr (inr (inr (inr (text.0, text.1, text.2, index-old text.0 text.1 text.3, row-old text.0 text.2 text.4, text.5, text.6)))))
 
   abbrev By : List ℕ → List ℕ → Option (Option (List ℕ)) → Type 0
-  By key value there = IsLiveBy history tx (created t) (created-once t) writes key value there
+  By key value there = IsLiveBy history tx (table_entries t) (created-once t) writes key value there
 
   texts-after : (rest value : List ℕ) → IsLiveAs after (0 ∷ rest) value → IsText after (0 ∷ rest) value
   texts-after rest value live =
       let key : List ℕ = 0 ∷ rest in
-      let by : By key value (written_at (created t) key) = live-by history tx (created t) (created-once t) writes key value live in
+      let by : By key value (written_at (table_entries t) key) = live-by history tx (table_entries t) (created-once t) writes key value live in
       elim (cases_Bool (bytes_eq key tables_key)) [
         | inl counts ↦ (
             let same : key ≡ tables_key = (bytes_eq-Decides key tables_key).0 counts in
-            let text : field4 t.tid ≡ value = subst (By key value) (ap (written_at (created t)) same ∙ count-key t) by in
+            let text : field4 t.tid ≡ value = subst (By key value) (ap (written_at (table_entries t)) same ∙ count-key t) by in
             inl (t.tid, is.tid.1, same, sym text))
         | inr differs ↦ elim (cases_Bool (bytes_eq key (table_key t.name))) [
           | inl own ↦ (
               let same : key ≡ table_key t.name = (bytes_eq-Decides key (table_key t.name)).0 own in
-              let text : table_text t ≡ value = subst (By key value) (ap (written_at (created t)) same ∙ own-key t) by in
+              let text : table_text t ≡ value = subst (By key value) (ap (written_at (table_entries t)) same ∙ own-key t) by in
               inr (inl (t, is, same, sym text)))
           | inr other ↦ (
-              let none : written_at (created t) key ≡ None =
+              let none : written_at (table_entries t) key ≡ None =
               other-key t key (λ same. true≢false (sym ((bytes_eq-Decides key tables_key).1 same) ∙ differs)) (λ same. true≢false (sym ((bytes_eq-Decides key (table_key t.name)).1 same) ∙ other)) in
               text-old key value (sound.texts rest value (subst (By key value) none by)))
         ]
@@ -237,10 +234,10 @@ module _ (history : List Transaction) (tx : Transaction) (t : Table) (count : �
     | inr new ↦ subst (λ (w : Table). (1 ≤ w.tid) × (w.tid ≤ t.tid)) (sym new) (is.tid.0, (let most : t.tid ≤ t.tid = omega arith in most))
   ]
 
-  last-same : (key : List ℕ) → written_at (created t) key ≡ None → last_version after key ≡ last_version history key
-  last-same key none = last-pushed history tx (created t) (created-once t) writes key ∙ ap (last_behind (length history + 1) key (last_version history key)) none
+  last-same : (key : List ℕ) → written_at (table_entries t) key ≡ None → last_version after key ≡ last_version history key
+  last-same key none = last-pushed history tx (table_entries t) (created-once t) writes key ∙ ap (last_behind (length history + 1) key (last_version history key)) none
 
-  kept-key : (key : List ℕ) (v : Version) → (begins_with table_prefix key || begins_with indexes_prefix key) ≡ true → last_version history key ≡ Some v → v.deleted ≡ false → written_at (created t) key ≡ None
+  kept-key : (key : List ℕ) (v : Version) → (begins_with table_prefix key || begins_with indexes_prefix key) ≡ true → last_version history key ≡ Some v → v.deleted ≡ false → written_at (table_entries t) key ≡ None
   kept-key key v begins last alive =
       other-key t key
       (λ same. true≢false (sym begins ∙ ap (λ (k : List ℕ). begins_with table_prefix k || begins_with indexes_prefix k) same))
@@ -262,7 +259,7 @@ module _ (history : List Transaction) (tx : Transaction) (t : Table) (count : �
   created-sound = record {
     texts = texts-after;
     count = t.tid;
-    counted = inr (is.tid.1, live-new history tx (created t) (created-once t) writes tables_key (field4 t.tid) (count-key t));
+    counted = inr (is.tid.1, live-new history tx (table_entries t) (created-once t) writes tables_key (field4 t.tid) (count-key t));
     numbered = numbered-after;
     filled = filled-after;
     once = once-after;

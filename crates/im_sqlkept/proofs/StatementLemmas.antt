@@ -1,5 +1,5 @@
 -- What a statement asks for keeps the keys SQL's, where it is placed behind a history that admits it.
-use Rattle.std.proofs.Common.{◌≡◌, ◌≢◌, ◌≤◌, ◌<◌, ◌+◌, ◌^◌, inl, inr, ℕ, Bool, true, false, not, if◌then◌else◌, List, [], ◌∷◌, ◌++◌, length, take, map, filter, nat_eq, nat_lt, Option, Some, None, Result, Ok, Err, MatchOption, refl, sym, ap, ◌∙◌, subst}
+use Rattle.std.proofs.Common.{◌≡◌, ◌≢◌, ◌≤◌, ◌+◌, inl, inr, ℕ, Bool, true, false, not, if◌then◌else◌, List, [], ◌∷◌, ◌++◌, length, take, map, filter, nat_eq, nat_lt, Option, Some, None, Result, Ok, Err, MatchOption, refl, sym, ap, ◌∙◌, subst}
 use Rattle.std.proofs.lemmas.Bool.{leb-true}
 use Rattle.std.proofs.lemmas.List.{length-take-le}
 use Rattle.std.proofs.lemmas.List.Elements.{recursion_from_All}
@@ -37,14 +37,15 @@ use Rattle.im_sqlmodel.specs.Tables.{IsTableIndex, table_text, table_names}
 use Rattle.im_sqlmodel.specs.Writes.{row_given, insertion_fault, write_rows, marked, is_guarded, guarded, most_entries, placed, inserted, rows_met, rows_dropped, erased, WriteIs, Work}
 use Rattle.im_sqlmodel.specs.declared.answers.SqlError.{SqlError}
 use Rattle.im_sqlmodel.specs.declared.answers.SqlError.TheVariants as error
-use Rattle.im_sqlmodel.specs.declared.answers.SqlOut.{SqlOut}
 use Rattle.im_sqlmodel.specs.declared.answers.SqlOut.TheVariants as out
 use Rattle.im_sqlmodel.specs.declared.rows.StoredRow.{StoredRow}
 use Rattle.im_sqlmodel.specs.declared.tables.SqlIndex.{SqlIndex}
 use Rattle.im_sqlmodel.specs.declared.tables.Table.{Table}
 use Rattle.im_sqlmodel.specs.declared.written.Written.{Written}
 use Rattle.im_sqlmodel.proofs.KeptLemmas.{kept-sound}
+use Rattle.im_catalog.proofs.OneLemmas.{Answer}
 use Rattle.im_catalog.proofs.FrontLemmas.{among-kept}
+use Rattle.im_sql.proofs.AnswerLemmas.{refused}
 use Rattle.im_sql.specs.Writing.{written_at}
 use Rattle.im_sql.proofs.AmongLemmas.{among-map}
 use Rattle.im_sql.proofs.CarriedLemmas.{taken-front, kept-push}
@@ -65,17 +66,11 @@ use Rattle.im_sqlkept.proofs.WrittenLemmas.{AreTaken, rows-given, rows-taken, ro
 
 -- ---- answers
 
-abbrev Answer : Type 0
-Answer = Result SqlOut SqlError
-
 abbrev asks : Asked → Answer
 asks asked = Ok (out.Write asked)
 
 abbrev nothing : Answer
 nothing = Ok out.Nothing
-
-abbrev refused : SqlError → Answer
-refused fault = Err fault
 
 asks-is : (a b : Asked) → asks a ≡ asks b → a ≡ b
 asks-is a b e = cc

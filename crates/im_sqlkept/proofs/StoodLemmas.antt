@@ -24,8 +24,9 @@ use Rattle.im_sqlmodel.specs.declared.written.Written.{Written}
 use Rattle.im_catalog.proofs.FoundLemmas.{begins-is}
 use Rattle.im_catalog.proofs.FrontLemmas.{begins-from}
 use Rattle.im_catalog.proofs.OneLemmas.{one-index-version}
+use Rattle.im_catalog.proofs.ThereLemmas.{no_version}
 use Rattle.im_plan.proofs.BestLemmas.{at-any}
-use Rattle.im_plan.proofs.EntryLemmas.{no_version, zip-at, zip-length, zip-among, zip-among-left}
+use Rattle.im_plan.proofs.EntryLemmas.{zip-at, zip-length, zip-among, zip-among-left}
 use Rattle.im_plan.proofs.EntryRowLemmas.{text-same}
 use Rattle.im_sql.specs.Writing.{written_at}
 use Rattle.im_sql.proofs.LookLemmas.{number-some}

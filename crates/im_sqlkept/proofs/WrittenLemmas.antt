@@ -1,5 +1,5 @@
 -- What INSERT, UPSERT and DELETE write: keys of rows and of entries, each once, over the rows that stood.
-use Rattle.std.proofs.Common.{position, ◌≡◌, ◌≢◌, ◌<◌, ◌+◌, ◌⊎◌, ◌||◌, ◌&&◌, inl, inr, ℕ, zero, suc, Bool, true, false, not, cond, if◌then◌else◌, List, [], ◌∷◌, ◌++◌, map, flat_map, filter, find, bytes_eq, length, get_or, is_some, Option, Some, None, Ok, Err, MatchOption, refl, sym, ap, ◌∙◌, subst, arith}
+use Rattle.std.proofs.Common.{position, ◌≡◌, ◌≢◌, ◌+◌, ◌⊎◌, ◌||◌, inl, inr, ℕ, zero, suc, Bool, true, false, not, cond, List, [], ◌∷◌, ◌++◌, map, flat_map, filter, find, bytes_eq, length, get_or, is_some, Option, Some, None, Ok, Err, MatchOption, refl, sym, ap, ◌∙◌, subst, arith}
 use Rattle.std.proofs.lemmas.Bool.{true≢false, cases_Bool}
 use Rattle.std.proofs.lemmas.List.Elements.{All-from_recursion, recursion_from_All}
 use Rattle.std.proofs.lemmas.List.{length-map}

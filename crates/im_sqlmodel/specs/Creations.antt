@@ -1,10 +1,10 @@
 -- CREATE TABLE and CREATE INDEX: their errors, and what they write.
-use Rattle.std.specs.Prelude.{◌≡◌, ◌+◌, ℕ, not, List, [], ◌∷◌, ◌++◌, map, length, nat_eq, if◌then◌else◌, unwrap_or, position, find, bytes_eq, option_map, MatchOption, Option, Some, None, Result, Ok, Err, true, false}
+use Rattle.std.specs.Prelude.{◌≡◌, ◌+◌, ℕ, not, List, [], ◌∷◌, ◌++◌, map, length, nat_eq, if◌then◌else◌, unwrap_or, position, find, bytes_eq, option_map, MatchOption, Option, Some, None, Result, Ok, Err}
 use Rattle.std.specs.List.{list_any}
 use Rattle.std.specs.Option.{option_or}
 use Rattle.im_octet.specs.Fields.{field4}
 use Rattle.im_model.specs.declared.transactions.Transaction.{Transaction}
-use Rattle.im_draft.specs.Drafts.{no_attributes, entry_of}
+use Rattle.im_draft.specs.Drafts.{deletion, no_attributes, entry_of}
 use Rattle.im_draft.specs.declared.drafts.Draft.{Draft}
 use Rattle.im_draft.specs.declared.preconditions.Pre.TheVariants.{Since}
 use Rattle.im_tx.specs.Asked.{Asked}
@@ -34,7 +34,7 @@ use Rattle.im_sqlmodel.specs.declared.written.Written.{Written}
 -- the entry that is asked for: of a deleted key with the attribute and an empty value
 abbrev pub draft_written : Written → Draft
 draft_written w = by_option w.value
-    (record { attrs = record { deleted = true; non_indexable = false }; key = w.key; value = [] })
+    (deletion w.key)
     (λ value. record { attrs = no_attributes; key = w.key; value = value })
 
 -- these entries, under the preconditions that none of these keys has a version behind transaction n

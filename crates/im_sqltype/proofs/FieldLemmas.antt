@@ -1,7 +1,7 @@
 -- Big-endian fields are in the order of their numbers, and so are numbers with a sign, raised by 2^63.
-use Rattle.std.proofs.Common.{◌≡◌, ℕ, zero, suc, ◌+◌, ◌-◌, ◌*◌, ◌%◌, ◌^◌, ◌<◌, ◌≤◌, ℤ, pos, negsuc, List, ◌++◌, refl, sym, ap, ◌∙◌, arith, FitsSigned}
+use Rattle.std.proofs.Common.{◌≡◌, ℕ, zero, suc, ◌+◌, ◌-◌, ◌*◌, ◌%◌, ◌^◌, ◌<◌, ℤ, pos, negsuc, List, ◌++◌, refl, sym, ap, ◌∙◌, arith, FitsSigned}
 use Rattle.std.specs.Prelude.{◌<ℤ◌}
-use Rattle.std.specs.Int.{w64, byte_at, bytes_high_first, cast_unsigned}
+use Rattle.std.specs.Int.{w64, byte_at, bytes_high_first}
 use Rattle.std.proofs.lemmas.Int.{ints}
 use Rattle.std.specs.declared.cmp.Ordering.{Ordering}
 use Rattle.std.specs.declared.cmp.Ordering.TheVariants.{Less, Equal, Greater}
@@ -72,11 +72,3 @@ turned y z p q Greater h = raised-less z y q p h
 
 pub raised-order : (y z : ℤ) → FitsSigned w64 y → FitsSigned w64 z → nat_cmp (raised y) (raised z) ≡ int_cmp y z
 raised-order y z p q = int_cmp_is y z (nat_cmp (raised y) (raised z)) (turned y z p q (nat_cmp (raised y) (raised z)) (ranks (raised y) (raised z)))
-
-pub raised-low : (z : ℤ) → FitsSigned w64 z → cast_unsigned w64 z < 2 ^ 63 → raised z ≡ cast_unsigned w64 z + 2 ^ 63
-raised-low (pos n) p h = omega arith
-raised-low (negsuc n) p h = let l : n < 2 ^ 63 = p.sfits in absurd (let no : ⊥ = omega (arith, l, h) in no)
-
-pub raised-high : (z : ℤ) → FitsSigned w64 z → 2 ^ 63 ≤ cast_unsigned w64 z → raised z ≡ cast_unsigned w64 z - 2 ^ 63
-raised-high (pos n) p h = let l : n < 2 ^ 63 = p.sfits in absurd (let no : ⊥ = omega (arith, l, h) in no)
-raised-high (negsuc n) p h = let l : n < 2 ^ 63 = p.sfits in omega (arith, l)

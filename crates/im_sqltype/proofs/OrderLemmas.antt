@@ -11,11 +11,6 @@ then_assoc Less p q = refl
 then_assoc Equal p q = refl
 then_assoc Greater p q = refl
 
-pub then-Equal : (o : Ordering) → ordering_then o Equal ≡ o
-then-Equal Less = refl
-then-Equal Equal = refl
-then-Equal Greater = refl
-
 abbrev pub IsEqual : Ordering → Type 0
 IsEqual Less = ⊥
 IsEqual Equal = Unit {0}

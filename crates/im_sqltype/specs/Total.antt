@@ -26,7 +26,8 @@ value_octets value = []
 abbrev parts_cmp : Value → Value → Ordering
 parts_cmp = then_cmp (on rank_of nat_cmp) (then_cmp (on value_number int_cmp) (on value_octets octets_cmp))
 
-then-Equal : (o : Ordering) → ordering_then o Equal ≡ o
+-- an order behind which nothing is told stays as it is
+pub then-Equal : (o : Ordering) → ordering_then o Equal ≡ o
 then-Equal Less = refl
 then-Equal Equal = refl
 then-Equal Greater = refl

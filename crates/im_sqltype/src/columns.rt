@@ -23,13 +23,6 @@ impl Model for Limit {
 impl Limit {
     ghost use Rattle.std.specs.Prelude.{◌≡◌, ◌≤◌, nat_le, if◌then◌else◌};
 
-    /// The greatest limit: that of a column which sets none.
-    pub fn greatest() -> Self
-        ensures { result ≡ 1024 }
-    {
-        Limit { octets: 1024 }
-    }
-
     /// A limit of so many octets, which the caller has tested.
     pub fn new(octets: u16) -> Self
         requires least { 1 ≤ octets }

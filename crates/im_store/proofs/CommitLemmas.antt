@@ -10,7 +10,7 @@ use Rattle.im_table.specs.Histories.{history_of}
 use Rattle.im_table.specs.Known.{KnownPass}
 use Rattle.im_table.specs.Passes.{Later}
 use Rattle.im_table.specs.declared.items.LogItem.{LogItem}
-use Rattle.im_table.proofs.FrontLemmas.{prefix_length}
+use Rattle.im_table.proofs.FrontLemmas.{prefix_length, get_front}
 use Rattle.im_table.proofs.HistoryLemmas.{history_length, take_front}
 use Rattle.im_tx.specs.Asked.{Asked}
 use Rattle.im_versions.specs.Admits.{place_refusal}
@@ -21,7 +21,7 @@ use Rattle.im_store.specs.Errors.{halted, refused}
 use Rattle.im_store.specs.Loads.{SawFailures, SawFewer}
 use Rattle.im_store.specs.Settling.{ExplainsHalt}
 use Rattle.im_store.specs.declared.errors.CommitError.{CommitError}
-use Rattle.im_store.proofs.FrontLemmas.{get_front, get_last, take_whole}
+use Rattle.im_store.proofs.FrontLemmas.{get_last, take_whole}
 
 module _ (time : Option ℤ) (asked : Asked) (old : KnownPass) where
   -- what the book placed stands in the pass's list

@@ -5,7 +5,6 @@ use Rattle.im_journal.specs.Faults.{IsCounted}
 use Rattle.im_journal.specs.declared.errors.JournalError.{JournalError}
 use Rattle.im_journal.specs.declared.errors.JournalError.TheVariants as halts
 use Rattle.im_table.specs.Known.{KnownPass}
-use Rattle.im_table.specs.declared.view.Looks.{Looks}
 use Rattle.im_store.specs.Loads.{LooksOn}
 use Rattle.im_store.specs.Settling.{faults_told, ExplainsHalt, HasHalted}
 use Rattle.im_store.proofs.CommitLemmas.{halt_on}
@@ -23,9 +22,6 @@ pub explains_on : {T : Type 0} (old mid new : KnownPass) (r : Result T JournalEr
     → IfErr r (λ cause. ExplainsHalt mid new cause) → IfErr r (λ cause. ExplainsHalt old new cause)
 explains_on old mid new (Ok x) more looks why = tt
 explains_on old mid new (Err cause) more looks why = halt_on old mid new cause more (λ f saw. saw_failures_on old mid new f looks saw) why
-
-pub unloaded_on : {T : Type 0} (r : Result T JournalError) (a b c : Looks) → b ≡ a → ((HasHalted r → ⊥) → c ≡ b) → (HasHalted r → ⊥) → c ≡ a
-unloaded_on r a b c first rest going = rest going ∙ first
 
 -- a step of the journal that doesn't stop: where it failed the pass knows of it, and knew of none before
 pub counted_halt : (T : Type 0) (old new : KnownPass) (was now before after : ℕ) (cause : JournalError) → old.view.least.failed ≡ 0

@@ -1,15 +1,8 @@
--- Elements of front parts of one list, and what is behind all of a list.
-use Rattle.std.proofs.Common.{◌≡◌, ◌≤◌, ◌++◌, ◌∷◌, [], ℕ, zero, suc, List, Some, length, take, slice_get, refl, ap, arith}
+-- The last of a list, and what is behind all of it.
+use Rattle.std.proofs.Common.{◌≡◌, ◌≤◌, ◌++◌, ◌∷◌, [], List, Some, length, take, slice_get, refl, ap, arith}
 use mathlib.Core.List.{IsPrefix}
 
 module _ {A : Type 0} where
-  -- an element of a front part stands in the list
-  pub get_front : (xs ys : List A) (n : ℕ) (x : A) → IsPrefix xs ys → slice_get xs n ≡ Some x → slice_get ys n ≡ Some x
-  get_front [] ys n x p h = absurd cc
-  get_front (y ∷ xs) [] n x p h = absurd (cc (p.1))
-  get_front (y ∷ xs) (z ∷ ys) zero x p h = cc (p.1, h)
-  get_front (y ∷ xs) (z ∷ ys) (suc n) x p h = get_front xs ys n x (p.0, cc (p.1)) h
-
   -- the last of a list
   pub get_last : (xs : List A) (x : A) → slice_get (xs ++ x ∷ []) (length xs) ≡ Some x
   get_last [] x = refl

@@ -42,15 +42,7 @@ gains_faults n old new a = record {
 pub gains_same : (p : KnownPass) → Gains [] 0 0 p p
 gains_same p = record { own = sym (append-nil p.view.own); leaves = omega arith; faults = omega arith }
 
--- two calls, of which the second placed nothing
-pub gains_then : (ns : List ℕ) (a b c d : ℕ) (old mid new : KnownPass) → Gains ns a b old mid → Gains [] c d mid new → Gains ns (a + c) (b + d) old new
-gains_then ns a b c d old mid new g h = record {
-  own = h.own ∙ append-nil mid.view.own ∙ g.own;
-  leaves = omega (arith, g.leaves, h.leaves);
-  faults = omega (arith, g.faults, h.faults);
-}
-
--- the same, where the first linked and told nothing, and where the second didn't
+-- two calls: the first linked and told nothing, and the second placed nothing
 pub gains_after : (ns : List ℕ) (f : ℕ) (old mid new : KnownPass) → Gains ns 0 0 old mid → Gains [] 0 f mid new → Gains ns 0 f old new
 gains_after ns f old mid new g h = record {
   own = h.own ∙ append-nil mid.view.own ∙ g.own;
@@ -120,15 +112,7 @@ later_self p = record {
 pub follows_self : (p : KnownPass) → HasStepped 0 p p
 follows_self p = record { later = later_self p; gains = gains_same p; looks = looks_same p.view.looks p.view.looks refl }
 
--- two parts of a call
-pub follows_both : (a b : ℕ) (old mid new : KnownPass) → HasStepped a old mid → HasStepped b mid new → HasStepped (a + b) old new
-follows_both a b old mid new x y = record {
-  later = later_both old mid new x.later y.later;
-  gains = gains_then [] 0 a 0 b old mid new x.gains y.gains;
-  looks = looks_both old.view.looks mid.view.looks new.view.looks x.looks y.looks;
-}
-
--- of which the first told no failure
+-- two parts of a call, of which the first told no failure
 pub follows_then : (b : ℕ) (old mid new : KnownPass) → HasStepped 0 old mid → HasStepped b mid new → HasStepped b old new
 follows_then b old mid new x y = record {
   later = later_both old mid new x.later y.later;

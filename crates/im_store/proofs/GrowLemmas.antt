@@ -1,5 +1,5 @@
 -- What is linked and indexed.
-use Rattle.std.proofs.Common.{◌≡◌, ◌≤◌, ◌<◌, ◌+◌, ◌-◌, ◌^◌, [], ◌∷◌, ℕ, zero, suc, List, Some, length, take, drop, slice_get, get_or, min, refl, sym, subst, arith, Result, Ok, Err}
+use Rattle.std.proofs.Common.{◌≡◌, ◌≤◌, ◌<◌, ◌+◌, ◌-◌, [], ◌∷◌, ℕ, zero, suc, List, Some, length, take, drop, slice_get, get_or, min, refl, sym, subst, arith, Result, Ok, Err}
 use Rattle.std.specs.Prelude.{IfOk, OnErr}
 use Rattle.std.proofs.lemmas.List.{length-drop, length-take-le}
 use mathlib.Core.List.{IsPrefix}
@@ -12,7 +12,7 @@ use Rattle.im_table.proofs.HistoryLemmas.{history_front}
 use Rattle.im_store.specs.Gains.{Gains, HasStepped}
 use Rattle.im_store.specs.Growth.{IsLinked}
 use Rattle.im_store.specs.Loads.{SawDurable}
-use Rattle.im_store.proofs.FrontLemmas.{get_front}
+use Rattle.im_table.proofs.FrontLemmas.{get_front}
 use Rattle.im_store.proofs.GainLemmas.{gains_before, gains_leaves}
 
 module _ {A : Type 0} where
@@ -29,10 +29,6 @@ module _ {A : Type 0} where
 -- a transaction of a front part stands in the list
 pub next_stands : (xs ys : List LogItem) (n : ℕ) (tx : Transaction) → IsPrefix xs ys → slice_get (history_of xs) n ≡ Some tx → slice_get (history_of ys) n ≡ Some tx
 next_stands xs ys n tx p here = get_front (history_of xs) (history_of ys) n tx (history_front xs ys p) here
-
--- from a size, so many more, and no further than what is durable
-pub end_is : (size most durable sum : ℕ) → size ≤ durable → durable < 2 ^ 64 → sum ≡ min (size + most) (2 ^ 64 - 1) → min sum durable ≡ min (size + most) durable
-end_is size most durable sum le small is = omega (arith, le, small, is)
 
 -- what is linked behind a show of the tree, a load of durable and a show of the book
 pub linked_answer : {E : Type 0} (old shown new : KnownPass) (most before durable count grown : ℕ) (r : Result ℕ E) → HasStepped 0 old shown → SawDurable old new durable

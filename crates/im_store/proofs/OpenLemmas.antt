@@ -24,7 +24,7 @@ use Rattle.im_journal.proofs.Rooms.{ends_behind, room_behind}
 use Rattle.im_journal.proofs.Turns.{stands, stands_batches}
 use Rattle.im_levels.specs.Leveled.{IsLeveled, Stored}
 use Rattle.im_linker.specs.Trees.{IsTreeOf}
-use Rattle.im_model.specs.History.{alhs_of, Follow, IsHistory}
+use Rattle.im_model.specs.History.{alhs_of, last_bl_or, Follow, IsHistory}
 use Rattle.im_model.specs.declared.transactions.Transaction.{Transaction}
 use Rattle.im_model.proofs.HistoryLemmas.{length-alhs_of}
 use Rattle.im_opening.specs.Cut.{IsOpenedBy, repaired}
@@ -46,7 +46,7 @@ use Rattle.im_table.specs.References.{references_of}
 use Rattle.im_table.specs.declared.items.LogItem.{LogItem}
 use Rattle.im_table.proofs.HistoryLemmas.{history_length}
 use Rattle.im_vlog.specs.Ends.{AreEnds, HaveRoom}
-use Rattle.im_book.specs.Booked.{last_bl, last_bl_or, Booked, IsBook}
+use Rattle.im_book.specs.Booked.{last_bl, Booked, IsBook}
 use Rattle.im_store.specs.Found.{items_of}
 use Rattle.im_store.specs.Names.{Naming, OpensAs, Unnamed}
 

@@ -2,14 +2,14 @@
 use Rattle.std.proofs.Common.{◌≡◌, ◌≤◌, ◌<◌, ◌+◌, ◌-◌, ◌∙◌, [], ◌∷◌, ℕ, zero, suc, List, Option, Some, length, take, slice_get, get_or, ap, arith, sym, subst}
 use Rattle.std.proofs.lemmas.List.{get_or_default}
 use mathlib.Core.List.{IsPrefix}
-use Rattle.im_book.specs.Booked.{last_bl, last_bl_or}
+use Rattle.im_book.specs.Booked.{last_bl}
 use Rattle.im_digest.specs.Digests.{Hash}
 use Rattle.im_dual.specs.Kept.{header_at, no_header}
 use Rattle.im_dual.proofs.RecordLemmas.{bl-of}
 use Rattle.im_levels.specs.Leveled.{IsLeveled, Stored}
 use Rattle.im_linker.specs.Trees.{IsTreeOf}
 use Rattle.im_linker.proofs.TreeLemmas.{tree_front}
-use Rattle.im_model.specs.History.{alhs_of, header_of, no_transaction, transaction_of, Follow, IsHistory}
+use Rattle.im_model.specs.History.{alhs_of, header_of, last_bl_or, no_transaction, transaction_of, Follow, IsHistory}
 use Rattle.im_model.specs.declared.headers.Header.{Header}
 use Rattle.im_model.specs.declared.transactions.Transaction.{Transaction}
 use Rattle.im_proof.specs.Between.{anchor_between, dual_between}
@@ -26,7 +26,7 @@ use Rattle.im_store.specs.Errors.{item_error}
 use Rattle.im_store.specs.Reading.{AreDurable, AreLoaded, ExplainsEntry, ExplainsProve}
 use Rattle.im_store.specs.declared.errors.ProveError.{ProveError}
 use Rattle.im_store.specs.declared.errors.ProveError.TheVariants as proves
-use Rattle.im_store.proofs.FrontLemmas.{get_front}
+use Rattle.im_table.proofs.FrontLemmas.{get_front}
 use Rattle.im_store.proofs.GainLemmas.{follows_self, saw_durable_on}
 use Rattle.im_store.proofs.GrowLemmas.{get_here}
 

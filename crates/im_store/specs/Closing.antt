@@ -13,7 +13,8 @@ use Rattle.im_seated_journal.specs.Seats.{RoseBy}
 use Rattle.im_table.specs.Histories.{history_of, GoesOn}
 use Rattle.im_table.specs.Known.{KnownPass, TableId}
 use Rattle.im_table.specs.References.{IsLawful}
-use Rattle.im_table.specs.Views.{placed_by, times}
+use Rattle.im_table.specs.Views.{placed_by}
+use Rattle.im_model.specs.Counts.{times}
 use Rattle.im_table.specs.declared.items.LogItem.{LogItem}
 
 abbrev pub weight_in : KnownPass → ℕ

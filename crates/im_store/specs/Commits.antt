@@ -9,7 +9,7 @@ use Rattle.im_versions.specs.declared.refusals.PlaceError.TheVariants as place
 use Rattle.im_table.specs.Histories.{history_of}
 use Rattle.im_table.specs.Known.{KnownPass}
 use Rattle.im_table.specs.declared.items.LogItem.{LogItem}
-use Rattle.im_store.specs.Gains.{number_or_none}
+use Rattle.im_model.specs.Counts.{number_or_none}
 use Rattle.im_store.specs.Loads.{SawFailures, SawFewer}
 use Rattle.im_store.specs.declared.answers.Receipt.{Receipt}
 use Rattle.im_store.specs.declared.errors.CommitError.{CommitError}

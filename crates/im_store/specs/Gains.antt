@@ -1,5 +1,5 @@
 -- What a call adds to its pass.
-use Rattle.std.specs.Prelude.{◌≡◌, ◌+◌, ◌++◌, ◌∷◌, [], ℕ, List, max, Option, None, Some}
+use Rattle.std.specs.Prelude.{◌≡◌, ◌+◌, ◌++◌, [], ℕ, List, max}
 use Rattle.im_table.specs.Known.{KnownPass}
 use Rattle.im_table.specs.Passes.{Later}
 use Rattle.im_table.specs.declared.view.Least.{Least}
@@ -10,11 +10,6 @@ pub record Gains (numbers : List ℕ) (more told : ℕ) (old new : KnownPass) : 
   pub own : new.view.own ≡ old.view.own ++ numbers
   pub leaves : new.view.leaves ≡ old.view.leaves + more
   pub faults : new.view.faults ≡ old.view.faults + told
-
--- none or one
-abbrev pub number_or_none : Option ℕ → List ℕ
-number_or_none None = []
-number_or_none (Some n) = n ∷ []
 
 -- a pass behind some steps that placed and linked nothing, and told so many failures
 pub record HasStepped (faults : ℕ) (old new : KnownPass) : Type 0 where

@@ -1,6 +1,6 @@
 -- The batches that the disk of a machine holds, where a run led to it.
 use Rattle.std.proofs.Common.{◌≡◌, ◌+◌, ◌++◌, ◌∙◌, ℕ, List, Option, None, Some, length, map, take, true, false, ap, sym, subst, arith}
-use Rattle.im_digest.specs.Digests.{Hash}
+use Rattle.im_digest.specs.Digests.{Hash, GivesDigests}
 use Rattle.im_disk.specs.Disk.{seen, Told}
 use Rattle.im_format.specs.Batches.{gate_of, joined, spans_of}
 use Rattle.im_format.specs.Records.{AreRecords}
@@ -12,7 +12,7 @@ use Rattle.im_journal.specs.Pieces.{end_of}
 use Rattle.im_journal.proofs.Prefixes.{records_front}
 use Rattle.im_journal.proofs.Turns.{stands, stands_batches}
 use Rattle.im_machine.specs.Machines.{Machine, Progress}
-use Rattle.im_machine_laws.specs.Reached.{Gives32, IsReached}
+use Rattle.im_machine_laws.specs.Reached.{IsReached}
 use Rattle.im_machine_laws.proofs.RunLemmas.{sound-reached}
 use Rattle.im_machine_laws.proofs.Sound.{kept_as, telling, IsAsFar, IsHeld}
 use Rattle.im_model.specs.declared.transactions.Transaction.{Transaction}
@@ -24,7 +24,7 @@ use Rattle.im_store_laws.proofs.BatchEvents.{all_records, all_txs, txs_before}
 use Rattle.im_journal.proofs.Clear.{records_apart}
 
 -- while it may be called and no batch is in progress, it stands for what is durable, by the machine's own batches
-own_stands : (hash : Hash) (m : Machine) → Gives32 hash → IsReached hash m → m.up ≡ true → m.stopped ≡ false → m.progress ≡ None
+own_stands : (hash : Hash) (m : Machine) → GivesDigests hash → IsReached hash m → m.up ≡ true → m.stopped ≡ false → m.progress ≡ None
     → (there : Stands hash (seen m.disk) (take m.durable m.placed)) × (there.batches ≡ m.batches)
 own_stands hash m gives reached up going idle =
     let held : IsHeld hash m = (sound-reached hash m gives reached).held up going in
@@ -35,7 +35,7 @@ own_stands hash m gives reached up going idle =
 
 -- so they are the first of those whose calls the disk of a store got that told the same
 module _ (hash : Hash) (n durable : ℕ) (history : List Transaction) (before now : Told) (made : MakesBatches hash 1 n durable history (Some before) (Some now)) (m : Machine)
-    (gives : Gives32 hash) (reached : IsReached hash m) (holds : HoldsFirst m history n) (going : m.stopped ≡ false) (idle : m.progress ≡ None)
+    (gives : GivesDigests hash) (reached : IsReached hash m) (holds : HoldsFirst m history n) (going : m.stopped ≡ false) (idle : m.progress ≡ None)
     (count : m.durable ≡ n) (disk : m.disk ≡ before) where
   own : (there : Stands hash (seen m.disk) (take m.durable m.placed)) × (there.batches ≡ m.batches)
   own = own_stands hash m gives reached holds.up going idle

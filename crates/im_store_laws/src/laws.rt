@@ -1,7 +1,7 @@
 //! What holds of the definitions. Each function does nothing, and its contract is the law.
 
 ghost use Rattle.std.specs.Prelude.{◌≡◌, ◌<◌, ◌≤◌, ◌-◌, ◌^◌, ℕ, ℤ, List, length, false, None, Option, Some};
-ghost use Rattle.im_digest.specs.Digests.{Hash};
+ghost use Rattle.im_digest.specs.Digests.{Hash, GivesDigests};
 ghost use Rattle.im_disk.specs.Disk.{Told, after};
 ghost use Rattle.im_format.specs.declared.records.Record.{Record};
 ghost use Rattle.im_machine.specs.Machines.{Machine};
@@ -12,7 +12,7 @@ ghost use Rattle.im_machine.specs.declared.outputs.Output.TheVariants as tells;
 ghost use Rattle.im_machine.specs.declared.questions.KeyQuestion.{KeyQuestion};
 ghost use Rattle.im_machine.specs.declared.questions.ProofQuestion.TheVariants as asks;
 ghost use Rattle.im_machine.specs.declared.words.Word.TheVariants.{Failed, Indexed, Placed};
-ghost use Rattle.im_machine_laws.specs.Reached.{Gives32, IsReached};
+ghost use Rattle.im_machine_laws.specs.Reached.{IsReached};
 ghost use Rattle.im_model.specs.History.{header_of, transaction_of, IsHistory};
 ghost use Rattle.im_model.specs.declared.transactions.Transaction.{Transaction};
 ghost use Rattle.im_proof.specs.Between.{anchor_between, dual_between};
@@ -97,7 +97,7 @@ pub fn a_batch_is_stage_seal_gate_settle()
     ensures between { (hash : Hash) (m next : Machine) (event : Event) (output : Output) (batches : List (List Record)) (t : Told)
         → IsBeside event → Steps hash m event output next → RestsOn m batches t → RestsOn next batches t }
     ensures rests { (hash : Hash) (n durable : ℕ) (history : List Transaction) (before now : Told) (made : MakesBatches hash 1 n durable history (Some before) (Some now)) (m : Machine)
-        → Gives32 hash → IsReached hash m → HoldsFirst m history n → m.stopped ≡ false → m.progress ≡ None → m.durable ≡ n → m.disk ≡ before
+        → GivesDigests hash → IsReached hash m → HoldsFirst m history n → m.stopped ≡ false → m.progress ≡ None → m.durable ≡ n → m.disk ≡ before
         → RestsOn m made.first before }
 {}
 

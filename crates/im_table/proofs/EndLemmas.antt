@@ -8,7 +8,8 @@ use lib.ListN.{get_elem?}
 use Rattle.atomic_table.specs.Table.{Me, keeps, Allows, opening}
 use Rattle.im_table.specs.declared.view.View.{View}
 use Rattle.im_table.specs.declared.items.LogItem.{LogItem}
-use Rattle.im_table.specs.Views.{times, placed_by, spent, opener}
+use Rattle.im_table.specs.Views.{placed_by, spent, opener}
+use Rattle.im_model.specs.Counts.{times}
 use Rattle.im_table.specs.Rules.{NoSlot, Marks, Closes, FitsRule, Tally, journals, indexes, books, trees, weights, leaves, faults, owns, share, whole, HoldsRule}
 use Rattle.im_table.proofs.FrontLemmas.{prefix_self}
 use Rattle.im_table.proofs.NumberLemmas.{numbers_found}

@@ -1,5 +1,5 @@
 -- Front parts of one list.
-use Rattle.std.proofs.Common.{◌≡◌, ◌≤◌, List, [], ◌∷◌, ◌++◌, length, refl, ap, sym, ◌∙◌, arith, append_assoc, length-append}
+use Rattle.std.proofs.Common.{◌≡◌, ◌≤◌, ℕ, zero, suc, List, [], ◌∷◌, ◌++◌, length, Some, slice_get, refl, ap, sym, ◌∙◌, arith, append_assoc, length-append}
 use mathlib.Core.List.{IsPrefix}
 
 module _ {A : Type 0} where
@@ -24,3 +24,10 @@ module _ {A : Type 0} where
 
   pub prefix_length : (xs ys : List A) → IsPrefix xs ys → length xs ≤ length ys
   prefix_length xs ys p = omega (arith, sym (ap length p.1) ∙ length-append xs p.0)
+
+  -- what stands at a place of a front part stands there in the list
+  pub get_front : (xs ys : List A) (n : ℕ) (x : A) → IsPrefix xs ys → slice_get xs n ≡ Some x → slice_get ys n ≡ Some x
+  get_front [] ys n x p h = absurd (cc (h))
+  get_front (y ∷ xs) [] n x p h = absurd (cc (p.1))
+  get_front (y ∷ xs) (z ∷ ys) zero x p h = cc (p.1, h)
+  get_front (y ∷ xs) (z ∷ ys) (suc n) x p h = get_front xs ys n x (p.0, cc (p.1)) h

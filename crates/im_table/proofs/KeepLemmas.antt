@@ -8,7 +8,8 @@ use Rattle.atomic_table.proofs.Lists.{at_set}
 use Rattle.im_table.specs.declared.view.View.{View}
 use Rattle.im_table.specs.declared.items.LogItem.{LogItem}
 use Rattle.im_table.specs.declared.roles.Roles.{Roles}
-use Rattle.im_table.specs.Views.{placed_by, spent, times, zeros}
+use Rattle.im_table.specs.Views.{placed_by, spent, zeros}
+use Rattle.im_model.specs.Counts.{times}
 use Rattle.im_table.specs.Rules.{NoSlot, Marks, AtMost, words_of, Ordered, FitsRule, Tally, journals, indexes, books, trees, weights, leaves, faults, owns, share, whole, HoldsRule}
 use Rattle.im_table.proofs.SumLemmas.{sum_set, sum_two}
 

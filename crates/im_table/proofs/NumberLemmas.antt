@@ -4,12 +4,9 @@ use Rattle.std.proofs.lemmas.Bool.Decides.{nat_tests}
 use Rattle.std.specs.List.{All}
 use mathlib.Core.List.{IsPrefix}
 use Rattle.im_table.specs.declared.items.LogItem.{LogItem}
-use Rattle.im_table.specs.Views.{times, numbers, longer, shorter, chosen, other_of, pick, rest_of}
+use Rattle.im_table.specs.Views.{numbers, longer, shorter, chosen, other_of, pick, rest_of}
+use Rattle.im_model.specs.Counts.{times}
 use Rattle.im_table.proofs.FrontLemmas.{prefix_length}
-
-pub times_append : (n : ℕ) (xs ys : List ℕ) → times n (xs ++ ys) ≡ times n xs + times n ys
-times_append n [] ys = omega arith
-times_append n (x ∷ xs) ys = omega (arith, times_append n xs ys)
 
 abbrev pub hit : ℕ → ℕ → ℕ
 hit k n = cond (k == n) 1 0

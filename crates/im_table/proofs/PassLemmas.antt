@@ -1,5 +1,5 @@
 -- A pass behind two calls, and one of which nothing is split off.
-use Rattle.std.proofs.Common.{◌≡◌, ◌∙◌, ◌&&◌, ◌-◌, ℕ, Bool, true, false, refl, ap, arith}
+use Rattle.std.proofs.Common.{◌≡◌, ◌∙◌, ◌&&◌, ◌-◌, ℕ, Bool, true, ap, arith}
 use Rattle.im_octet.proofs.Common.{and-true}
 use Rattle.im_table.specs.Known.{KnownPass}
 use Rattle.im_table.specs.Passes.{Later}

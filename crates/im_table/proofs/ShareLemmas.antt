@@ -11,7 +11,8 @@ use Rattle.im_table.specs.declared.items.LogItem.{LogItem}
 use Rattle.im_table.specs.declared.roles.Roles.{Roles}
 use Rattle.im_table.specs.Views.{AreHeld, left_of, right_of, chosen, together, spent}
 use Rattle.im_table.specs.Rules.{FitsRule, Tally, journals, indexes, books, trees, weights, leaves, faults, owns, share, whole, HoldsRule}
-use Rattle.im_table.proofs.NumberLemmas.{times_append, chosen_one, other_one, chosen_length, chosen_whole, role_cut, role_left, role_both, append_nil_left, pick_one, rest_one, pick_whole}
+use Rattle.im_table.proofs.NumberLemmas.{chosen_one, other_one, chosen_length, chosen_whole, role_cut, role_left, role_both, append_nil_left, pick_one, rest_one, pick_whole}
+use Rattle.im_model.proofs.CountLemmas.{times_append}
 use Rattle.im_table.proofs.SumLemmas.{sum_set, sum_snoc, sum_two}
 use Rattle.im_table.proofs.KeepLemmas.{none_less, none_spent, every_set}
 

@@ -11,7 +11,8 @@ use Rattle.im_table.specs.declared.items.LogItem.{LogItem}
 use Rattle.im_table.specs.Views.{added, view_settled, failed_once, linked_to, indexed_to}
 use Rattle.im_table.specs.Rules.{NoSlot, Marks, FitsRule, Tally, journals, indexes, books, trees, weights, leaves, faults, owns, share, whole, HoldsRule}
 use Rattle.im_table.proofs.FrontLemmas.{prefix_self, prefix_more, prefix_trans, prefix_length}
-use Rattle.im_table.proofs.NumberLemmas.{times_append, times_new, hit}
+use Rattle.im_table.proofs.NumberLemmas.{times_new, hit}
+use Rattle.im_model.proofs.CountLemmas.{times_append}
 use Rattle.im_table.proofs.KeepLemmas.{on, kept, alone, same_shares, same_whole}
 
 module _ (allows : List LogItem → Type 0) where

@@ -8,7 +8,8 @@ use Rattle.atomic_table.specs.Table.{State}
 use Rattle.im_table.specs.declared.view.View.{View}
 use Rattle.im_table.specs.declared.view.Least.{Least}
 use Rattle.im_table.specs.declared.items.LogItem.{LogItem}
-use Rattle.im_table.specs.Views.{times, placed_by, untold, looked_placed}
+use Rattle.im_table.specs.Views.{placed_by, untold, looked_placed}
+use Rattle.im_model.specs.Counts.{times}
 
 -- no slot of the table is used
 abbrev pub NoSlot : Type 0

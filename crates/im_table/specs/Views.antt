@@ -1,16 +1,11 @@
 -- What each step makes of a view, and the numbers of a list's items.
-use Rattle.std.specs.Prelude.{◌≡◌, ℕ, suc, ◌+◌, ◌-◌, ◌==◌, ◌||◌, ◌&&◌, not, max, min, List, [], ◌∷◌, ◌++◌, length, Bool, true, false, cond, ltb}
+use Rattle.std.specs.Prelude.{◌≡◌, ℕ, suc, ◌+◌, ◌-◌, ◌||◌, ◌&&◌, not, max, min, List, [], ◌∷◌, ◌++◌, length, Bool, true, false, cond, ltb}
 use Rattle.im_table.specs.declared.view.View.{View}
 use Rattle.im_table.specs.declared.items.LogItem.{LogItem}
 use Rattle.im_table.specs.declared.view.Looks.{Looks}
 use Rattle.im_table.specs.declared.view.AllLooks.{AllLooks}
 use Rattle.im_table.specs.declared.roles.Roles.{Roles}
 use Rattle.im_table.specs.declared.view.Least.{Least}
-
--- how often a number stands in a list
-abbrev pub times : ℕ → List ℕ → ℕ
-times n [] = 0
-times n (x ∷ xs) = cond (x == n) 1 0 + times n xs
 
 -- the numbers, from k on, of the items that were not found
 abbrev pub numbers : ℕ → List LogItem → List ℕ

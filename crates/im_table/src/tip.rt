@@ -3,7 +3,8 @@ ghost use Rattle.std.specs.List.{All};
 ghost use mathlib.Core.List.{IsPrefix};
 ghost use Rattle.im_format.specs.Places.{AreAppended};
 ghost use Rattle.im_table.specs.References.{references_of, HaveLengths, IsLawful};
-ghost use Rattle.im_table.specs.Views.{times, placed_by, looked_durable, looked_linked, looked_indexed, looked_failed, added, view_settled, linked_to, indexed_to, failed_once, AreHeld, left_of, right_of, no_roles, view_joined, opener};
+ghost use Rattle.im_table.specs.Views.{placed_by, looked_durable, looked_linked, looked_indexed, looked_failed, added, view_settled, linked_to, indexed_to, failed_once, AreHeld, left_of, right_of, no_roles, view_joined, opener};
+ghost use Rattle.im_model.specs.Counts.{times};
 ghost use Rattle.im_table.specs.Rules.{SeesPlaced, Loads};
 
 use crate::items::{LogItem, Opening};

@@ -1,11 +1,11 @@
 -- The places of keys that are looked up one after the other.
 use Rattle.std.specs.Map.{update}
 use Rattle.std.specs.Str.{bytes_eq}
-use Rattle.std.proofs.Common.{◌≡◌, ◌≢◌, ◌⊎◌, inl, inr, ◌<◌, ◌+◌, ℕ, List, length, take, get_or, arith, refl, sym, ◌∙◌, ap, subst, true, false, Bool, Option, Some, None, cond}
+use Rattle.std.proofs.Common.{◌≡◌, ◌≢◌, inl, inr, ◌<◌, ◌+◌, ℕ, List, length, take, get_or, arith, sym, ◌∙◌, ap, subst, Option, Some, None}
 use Rattle.std.proofs.lemmas.List.{take_more, length-take, get_or-take, get_or_default}
-use Rattle.std.proofs.lemmas.Bool.{both_ways, cases_lt}
+use Rattle.std.proofs.lemmas.Bool.{cases_lt}
 use Rattle.std.proofs.lemmas.List.Quantifiers.{all_pairs_push}
-use Rattle.std.proofs.lemmas.Slice.Eq.{bytes_eq-Decides}
+use Rattle.im_octet.proofs.PlaceLemmas.{put-cases}
 use Rattle.im_draft.specs.Drafts.{draft_of, no_draft, HaveDistinctKeys}
 use Rattle.im_draft.specs.declared.drafts.Draft.{Draft}
 
@@ -14,17 +14,6 @@ pub record ArePlaces (drafts : List Draft) (n : ℕ) (find : List ℕ → Option
   pub distinct : HaveDistinctKeys (take n drafts)
   pub found : (key : List ℕ) (i : ℕ) → find key ≡ Some i → (i < n) × ((draft_of drafts i).key ≡ key)
   pub absent : (key : List ℕ) (i : ℕ) → find key ≡ None → i < n → (draft_of drafts i).key ≢ key
-
--- what a look-up gives after a key was put at place n
-put-cases : (find : List ℕ → Option ℕ) (put key : List ℕ) (n : ℕ) (place : Option ℕ) → update bytes_eq find put (Some n) key ≡ place
-    → ((put ≡ key) × (Some n ≡ place)) ⊎ ((put ≢ key) × (find key ≡ place))
-put-cases find put key n place h =
-    let decided = bytes_eq-Decides put key in
-    elim (bytes_eq put key) as (λ (b : Bool). bytes_eq put key ≡ b → cond b (Some n) (find key) ≡ place
-    → ((put ≡ key) × (Some n ≡ place)) ⊎ ((put ≢ key) × (find key ≡ place))) [
-      | true ↦ λ t e. inl (decided.0 t, e)
-      | false ↦ λ f e. inr (λ same. both_ways (bytes_eq put key) f (decided.1 same), e)
-    ] refl h
 
 -- keys stay distinct where the next isn't among them
 distinct-suc : (drafts : List Draft) (n : ℕ) → n < length drafts → HaveDistinctKeys (take n drafts)
@@ -52,15 +41,15 @@ pub ArePlaces-suc : (drafts : List Draft) (n : ℕ) (put : List ℕ) (find next 
 ArePlaces-suc drafts n put find next h is none steps places = record {
   distinct = distinct-suc drafts n h places.distinct
       (λ i less e. places.absent put i none less (e ∙ sym is));
-  found = λ key i e. elim (put-cases find put key n (Some i) (sym (steps key) ∙ e)) [
-    | inl new ↦ (let same : n ≡ i = (let e = new.1 in cc) in
+  found = λ key i e. elim (put-cases find put key n) [
+    | inl new ↦ (let same : n ≡ i = (let one : Some n ≡ Some i = sym new.1 ∙ sym (steps key) ∙ e in cc) in
         (omega arith, subst (λ (k : ℕ). (draft_of drafts k).key ≡ key) same (sym is ∙ new.0)))
-    | inr kept ↦ (let found = places.found key i kept.1 in (omega (arith, found.0), found.1))
+    | inr kept ↦ (let found = places.found key i (sym kept.1 ∙ sym (steps key) ∙ e) in (omega (arith, found.0), found.1))
   ];
-  absent = λ key i e less. elim (put-cases find put key n None (sym (steps key) ∙ e)) [
-    | inl new ↦ absurd (let odd = new.1 in cc)
+  absent = λ key i e less. elim (put-cases find put key n) [
+    | inl new ↦ absurd (let odd : Some n ≡ None = sym new.1 ∙ sym (steps key) ∙ e in cc)
     | inr kept ↦ elim (cases_lt i n) [
-      | inl before ↦ places.absent key i kept.1 before
+      | inl before ↦ places.absent key i (sym kept.1 ∙ sym (steps key) ∙ e) before
       | inr here ↦ (let same : n ≡ i = omega arith in
           subst (λ (k : ℕ). (draft_of drafts k).key ≢ key) same (λ same. kept.0 (is ∙ same)))
     ]

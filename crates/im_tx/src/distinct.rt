@@ -1,7 +1,7 @@
 ghost use Rattle.std.specs.Prelude.{◌≡◌, ◌≤◌, ◌⊎◌, length, All, IfErr, IfOk, OnOk};
 ghost use Rattle.im_draft.specs.Drafts.{HaveDistinctKeys, IsFine, Refuses};
 ghost use Rattle.im_draft.specs.declared.refusals.PrepareError.TheVariants.{Memory};
-ghost use Rattle.im_tx.specs.Places.{place_in, PutsPlace};
+ghost use Rattle.im_octet.specs.Places.{place_in, PutsPlace};
 
 use im_draft::drafts::Draft;
 use im_draft::refusals::PrepareError;

@@ -1,5 +1,5 @@
 -- What the end of a run tells of how its stream's lines were taken.
-use Rattle.std.proofs.Common.{◌≡◌, ◌⊎◌, ◌∙◌, ℕ, Option, Some, None, Result, Ok as Took, Err, IfOk, inl, inr, refl, ap, sym}
+use Rattle.std.proofs.Common.{◌≡◌, ◌⊎◌, ◌∙◌, Option, Some, None, Result, Ok as Took, Err, IfOk, inl, inr, refl, ap, sym}
 use Rattle.im_octet.proofs.Common.{some-is}
 use Rattle.im_verify.proofs.RunLemmas.{ended_as}
 use Rattle.im_verify.specs.Stops.{ended_by}

@@ -2,8 +2,7 @@
 use Rattle.std.proofs.Common.{◌≡◌, ◌+◌, ℕ, List, [], ◌∷◌, ◌++◌, length, get_or, Some, refl, sym, ap, subst, arith, inl, inr, length-append}
 use Rattle.std.specs.List.{All, Any}
 use Rattle.std.proofs.lemmas.List.Elements.{All-nil, All-cons, All-head, All-tail}
-use Rattle.im_digest.specs.Digests.{Hash}
-use Rattle.im_pairs.specs.Pairs.{GivesDigests}
+use Rattle.im_digest.specs.Digests.{Hash, GivesDigests}
 use Rattle.im_wire.specs.Lines.{IsLine}
 use Rattle.im_wire.specs.declared.messages.Message.{Message}
 use Rattle.im_facts.specs.Accepted.{IsClient}

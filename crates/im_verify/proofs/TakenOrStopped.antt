@@ -2,8 +2,7 @@
 use Rattle.std.proofs.Common.{◌⊎◌, ◌<◌, ℕ, suc, List, [], ◌∷◌, length, take, get_or, inl, inr, arith}
 use Rattle.std.specs.List.{All}
 use Rattle.std.proofs.lemmas.List.Elements.{All-nil, All-cons}
-use Rattle.im_digest.specs.Digests.{Hash}
-use Rattle.im_pairs.specs.Pairs.{GivesDigests}
+use Rattle.im_digest.specs.Digests.{Hash, GivesDigests}
 use Rattle.im_facts.specs.Accepted.{IsClient}
 use Rattle.im_facts.specs.Facts.{Known, nothing}
 use Rattle.im_facts.specs.Folds.{AreVerdicts, IsVerdict, known_by, known_by_all}

@@ -1,6 +1,5 @@
 ghost use Rattle.std.specs.Prelude.{◌≡◌, ◌⊎◌, ◌++◌, ℕ, List, [], ◌∷◌, length, get_or, IfSome, Option, Some};
-ghost use Rattle.im_digest.specs.Digests.{Hash};
-ghost use Rattle.im_pairs.specs.Pairs.{GivesDigests};
+ghost use Rattle.im_digest.specs.Digests.{Hash, GivesDigests};
 ghost use Rattle.im_wire.specs.Lines.{IsLine};
 ghost use Rattle.im_wire.specs.declared.messages.Message.{Message};
 ghost use Rattle.im_facts.specs.Facts.{nothing};

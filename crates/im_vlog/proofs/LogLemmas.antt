@@ -1,8 +1,7 @@
 -- What references put into a log, and where it ends behind them.
-use Rattle.std.proofs.Common.{◌≡◌, ◌≢◌, ◌≤◌, ◌+◌, ◌==◌, ℕ, List, [], ◌∷◌, ◌++◌, length, drop, min, refl, ◌∙◌, ap, arith, ⊎_elim}
+use Rattle.std.proofs.Common.{◌≡◌, ◌+◌, ℕ, List, [], ◌∷◌, ◌++◌, length, drop, min, refl, ◌∙◌, ap, arith, ⊎_elim}
 use Rattle.std.proofs.lemmas.Bool.{cases_lt}
 use Rattle.std.proofs.lemmas.List.{drop_all}
-use Rattle.std.specs.Prelude.{if◌then◌else◌}
 use Rattle.im_format.specs.Places.{values_in}
 use Rattle.im_format.specs.declared.references.ValueRef.{ValueRef}
 use Rattle.im_model.specs.declared.entries.Entry.{Entry}

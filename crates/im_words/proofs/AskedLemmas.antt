@@ -21,11 +21,10 @@ use Rattle.std.specs.Prelude.{option_and_then}
 use Rattle.std.specs.Str.Parse.{digits_value, without_leading_plus}
 use Rattle.std.proofs.lemmas.Int.{ints}
 use Rattle.std.proofs.lemmas.Slice.Eq.{bytes_eq-Decides}
-use Rattle.im_words.specs.declared.Request.{Request}
-use Rattle.im_words.specs.declared.Request.TheVariants.{Run, Verify, Show, Gen}
+use Rattle.im_words.specs.declared.Request.TheVariants.{Run}
 use Rattle.im_words.specs.declared.Link.{Link}
 use Rattle.im_words.specs.declared.Link.TheVariants.{Auto, Manual}
-use Rattle.im_words.specs.Meaning.{AsksGen, AsksRun, AsksShow, AsksVerify, asked_of, link_of, link_of_text, logs_of}
+use Rattle.im_words.specs.Meaning.{asked_of, link_of, link_of_text, logs_of}
 use Rattle.im_words.proofs.UseLemmas.{AreUses, no_faults, rules, run_uses, shape}
 use Rattle.im_words.proofs.BuiltRun.{first_built, gen_built}
 use Rattle.im_words.proofs.GenLemmas.{gen_asked}
@@ -134,14 +133,3 @@ taken_asked words e = go (walk [] (names_of (built im_command)) nothing_held (dr
         → IsSome (asked_of (entered (built im_command) stop))
     go None e = absurd (no_subcommand e)
     go (Some p) e = named p (answers_to p.0 (codes "run", [])) (answers_to p.0 (codes "verify", [])) (answers_to p.0 (codes "show", [])) (answers_to p.0 (codes "gen", [])) e
-
--- namely for a run, for `verify`, for `show`, or for a script
-pub taken_asks : (words : List Text) → fault_of im_command words ≡ [] → AsksRun words ⊎ AsksVerify words ⊎ AsksShow words ⊎ AsksGen words
-taken_asks words e = go (asked_of (subcommand_of im_command words)) refl (taken_asked words e)
-  where
-    go : (asked : Option Request) → asked_of (subcommand_of im_command words) ≡ asked → IsSome asked → AsksRun words ⊎ AsksVerify words ⊎ AsksShow words ⊎ AsksGen words
-    go None same some = cc
-    go (Some (Run logs link)) same some = inl (logs, link, same)
-    go (Some Verify) same some = inr (inl same)
-    go (Some Show) same some = inr (inr (inl same))
-    go (Some (Gen n)) same some = inr (inr (inr (n, same)))

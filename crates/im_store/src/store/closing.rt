@@ -3,7 +3,7 @@ ghost use Rattle.std.specs.Prelude.{◌≡◌, ◌≤◌, ◌+◌, ℕ};
 ghost use Rattle.std.specs.List.{All, sum_by};
 ghost use mathlib.Core.List.{IsPrefix};
 ghost use Rattle.im_table.specs.Passes.{IsPassOf};
-ghost use Rattle.im_table.specs.Views.{times};
+ghost use Rattle.im_model.specs.Counts.{times};
 ghost use Rattle.im_store.specs.Closing.{HoldsAll, ClosesStore, failures_told, leaves_linked, own_count, weight_in};
 
 use crate::store::Store;

@@ -4,18 +4,19 @@ use Rattle.im_disk.specs.Disk.{Told, seen}
 use Rattle.im_disk.specs.declared.calls.Call.TheVariants.{Wrote, Tore}
 use Rattle.im_disk.specs.declared.disk.DiskError.{DiskError}
 use Rattle.im_disk.proofs.Leaving.{if_told, on_ok_after}
+use Rattle.im_disk.specs.Fused.{TellsCall}
 use Rattle.im_format.specs.Spans.{Reads}
 use Rattle.im_format.specs.declared.spans.Span.{Span}
 use Rattle.im_alog.specs.Holding.{Holds, IsLong}
 use Rattle.im_alog.proofs.Torn.{keeps_all}
-use Rattle.im_alog.proofs.Outcomes.{HasAnswer, keeps_long, leaves_of_write, reads_of_write, seen_of_write}
+use Rattle.im_alog.proofs.Outcomes.{keeps_long, leaves_of_write, reads_of_write, seen_of_write}
 use Rattle.im_alog.proofs.laying.put.Goals as goal
 
 -- what the write answered, with the span's own octets
 answer : (s : Span) (octets : List ℕ) (o n : Option Told) (r : Result (Unit {0}) DiskError) → octets ≡ s.octets
-    → HasAnswer (Wrote s.file s.at octets) (Tore s.file s.at (length octets)) o n r
-    → HasAnswer (Wrote s.file s.at s.octets) (Tore s.file s.at (length s.octets)) o n r
-answer s octets o n r is a = subst (λ (l : List ℕ). HasAnswer (Wrote s.file s.at l) (Tore s.file s.at (length l)) o n r) is a
+    → TellsCall (Wrote s.file s.at octets) (Tore s.file s.at (length octets)) o n r
+    → TellsCall (Wrote s.file s.at s.octets) (Tore s.file s.at (length s.octets)) o n r
+answer s octets o n r is a = subst (λ (l : List ℕ). TellsCall (Wrote s.file s.at l) (Tore s.file s.at (length l)) o n r) is a
 
 pub returns-clause-reads : goal.returns-clause-reads
 returns-clause-reads g c =

@@ -1,4 +1,4 @@
-use Rattle.std.proofs.Common.{ℕ, List, subst}
+use Rattle.std.proofs.Common.{List, subst}
 use Rattle.std.specs.Prelude.{OnOk}
 use Rattle.im_model.specs.declared.transactions.Transaction.{Transaction}
 use Rattle.im_sqlmodel.specs.Kept.{IsFirstUnsound, IsSqlKept}

@@ -1,4 +1,5 @@
-use Rattle.im_book.proofs.BookLemmas.{history-behind, last-bl-behind}
+use Rattle.im_model.proofs.HistoryLemmas.{last-bl-behind}
+use Rattle.im_book.proofs.BookLemmas.{history-behind}
 use Rattle.im_book.proofs.laws.placed_is_a_history.Goals as goal
 use Rattle.im_versions.proofs.RoomLemmas.{admitted-room}
 

@@ -1,5 +1,4 @@
 use Rattle.std.proofs.Common.{MatchOption, subst}
-use Rattle.im_octet.specs.Fields.{field2}
 use Rattle.im_catalog.specs.Fronts.{StandsFirst, NoneStandsFirst, AreMany}
 use Rattle.im_catalog.specs.Parts.{FitsTwo, fields_text}
 use Rattle.im_catalog.proofs.ColumnLemmas.{list-none_without_count, list-none_without_each, list-stands}

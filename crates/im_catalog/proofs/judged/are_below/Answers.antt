@@ -1,4 +1,4 @@
-use Rattle.std.proofs.Common.{ℕ, ◌<◌, All, get_or, subst, arith, rules, refl}
+use Rattle.std.proofs.Common.{ℕ, ◌<◌, All, get_or, subst, arith, refl}
 use Rattle.std.proofs.lemmas.List.{take_all}
 use Rattle.std.proofs.lemmas.List.Elements.{All-more}
 use Rattle.im_catalog.proofs.judged.are_below.Goals as goal

@@ -1,7 +1,8 @@
 use Rattle.std.proofs.Common.{◌≡◌, ◌<◌, ℕ, Option, length, sym, subst, ◌∙◌}
 use Rattle.std.specs.Prelude.{IfSome}
 use Rattle.im_pairs.specs.Pairs.{IsPair}
-use Rattle.im_hashed.specs.Places.{place_in, string_at}
+use Rattle.im_octet.specs.Places.{place_in}
+use Rattle.im_hashed.specs.Places.{string_at}
 use Rattle.im_hashed.specs.declared.pairs.Pair.{Pair}
 use Rattle.im_hashed.proofs.PlaceLemmas.{places-suc, pair-found, none-found, places-empty, digest-at, string-there, all-there, earlier-there}
 use Rattle.im_hashed.proofs.pairs.find_pair.Goals as goal

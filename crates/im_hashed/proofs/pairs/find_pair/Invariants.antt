@@ -1,4 +1,4 @@
-use Rattle.im_hashed.specs.Places.{place_in}
+use Rattle.im_octet.specs.Places.{place_in}
 use Rattle.im_hashed.proofs.PlaceLemmas.{ArePlaces}
 use Rattle.im_hashed.proofs.pairs.find_pair.Given as goal
 

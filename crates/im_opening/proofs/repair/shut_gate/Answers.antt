@@ -6,8 +6,9 @@ use Rattle.im_format.specs.Spans.{Reads, octet_span}
 use Rattle.im_disk.specs.declared.calls.Call.TheVariants.{Wrote, Tore, Synced, Missed}
 use Rattle.im_disk.proofs.Growing.{grows_both, grows_by_answer}
 use Rattle.im_disk.proofs.Leaving.{if_told, leaves_both, leaves_weaker, on_ok_after}
+use Rattle.im_disk.specs.Fused.{TellsCall}
 use Rattle.im_format.specs.Standing.{Stands}
-use Rattle.im_alog.proofs.Outcomes.{HasAnswer, if_mapped, leaves_of_sync, leaves_of_write, reads_of_write, seen_of_write}
+use Rattle.im_alog.proofs.Outcomes.{if_mapped, leaves_of_sync, leaves_of_write, reads_of_write, seen_of_write}
 use Rattle.im_opening.specs.Cut.{IsCutOff, IsHalfShut, IsShut, shut_at}
 use Rattle.im_opening.proofs.GateLemmas.{cut-kept, same-torn}
 use Rattle.im_octet.proofs.Common.{if-err}
@@ -25,7 +26,7 @@ returns-in_err-write_at-clause-leaves g c hash history before here =
 pub returns-clause-leaves : goal.returns-clause-leaves
 returns-clause-leaves g c hash history before here =
     let P = IsCutOff hash history c.args.gate in
-    let a : HasAnswer (Wrote 1 c.args.gate (0 ∷ [])) (Tore 1 c.args.gate 1) _ _ c.write_at.result =
+    let a : TellsCall (Wrote 1 c.args.gate (0 ∷ [])) (Tore 1 c.args.gate 1) _ _ c.write_at.result =
     record { ok = c.write_at.ensures.ok; failed = c.write_at.ensures.failed; memory = c.write_at.ensures.memory } in
     let one = leaves_of_write P 1 c.args.gate (0 ∷ []) _ _ c.write_at.result a (cut-kept hash history c.args.gate) before in
     let now = seen_of_write P 1 c.args.gate (0 ∷ []) _ _ c.write_at.result a c.requires.within (cut-kept hash history c.args.gate) here in

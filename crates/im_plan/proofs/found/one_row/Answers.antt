@@ -1,4 +1,4 @@
-use Rattle.std.proofs.Common.{◌≡◌, ◌++◌, ◌∷◌, [], ◌∙◌, List, Some, None, take, sym, ap, subst}
+use Rattle.std.proofs.Common.{◌++◌, ◌∷◌, [], ◌∙◌, List, Some, None, take, ap, subst}
 use Rattle.im_sqlmodel.specs.declared.rows.StoredRow.{StoredRow}
 use Rattle.im_catalog.specs.Rows.{RowAt}
 use Rattle.im_catalog.proofs.FrontLemmas.{row-of-key}

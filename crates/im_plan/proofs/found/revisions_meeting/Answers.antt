@@ -1,5 +1,4 @@
-use Rattle.std.proofs.Common.{◌≡◌, List, filter, take, ap, ◌∙◌}
-use Rattle.im_sqltype.specs.declared.values.Value.{Value}
+use Rattle.std.proofs.Common.{filter, take, ap, ◌∙◌}
 use Rattle.im_sqlmodel.specs.Conditions.{meets}
 use Rattle.im_sqlmodel.proofs.OnceLemmas.{one-history}
 use Rattle.im_plan.proofs.found.revisions_meeting.Goals as goal

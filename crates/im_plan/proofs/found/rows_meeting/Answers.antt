@@ -1,4 +1,4 @@
-use Rattle.std.proofs.Common.{◌≡◌, List, filter, take, sym, ap, ◌∙◌}
+use Rattle.std.proofs.Common.{filter, take, sym, ap, ◌∙◌}
 use Rattle.im_sqlmodel.specs.Conditions.{meets}
 use Rattle.im_sqlmodel.specs.declared.rows.StoredRow.{StoredRow}
 use Rattle.im_plan.specs.Bounds.{conjuncts}

@@ -1,4 +1,4 @@
-use Rattle.std.proofs.Common.{◌≤◌, List, length, map, take, Some}
+use Rattle.std.proofs.Common.{◌≤◌, List, length, take, Some}
 use Rattle.std.specs.List.{AllZip}
 use Rattle.im_model.specs.declared.transactions.Transaction.{Transaction}
 use Rattle.im_sqlmodel.specs.Kept.{IsSqlSound, IsSqlIndexOf}

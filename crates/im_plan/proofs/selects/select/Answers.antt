@@ -1,4 +1,4 @@
-use Rattle.std.proofs.Common.{◌≡◌, ◌≤◌, ◌∙◌, inr, ℕ, List, Option, Some, None, Result, Err, length, min, take, sym, ap, subst, arith}
+use Rattle.std.proofs.Common.{◌≡◌, ◌≤◌, ◌∙◌, inr, ℕ, List, Option, Some, None, Result, Err, length, min, take, ap, subst, arith}
 use Rattle.im_model.specs.declared.transactions.Transaction.{Transaction}
 use Rattle.im_sqlmodel.specs.Kept.{IsTableOf}
 use Rattle.im_sqlmodel.specs.Rows.{TableIs}

@@ -1,10 +1,8 @@
-use Rattle.std.proofs.Common.{◌≡◌, ◌≤◌, ◌<◌, ◌∙◌, inr, ℕ, List, Some, None, Ok, Err, length, min, take, sym, ap, subst, arith}
+use Rattle.std.proofs.Common.{◌≡◌, ◌≤◌, ◌∙◌, inr, ℕ, List, Ok, Err, length, min, take, sym, ap, subst, arith}
 use Rattle.std.proofs.lemmas.List.{take-take}
 use Rattle.im_model.specs.declared.transactions.Transaction.{Transaction}
-use Rattle.im_sqltype.specs.declared.values.Value.{Value}
-use Rattle.im_sqlmodel.specs.Conditions.{scope_of}
 use Rattle.im_sqlmodel.specs.Kept.{IsTableOf}
-use Rattle.im_sqlmodel.specs.Selects.{number_read, number_named, select_fault, selected, SourceIs, SelectAt}
+use Rattle.im_sqlmodel.specs.Selects.{number_read, select_fault, selected, SourceIs, SelectAt}
 use Rattle.im_sqlmodel.specs.declared.answers.SqlError.TheVariants as error
 use Rattle.im_sqlmodel.specs.declared.answers.SqlOut.TheVariants as out
 use Rattle.im_sqlmodel.specs.declared.tables.Nameable.{Nameable}

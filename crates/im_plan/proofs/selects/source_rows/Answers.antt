@@ -1,5 +1,4 @@
-use Rattle.std.proofs.Common.{◌∙◌, List, take, filter, map, sym, ap, subst}
-use Rattle.im_sqltype.specs.declared.values.Value.{Value}
+use Rattle.std.proofs.Common.{◌∙◌, take, filter, map, sym, ap, subst}
 use Rattle.im_sqlmodel.specs.Conditions.{meets}
 use Rattle.im_sqlmodel.specs.Rows.{IndexesAre}
 use Rattle.im_sqlmodel.specs.Selects.{SourceIs}

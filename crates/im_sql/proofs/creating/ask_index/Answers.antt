@@ -1,5 +1,5 @@
 use Rattle.std.proofs.Common.{◌≡◌, ◌∷◌, ◌∙◌, List, ℕ, [], Ok, ap₂, subst, sym}
-use Rattle.im_sqlmodel.specs.Creations.{asked_since, index_written}
+use Rattle.im_sqlmodel.specs.Creations.{asked_since}
 use Rattle.im_sqlmodel.specs.Keys.{index_key, mark_key}
 use Rattle.im_sqlmodel.specs.declared.answers.SqlOut.TheVariants as out
 use Rattle.im_sqlmodel.specs.declared.written.Written.{Written}

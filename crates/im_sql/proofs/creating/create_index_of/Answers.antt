@@ -10,7 +10,8 @@ use Rattle.im_sqlmodel.specs.declared.tables.SqlIndex.{SqlIndex}
 use Rattle.im_sqlmodel.proofs.KeptLemmas.{kept-sound}
 use Rattle.im_catalog.proofs.HistoryLemmas.{history-taken}
 use Rattle.im_catalog.proofs.ThereLemmas.{rows-are, indexes-are}
-use Rattle.im_sql.proofs.AnswerLemmas.{Answer, index-fault, index-told, index-rows, index-asked, or-told}
+use Rattle.im_catalog.proofs.OneLemmas.{Answer}
+use Rattle.im_sql.proofs.AnswerLemmas.{index-fault, index-told, index-rows, index-asked, or-told}
 use Rattle.im_sql.proofs.CountLemmas.{indexes-few}
 use Rattle.im_sql.proofs.CreateLemmas.{index-made, index-is}
 use Rattle.im_sql.proofs.creating.create_index_of.Goals as goal

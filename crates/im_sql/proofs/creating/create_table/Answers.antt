@@ -3,7 +3,8 @@ use Rattle.im_sqlmodel.specs.Rows.{TableIs}
 use Rattle.im_sqlmodel.specs.declared.answers.SqlError.TheVariants as error
 use Rattle.im_sqlmodel.specs.declared.answers.SqlOut.TheVariants as out
 use Rattle.im_sqlmodel.proofs.KeptLemmas.{kept-sound}
-use Rattle.im_sql.proofs.AnswerLemmas.{Answer, create-some, create-none}
+use Rattle.im_catalog.proofs.OneLemmas.{Answer}
+use Rattle.im_sql.proofs.AnswerLemmas.{create-some, create-none}
 use Rattle.im_sql.proofs.creating.create_table.Goals as goal
 
 -- the answer where the table is there

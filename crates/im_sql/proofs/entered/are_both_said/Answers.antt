@@ -1,4 +1,4 @@
-use Rattle.std.proofs.Common.{◌≡◌, ◌≤◌, sym, ◌∙◌, arith}
+use Rattle.std.proofs.Common.{sym, ◌∙◌, arith}
 use Rattle.im_sql.proofs.HangLemmas.{both-said, said-both}
 use Rattle.im_sql.proofs.TestLemmas.{test-fails, test-not}
 use Rattle.im_sql.proofs.entered.are_both_said.Goals as goal

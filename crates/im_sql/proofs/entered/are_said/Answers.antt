@@ -1,4 +1,4 @@
-use Rattle.std.proofs.Common.{◌≡◌, ◌≤◌, ◌<◌, arith}
+use Rattle.std.proofs.Common.{arith}
 use Rattle.im_sql.proofs.HangLemmas.{said-step, said-fails, said-end, said-long}
 use Rattle.im_sql.proofs.TestLemmas.{test-fails, test-holds, test-not}
 use Rattle.im_sql.proofs.entered.are_said.Goals as goal

@@ -1,4 +1,4 @@
-use Rattle.std.proofs.Common.{◌≡◌, ◌↔◌, Bool, true, ◌∷◌, [], All, subst, sym}
+use Rattle.std.proofs.Common.{◌≡◌, ◌↔◌, Bool, true, All, subst, sym}
 use Rattle.im_catalog.proofs.FoundLemmas.{if-ok}
 use Rattle.im_sql.specs.Sounding.{Hang, IsMarkShown, AreEntered}
 use Rattle.im_sql.proofs.TestLemmas.{test-fails, test-not}

@@ -1,4 +1,4 @@
-use Rattle.std.proofs.Common.{◌≡◌, ◌≤◌, ◌<◌, ◌+◌, ℕ, length, arith}
+use Rattle.std.proofs.Common.{ℕ, length, arith}
 use Rattle.im_sql.specs.declared.said.TableFound.{TableFound}
 use Rattle.im_sql.proofs.HangLemmas.{sum-step, sum-upto, sum-end}
 use Rattle.im_sql.proofs.hanging.left_of.Goals as goal

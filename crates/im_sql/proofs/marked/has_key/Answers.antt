@@ -1,4 +1,4 @@
-use Rattle.std.proofs.Common.{◌≡◌, ◌≢◌, ℕ, List, sym, ◌∙◌}
+use Rattle.std.proofs.Common.{◌≢◌, ℕ, List, sym, ◌∙◌}
 use Rattle.im_versions.specs.declared.versions.Version.{Version}
 use Rattle.im_versions.proofs.ListLemmas.{All-among}
 use Rattle.im_sql.proofs.HangLemmas.{at-among}

@@ -1,4 +1,4 @@
-use Rattle.std.proofs.Common.{◌≡◌, ◌≢◌, ℕ, List, sym, ◌∙◌}
+use Rattle.std.proofs.Common.{◌≢◌, ℕ, List, sym, ◌∙◌}
 use Rattle.im_versions.proofs.ListLemmas.{All-among}
 use Rattle.im_sqlmodel.specs.Keys.{mark_key}
 use Rattle.im_sql.specs.declared.said.TableFound.{TableFound}

@@ -1,4 +1,4 @@
-use Rattle.std.proofs.Common.{◌≡◌, ◌-◌, ℕ, true, ◌↔◌, length}
+use Rattle.std.proofs.Common.{◌-◌, true, length}
 use Rattle.im_sql.proofs.HangLemmas.{told-step, told-fails, told-end}
 use Rattle.im_sql.proofs.TestLemmas.{test-fails, test-holds, test-not}
 use Rattle.im_sql.proofs.numbered.are_told.Goals as goal

@@ -1,4 +1,4 @@
-use Rattle.std.proofs.Common.{◌≡◌, ◌≤◌, [], ◌∷◌, ℕ, List, length, sym, ap, ◌∙◌, arith}
+use Rattle.std.proofs.Common.{◌≡◌, ◌≤◌, ℕ, List, length, sym, ap, ◌∙◌, arith}
 use Rattle.im_sql.specs.Sounding.{under}
 use Rattle.im_sql.proofs.HangLemmas.{count-none, count-long, count-one, nothing-of, some-of, only-one}
 use Rattle.im_sql.proofs.TestLemmas.{test-fails}

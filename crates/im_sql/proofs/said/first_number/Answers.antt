@@ -1,4 +1,4 @@
-use Rattle.std.proofs.Common.{◌<◌, ◌≡◌, ◌++◌, length, refl, subst, ◌∙◌}
+use Rattle.std.proofs.Common.{◌<◌, length, refl, subst}
 use Rattle.im_sql.proofs.said.first_number.Goals as goal
 
 pub returns-in-Err : goal.returns-in-Err

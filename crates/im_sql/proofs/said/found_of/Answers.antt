@@ -1,4 +1,4 @@
-use Rattle.std.proofs.Common.{◌≡◌, List, Option, MatchOption, refl, subst}
+use Rattle.std.proofs.Common.{List, Option, MatchOption, refl, subst}
 use Rattle.std.specs.List.{AllZip}
 use Rattle.im_sqlmodel.specs.Keys.{index_prefix, rows_prefix}
 use Rattle.im_sqlmodel.specs.Rows.{IsIndexVersion, IsStoredRow}

@@ -1,4 +1,4 @@
-use Rattle.std.proofs.Common.{◌≡◌, ◌+◌, [], List, Option, MatchOption, take, sym, subst, ◌∙◌}
+use Rattle.std.proofs.Common.{◌+◌, [], List, Option, MatchOption, take, sym, subst, ◌∙◌}
 use Rattle.std.specs.List.{AllZip}
 use Rattle.im_sqlmodel.specs.Rows.{IsStoredRow}
 use Rattle.im_sqlmodel.specs.declared.rows.StoredRow.{StoredRow}

@@ -1,4 +1,4 @@
-use Rattle.std.proofs.Common.{◌≡◌, ◌∙◌, List, Option, MatchOption, subst, ap}
+use Rattle.std.proofs.Common.{◌∙◌, List, Option, MatchOption, subst, ap}
 use Rattle.std.specs.List.{AllZip}
 use Rattle.im_versions.specs.declared.versions.Version.{Version}
 use Rattle.im_catalog.proofs.FoundLemmas.{if-ok}

@@ -1,4 +1,4 @@
-use Rattle.std.proofs.Common.{◌≡◌, ◌≤◌, ◌∷◌, [], ℕ, Err, drop, sym, ap, ◌∙◌}
+use Rattle.std.proofs.Common.{Err, drop, sym, ap, ◌∙◌}
 use Rattle.im_catalog.proofs.FoundLemmas.{begins-is}
 use Rattle.im_sqlmodel.specs.Keys.{table_prefix, table_key}
 use Rattle.im_sql.proofs.SayLemmas.{behind-all}

@@ -2,7 +2,7 @@ use Rattle.std.proofs.Common.{[], ◌∙◌, sym}
 use Rattle.std.proofs.lemmas.List.{append-nil}
 use Rattle.im_sqltype.specs.Orders.{octets_cmp, value_cmp, row_cmp}
 use Rattle.im_sqltype.specs.Texts.{value_text, row_text}
-use Rattle.im_sqltype.proofs.OrderLemmas.{then-Equal}
+use Rattle.im_sqltype.specs.Total.{then-Equal}
 use Rattle.im_sqltype.proofs.FrontLemmas.{value-order, row-order}
 use Rattle.im_sqltype.proofs.laws.octet_order_is_value_order.Goals as goal
 

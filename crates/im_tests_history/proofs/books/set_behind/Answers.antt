@@ -4,7 +4,8 @@ use Rattle.im_model.specs.declared.entries.Entry.{Entry}
 use Rattle.im_model.specs.declared.transactions.Transaction.{Transaction}
 use Rattle.im_tx.specs.Asked.{Asked, IsAsked}
 use Rattle.im_book.specs.Booked.{last_bl}
-use Rattle.im_book.proofs.BookLemmas.{history-behind, last-bl-behind}
+use Rattle.im_model.proofs.HistoryLemmas.{last-bl-behind}
+use Rattle.im_book.proofs.BookLemmas.{history-behind}
 use Rattle.im_tests_history.proofs.books.set_behind.Goals as goal
 
 pub returns-clause-history : goal.returns-clause-history

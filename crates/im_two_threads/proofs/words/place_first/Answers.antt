@@ -1,4 +1,4 @@
-use Rattle.std.proofs.Common.{◌≡◌, ◌+◌, List, [], length, map, ap, sym, subst, ◌∙◌}
+use Rattle.std.proofs.Common.{◌+◌, List, length, map, ap, sym, subst, ◌∙◌}
 use Rattle.im_format.specs.Places.{AreAppended}
 use Rattle.im_format.specs.declared.references.ValueRef.{ValueRef}
 use Rattle.im_model.specs.declared.entries.Entry.{Entry}

@@ -1,7 +1,7 @@
 use Rattle.std.proofs.Common.{arith, sym, subst, ◌∙◌}
 use Rattle.std.proofs.lemmas.List.{take_all}
 use Rattle.im_draft.specs.Drafts.{HaveDistinctKeys}
-use Rattle.im_tx.specs.Places.{place_in}
+use Rattle.im_octet.specs.Places.{place_in}
 use Rattle.im_tx.proofs.PlaceLemmas.{ArePlaces-suc, key-at}
 use Rattle.im_tx.proofs.distinct.check_distinct.Goals as goal
 

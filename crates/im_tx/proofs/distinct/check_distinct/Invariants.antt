@@ -1,4 +1,4 @@
-use Rattle.im_tx.specs.Places.{place_in}
+use Rattle.im_octet.specs.Places.{place_in}
 use Rattle.im_tx.proofs.PlaceLemmas.{ArePlaces}
 use Rattle.im_tx.proofs.distinct.check_distinct.Given as goal
 

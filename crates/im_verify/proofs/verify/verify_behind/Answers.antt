@@ -1,8 +1,7 @@
-use Rattle.std.proofs.Common.{◌≡◌, ◌⊎◌, ◌∙◌, Err, Ok as Took, ap, inl, inr, refl, subst, sym}
+use Rattle.std.proofs.Common.{◌≡◌, ◌⊎◌, ◌∙◌, Err, ap, inl, inr, refl, subst, sym}
 use Rattle.im_verify.specs.Judged.{StopsHeld}
 use Rattle.im_verify.specs.Runs.{Verifies}
 use Rattle.im_verify.specs.Stops.{ended_by}
-use Rattle.im_verify.specs.Turns.{done, TakesAll}
 use Rattle.im_verify.specs.declared.ended.Ended.{Ended}
 use Rattle.im_verify.specs.declared.ended.Ended.TheVariants as ended
 use Rattle.im_verify.specs.declared.lines.LineEnd.{LineEnd}

@@ -4,10 +4,10 @@ use Rattle.im_digest.specs.Digests.{Hash}
 use Rattle.im_mtree.specs.Kept.{IsFrontier}
 use Rattle.im_model.specs.declared.transactions.Transaction.{Transaction}
 use Rattle.im_book.specs.Booked.{last_bl}
-use Rattle.im_book.proofs.BookLemmas.{alhs-counted, last-bl-behind}
+use Rattle.im_book.proofs.BookLemmas.{alhs-counted}
 use Rattle.im_book.proofs.RootLemmas.{kept-behind}
 use Rattle.im_book.proofs.book.Book.push_over.Goals as goal
-use Rattle.im_model.proofs.HistoryLemmas.{root-of-first}
+use Rattle.im_model.proofs.HistoryLemmas.{root-of-first, last-bl-behind}
 
 pub extend_to-requires-clause-within : goal.extend_to-requires-clause-within
 extend_to-requires-clause-within g c =

@@ -1,4 +1,4 @@
-use Rattle.std.proofs.Common.{rules, ◌≤◌, List, ap, sym, subst, arith}
+use Rattle.std.proofs.Common.{rules, List, ap, sym, subst, arith}
 use Rattle.im_table.specs.declared.items.LogItem.{LogItem}
 use Rattle.im_table.specs.declared.view.View.{View}
 use Rattle.im_linker.specs.Trees.{IsTreeOf}

@@ -14,7 +14,8 @@ use Rattle.im_table.proofs.HistoryLemmas.{history_length}
 use Rattle.im_vlog.specs.Ends.{HaveRoom}
 use Rattle.im_book.specs.Booked.{Booked, IsBook, last_bl}
 use Rattle.im_seated_book.specs.Seats.{HasTimed, HoldsItems}
-use Rattle.im_book.proofs.BookLemmas.{book-same, last-bl-behind}
+use Rattle.im_model.proofs.HistoryLemmas.{last-bl-behind}
+use Rattle.im_book.proofs.BookLemmas.{book-same}
 use Rattle.im_seated_book.proofs.RootLemmas.{values_told}
 use Rattle.im_seated_book.proofs.SeatLemmas.{asked_is, found_within, lengths_fit, holds_more, holds_same, timed_more}
 use Rattle.im_seated_book.proofs.seated.SeatedBook.put.Goals as goal

@@ -1,4 +1,4 @@
-use Rattle.std.proofs.Common.{rules, ◌≡◌, ◌≤◌, ◌+◌, ◌∙◌, ℕ, List, ap, sym, subst, arith}
+use Rattle.std.proofs.Common.{rules, ◌≡◌, ◌≤◌, ◌+◌, ℕ, List, ap, sym, subst, arith}
 use Rattle.std.specs.Prelude.{◌⊎◌, IsSome}
 use Rattle.im_digest.specs.Digests.{Hash}
 use Rattle.im_table.specs.Histories.{history_of}

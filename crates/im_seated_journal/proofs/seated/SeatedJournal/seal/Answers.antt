@@ -1,4 +1,4 @@
-use Rattle.std.proofs.Common.{rules, ◌≡◌, ◌∙◌, ℕ, List, ap, sym, subst, arith, ◌+◌}
+use Rattle.std.proofs.Common.{rules, ◌≡◌, ℕ, List, ap, sym, subst, arith, ◌+◌}
 use Rattle.std.specs.Prelude.{◌⊎◌}
 use Rattle.im_disk.specs.Moments.{Leaves}
 use Rattle.im_format.specs.Standing.{StandsFrom}

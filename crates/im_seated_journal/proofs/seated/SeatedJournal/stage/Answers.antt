@@ -1,4 +1,4 @@
-use Rattle.std.proofs.Common.{rules, ◌≡◌, ◌∙◌, ℕ, List, ap, sym, subst, arith, ◌+◌, inr}
+use Rattle.std.proofs.Common.{rules, ◌≡◌, ℕ, List, ap, sym, subst, arith, ◌+◌, inr}
 use Rattle.std.specs.Prelude.{◌⊎◌, OnOk}
 use Rattle.im_disk.specs.Moments.{Leaves}
 use Rattle.im_format.specs.Standing.{StandsFrom}

@@ -1,4 +1,4 @@
-use Rattle.std.proofs.Common.{[], refl, sym, subst, arith}
+use Rattle.std.proofs.Common.{refl, sym, subst, arith}
 use Rattle.im_statement_cases.specs.Sessions.{IsSession}
 use Rattle.im_statement_cases.proofs.session.Session.new.Goals as goal
 

@@ -1,4 +1,4 @@
-use Rattle.std.proofs.Common.{◌≡◌, ◌≤◌, ◌∷◌, ◌++◌, List, Option, Bool, true, false, [], Some, None, is_some, pos, refl, sym, ap, ap₂, subst, ◌∙◌, arith}
+use Rattle.std.proofs.Common.{◌≡◌, ◌∷◌, ◌++◌, List, Option, false, [], Some, None, is_some, pos, refl, sym, ap₂, subst, ◌∙◌, arith}
 use Rattle.im_model.specs.History.{IsHistory}
 use Rattle.im_model.specs.declared.entries.Entry.{Entry}
 use Rattle.im_model.specs.declared.transactions.Transaction.{Transaction}

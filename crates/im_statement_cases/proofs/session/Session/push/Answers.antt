@@ -2,7 +2,7 @@ use Rattle.std.proofs.Common.{◌≡◌, ◌∷◌, ◌++◌, List, ◌+◌, ◌
 use Rattle.im_model.specs.History.{IsHistory}
 use Rattle.im_model.specs.declared.transactions.Transaction.{Transaction}
 use Rattle.im_index.specs.Indexed.{Indexed}
-use Rattle.im_book.proofs.BookLemmas.{last-bl-behind}
+use Rattle.im_model.proofs.HistoryLemmas.{last-bl-behind}
 use Rattle.im_statement_cases.specs.Sessions.{IsSession}
 use Rattle.im_statement_cases.proofs.session.Session.push.Goals as goal
 

@@ -8,7 +8,8 @@ use Rattle.im_table.specs.Histories.{history_of}
 use Rattle.im_table.specs.Known.{KnownPass, TableId}
 use Rattle.im_table.specs.Passes.{IsPassOf}
 use Rattle.im_table.specs.References.{AreLaid, IsLawful}
-use Rattle.im_table.specs.Views.{placed_by, times}
+use Rattle.im_table.specs.Views.{placed_by}
+use Rattle.im_model.specs.Counts.{times}
 use Rattle.im_table.specs.declared.items.LogItem.{LogItem}
 use Rattle.im_table.specs.declared.roles.Roles.{Roles}
 use Rattle.im_table.specs.declared.view.Least.{Least}

@@ -6,11 +6,11 @@ use Rattle.std.proofs.lemmas.List.Elements.{All-push}
 use Rattle.std.proofs.lemmas.List.Sums.{sum_by_push}
 use Rattle.im_table.specs.Known.{KnownPass}
 use Rattle.im_table.specs.Passes.{IsPassOf}
-use Rattle.im_table.specs.Views.{times}
+use Rattle.im_model.specs.Counts.{times}
 use Rattle.im_table.specs.declared.items.LogItem.{LogItem}
 use Rattle.im_table.specs.declared.view.Least.{Least}
 use Rattle.im_table.specs.declared.view.View.{View}
-use Rattle.im_table.proofs.NumberLemmas.{times_append}
+use Rattle.im_model.proofs.CountLemmas.{times_append}
 use Rattle.im_store.specs.Closing.{failures_told, leaves_linked, own_count, weight_in}
 use Rattle.im_store.proofs.CloseLemmas.{all_middle, all_same, held_least, held_roles, held_seen, nil_of}
 use Rattle.im_store.proofs.store.closing.take_in.Goals as goal

@@ -1,7 +1,7 @@
 use Rattle.std.proofs.Common.{◌≡◌, ◌≤◌, ◌+◌, ◌++◌, ℕ}
 use Rattle.std.specs.List.{All, sum_by}
 use mathlib.Core.List.{IsPrefix}
-use Rattle.im_table.specs.Views.{times}
+use Rattle.im_model.specs.Counts.{times}
 use Rattle.im_store.specs.Closing.{failures_told, leaves_linked, own_count, weight_in, HoldsAll}
 use Rattle.im_store.proofs.store.closing.take_in.Given as goal
 

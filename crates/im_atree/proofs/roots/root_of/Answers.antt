@@ -1,6 +1,6 @@
 use Rattle.std.proofs.Common.{◌≡◌, ℕ, length, take, ap, ◌∙◌, arith}
 use Rattle.im_model.specs.Trees.{root}
-use Rattle.im_linker.proofs.linked.root_of.Goals as goal
+use Rattle.im_atree.proofs.roots.root_of.Goals as goal
 use Rattle.im_model.proofs.HistoryLemmas.{root-of-some}
 
 pub returns : goal.returns
