@@ -34,7 +34,8 @@ use Rattle.im_session.specs.declared.errors.LineError.{LineError}
 use Rattle.im_session.specs.declared.errors.LineError.TheVariants as fails
 use Rattle.im_session.specs.declared.serve.Stopped.{Stopped}
 use Rattle.im_session.specs.declared.serve.Stopped.TheVariants as stops
-use Rattle.im_store.specs.Names.{Naming, OpensAs}
+use Rattle.im_store.specs.Names.{Naming}
+use Rattle.im_store_opening.specs.Opened.{OpensAs}
 use Rattle.im_table.specs.Histories.{history_of}
 use Rattle.im_table.proofs.HistoryLemmas.{history_length}
 use Rattle.im_words.specs.declared.Link.{Link}

@@ -14,7 +14,8 @@ use Rattle.im_session.specs.declared.errors.LineError.{LineError}
 use Rattle.im_session.specs.declared.errors.LineError.TheVariants as fails
 use Rattle.im_session.specs.declared.serve.Stopped.{Stopped}
 use Rattle.im_session.specs.declared.serve.Stopped.TheVariants as stops
-use Rattle.im_store.specs.Names.{Naming, OpensAs}
+use Rattle.im_store.specs.Names.{Naming}
+use Rattle.im_store_opening.specs.Opened.{OpensAs}
 use Rattle.im_table.specs.Histories.{history_of}
 use Rattle.im_words.specs.declared.Link.{Link}
 use Rattle.im_app.specs.Runs.{HasOneSession, IsGiven, KeepsFound, WritesFront, WritesPart, WritesReport, has_linker}

@@ -14,7 +14,8 @@ use Rattle.im_session.specs.declared.errors.LineError.TheVariants as fails
 use Rattle.im_sqlmodel.specs.Kept.{IsFirstUnsound}
 use Rattle.im_sqlmodel.specs.declared.answers.KeptError.{KeptError}
 use Rattle.im_sqlmodel.specs.declared.answers.KeptError.TheVariants as judged
-use Rattle.im_store.specs.Names.{Naming, OpensAs}
+use Rattle.im_store.specs.Names.{Naming}
+use Rattle.im_store_opening.specs.Opened.{OpensAs}
 use Rattle.im_table.specs.Histories.{history_of}
 use Rattle.im_app.specs.Runs.{FindsUnkept, KeepsFound, LeavesFound}
 use Rattle.im_app.specs.Statuses.{EndsWriting, status_for, status_kept}

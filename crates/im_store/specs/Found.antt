@@ -9,7 +9,6 @@ use Rattle.im_format.specs.declared.records.Record.{Record}
 use Rattle.im_index.specs.Indexed.{IsIndexOf}
 use Rattle.im_journal.specs.Kept.{IsAtRest, Kept}
 use Rattle.im_linker.specs.Trees.{IsTreeOf}
-use Rattle.im_opening.specs.declared.found.FoundHistory.{FoundHistory}
 use Rattle.im_table.specs.Histories.{history_of}
 use Rattle.im_table.specs.Known.{Place}
 use Rattle.im_table.specs.Views.{opener}
@@ -36,20 +35,6 @@ pub record ArePartsOf (hash : Hash) (records : List Record) (logs : ℕ) (tip : 
   pub refs_are : parts.refs.items ≡ map (λ item. item.refs) (items_of records)
   pub tree_is : IsTreeOf hash (items_of records) parts.tree
   pub whole : parts.tree.size ≡ length (items_of records)
-
--- the words of this number of value logs, and the parts, are made of what was found: the pass has each role and the whole weight, the book has the
--- headers and the Alh that were found, and the tree is the one that was found
-pub record AreMadeOf (found : FoundHistory) (logs : ℕ) (tip : Place) (parts : Parts) : Type 0 where
-  pub found_is : tip.found ≡ items_of found.records.items
-  pub logs_are : tip.logs ≡ logs
-  pub table : parts.pass.table ≡ tip.table
-  pub view : parts.pass.view ≡ opener (items_of found.records.items)
-  pub index_is : IsIndexOf parts.index (history_of (items_of found.records.items))
-  pub transactions_are : parts.book.transactions ≡ history_of (items_of found.records.items)
-  pub headers_are : parts.book.headers ≡ found.headers.items
-  pub alhs_are : parts.book.alhs ≡ found.alhs.items
-  pub refs_are : parts.refs.items ≡ map (λ item. item.refs) (items_of found.records.items)
-  pub tree_is : parts.tree ≡ found.tree
 
 -- a store as it was opened: its journal is at rest, with batches of the records that were found, no call of its disk has failed, and its
 -- parts are those of these records

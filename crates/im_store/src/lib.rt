@@ -4,14 +4,15 @@
 //!
 //! # The outline of a program
 //!
-//! It opens a disk, two threads commit what was prepared (`Prepared`, of im_tx: entries and preconditions that were checked), then the
+//! It opens a disk (im_store_opening), two threads commit what was prepared (`Prepared`, of im_tx: entries and preconditions that were checked), then the
 //! store shows a key, proves the second transaction from the first, and is closed. Left out are most imports, what is done about errors of
 //! `index`, `link` and `prove`, and the file `Invariants.antt` that names the store (`Opened` says how). Whole programs, proved and run,
 //! are in `im_tests_store`.
 //!
 //! ```text
-//! use im_store::opened::{Opened, open};
+//! use im_store::opened::Opened;
 //! use im_store::store::Store;
+//! use im_store_opening::opening::open;
 //! use im_table::law::Free;
 //! use std::marker::Brand;
 //! use std::thread::join;
@@ -131,7 +132,7 @@
 //!
 //! | call | waits for | costs |
 //! |---|---|---|
-//! | `open` | nobody | what `im_opening::open` costs: all files read and checked, and one sync, or two and a write; and the index of all that was found |
+//! | `open` (im_store_opening) | nobody | what `im_opening::open` costs: all files read and checked, and one sync, or two and a write; and the index of all that was found |
 //! | `Opened::keys` | nobody | the index's runs are shared, none is copied |
 //! | `named`, `hash`, `pass`, `end`, `tip` | nobody | a few steps on words; no memory |
 //! | `commit` | book and tree; then the journal, unless another thread makes it durable | each value and the root of its entries hashed once, its header by two hashes, a few nodes of the tree where it has grown; two copies of keys and values; where it has preconditions, a copy of each key that was placed since the last commit with some (once in all, merged into sorted runs), and b * (b + 1) comparisons of keys for each, with b binary digits in the number of versions; its share of a batch: 2 syncs, 3 writes and one for each value log |

@@ -14,7 +14,8 @@ use Rattle.im_machine.proofs.CutLemmas.{disk_by}
 use Rattle.im_model.specs.declared.transactions.Transaction.{Transaction}
 use Rattle.im_table.specs.Histories.{history_of}
 use Rattle.im_store_laws.specs.DiskEvents.{AreFaultSteps, IsOpenStep}
-use Rattle.im_store.specs.Names.{Naming, OpensAs}
+use Rattle.im_store.specs.Names.{Naming}
+use Rattle.im_store_opening.specs.Opened.{OpensAs}
 use Rattle.im_store_laws.proofs.BatchEvents.{nothing_behind}
 
 pub open_event : (t : Told) (faults : ℕ) (n : Naming) → OpensAs (Some t) faults n → IsOpenStep n.digest t (history_of n.found) n.synced

@@ -28,7 +28,8 @@ ghost use Rattle.im_store.specs.Commits.{HasPlaced, IsRefusedAt};
 ghost use Rattle.im_store_laws.specs.DiskEvents.{AreBatchSteps, AreFaultSteps, AreLastSteps, IsBeside, IsOpenStep, RestsOn};
 ghost use Rattle.im_store_laws.specs.Events.{AreIndexSteps, AreLinkSteps, HoldsFirst, IsAckStep, IsLoadStep, IsLookStep, IsPlaceStep, IsProveStep, IsRefusalStep, IsSnapStep};
 ghost use Rattle.im_store.specs.Loads.{IsLoaded, SawDurable, SawFailures, SawIndexed};
-ghost use Rattle.im_store.specs.Names.{Naming, OpensAs};
+ghost use Rattle.im_store.specs.Names.{Naming};
+ghost use Rattle.im_store_opening.specs.Opened.{OpensAs};
 ghost use Rattle.im_store.specs.Proving.{ProvesEntry};
 ghost use Rattle.im_store.specs.declared.answers.ProvedEntry.{ProvedEntry};
 
