@@ -21,7 +21,7 @@ use Rattle.im_facts.proofs.AgreeLemmas.{each-agrees}
 use Rattle.im_facts.proofs.FoldLemmas.{found-holds, found-id}
 use Rattle.im_facts.proofs.KnownLemmas.{found-passes}
 use Rattle.im_facts.proofs.OrderLemmas.{each-weaker, puts-all}
-use Rattle.im_accept.specs.Messages.{item_between}
+use Rattle.im_report.specs.Messages.{item_between}
 use Rattle.im_accept.specs.Taken.{HasFactsOf, IsEntryOf, IsHeaderOf}
 use Rattle.im_accept.proofs.PassLemmas.{between-source, between-target}
 

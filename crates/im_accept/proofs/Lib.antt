@@ -4,6 +4,5 @@ pub mod FactLemmas
 pub mod LfLemmas
 pub mod PassLemmas
 pub mod ReplyLemmas
-pub mod ShownLemmas
 pub mod TakenLemmas
 pub mod SessionLemmas

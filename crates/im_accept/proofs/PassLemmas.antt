@@ -27,7 +27,7 @@ use Rattle.im_client.specs.LineChecks.{anchor_checks, anchor_ends_checks, dual_l
 use Rattle.im_client.specs.declared.faults.LineFault.{LineFault}
 use Rattle.im_client.specs.declared.faults.LineFault.TheVariants.{State, StateId, StateAlh, SourceId, SourceAlh, TargetId, TargetAlh, Dual, AnchorMissing, AnchorExtra, AnchorSourceId, AnchorTargetId, AnchorSourceAlh, AnchorTargetAlh, Anchor, Path}
 use Rattle.im_proof.proofs.NamedLemmas.{holds_named}
-use Rattle.im_accept.specs.Messages.{item_between}
+use Rattle.im_report.specs.Messages.{item_between}
 
 -- the headers of a dual proof, and the Alh that it tells
 dual-source : (hash : Hash) (source target : TheHeader) (alhs inners : List (List ℕ)) → (dual_of hash source target alhs inners).source ≡ source

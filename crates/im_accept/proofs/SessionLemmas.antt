@@ -10,7 +10,8 @@ use Rattle.im_text.specs.Lines.{AreTexts}
 use Rattle.im_text.proofs.LineLemmas.{texts-unique}
 use Rattle.im_accept.proofs.CutLemmas.{answer-lacks, answers-same, line-lacks, texts-of}
 use Rattle.im_accept.proofs.TakenLemmas.{answers-taken}
-use Rattle.im_accept.specs.Taken.{AreAcceptedAnswers, AreReadBack, HaveSessions, line_text}
+use Rattle.im_accept.specs.Taken.{AreAcceptedAnswers, HaveSessions, line_text}
+use Rattle.im_report.specs.Messages.{AreReadBack}
 use Rattle.im_report.proofs.FurtherLemmas.{written_lines}
 use Rattle.im_report.proofs.KnownLemmas.{IsKnown, answers_known, known_phases}
 use Rattle.im_report.proofs.OutcomeLemmas.{flat_all, texts_all}

@@ -27,12 +27,12 @@ use Rattle.im_report.specs.Report.{Answered, IsAnswer, Report}
 use Rattle.im_client.specs.Lines.{state_with}
 use Rattle.im_client.specs.LineChecks.{line_checks}
 use Rattle.im_facts.specs.Facts.{both_headers, entries_shown, headers_shown}
-use Rattle.im_accept.specs.Messages.{item_between, IsReadBack}
-use Rattle.im_accept.specs.Taken.{kept_number, next_number, line_text, AreReadBack, AreAcceptedAnswers, HasStateFor, HaveSessions, IsEntryOf, IsHeaderOf, IsAcceptedAnswer}
+use Rattle.im_report.specs.Messages.{AreReadBack, IsReadBack, item_between}
+use Rattle.im_accept.specs.Taken.{kept_number, next_number, line_text, AreAcceptedAnswers, HasStateFor, HaveSessions, IsEntryOf, IsHeaderOf, IsAcceptedAnswer}
 use Rattle.im_accept.proofs.DigitLemmas.{decimal-word}
 use Rattle.im_accept.proofs.FactLemmas.{anchor-shown, both-shown, entry-shown, facts-agree, facts-more, header-of-it}
 use Rattle.im_accept.proofs.PassLemmas.{advance-passes, between-target, dual-passes, first-state-passes, item-passes, same-state-passes}
-use Rattle.im_accept.proofs.ShownLemmas.{advance-shown, get-closed, header-closed, item-shown, prove-shown, scanned-closed, set-closed, state-shown, statement-closed, versions-closed}
+use Rattle.im_report.proofs.ShownLemmas.{advance-shown, get-closed, header-closed, item-shown, prove-shown, scanned-closed, set-closed, state-shown, statement-closed, versions-closed}
 
 -- an answered line is a reply
 pub line-replies : (a : Answered) → IsSession a.line.session → a.number ≤ 1048576 → IsReply (line_text a) a.reply

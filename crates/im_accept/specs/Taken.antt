@@ -1,5 +1,5 @@
 -- Which of a report's lines a client accepts, and in which state: each one that is a message.
-use Rattle.std.specs.Prelude.{◌≡◌, ℕ, ◌<◌, ◌≤◌, List, ◌++◌, length, take, slice_index_or, true, false, All, Option, Some, None, codes}
+use Rattle.std.specs.Prelude.{◌≡◌, ℕ, ◌<◌, ◌≤◌, List, ◌++◌, length, slice_index_or, true, false, All, Option, Some, None, codes}
 use Rattle.std.specs.Fmt.{decimal}
 use Rattle.im_digest.specs.Digests.{Hash}
 use Rattle.im_model.specs.History.{header_of, transaction_of}
@@ -19,7 +19,6 @@ use Rattle.im_facts.specs.Facts.{Known, with_message}
 use Rattle.im_facts.specs.Folds.{IsVerdict}
 use Rattle.im_facts.specs.Verdicts.{Accepted}
 use Rattle.im_facts.specs.declared.facts.EntryFact.{EntryFact}
-use Rattle.im_accept.specs.Messages.{IsReadBack}
 
 -- the number of the transaction whose header a client keeps that the reply to a command at n is for, where
 -- that reply can be a message
@@ -105,10 +104,6 @@ pub record IsAcceptedAnswer (hash : Hash) (history : List Transaction) (a : Answ
 abbrev pub AreAcceptedAnswers : Hash → List Transaction → List Answered → Type 0
 AreAcceptedAnswers hash history answers =
     All (λ a. (is_open a.reply ≡ true → IsAcceptedAnswer hash history a) × (is_open a.reply ≡ false → IsLine (line_text a) None)) answers
-
--- each reply is read as the message that was asked for at its number, where it is one
-abbrev pub AreReadBack : Hash → List Transaction → List Answered → Type 0
-AreReadBack hash history answers = All (λ a. IsReadBack hash (take a.number history) a.line.command a.reply) answers
 
 -- each line has a session's name
 abbrev pub HaveSessions : List Line → Type 0

@@ -5,6 +5,7 @@ ghost use Rattle.im_text.specs.Lines.{AreTexts};
 ghost use Rattle.im_digest.specs.Digests.{Hash};
 ghost use Rattle.im_model.specs.declared.transactions.Transaction.{Transaction};
 ghost use Rattle.im_report.specs.Further.{written_replies};
+ghost use Rattle.im_report.specs.Messages.{AreReadBack};
 ghost use Rattle.im_report.specs.Outcomes.{Outcome, line_in};
 ghost use Rattle.im_report.specs.Report.{Report};
 ghost use Rattle.im_report.specs.Sessions.{SessionsReport, first_replies, lines_in, phase_text, phases_text, replies_in};
@@ -13,7 +14,7 @@ ghost use Rattle.im_script.specs.declared.commands.Line.{Line};
 ghost use Rattle.im_wire.specs.Lines.{is_open};
 ghost use Rattle.im_wire.specs.Texts.{text};
 ghost use Rattle.im_wire.specs.declared.messages.Message.{Message};
-ghost use Rattle.im_accept.specs.Taken.{line_text, AreReadBack, AreAcceptedAnswers, HaveSessions};
+ghost use Rattle.im_accept.specs.Taken.{line_text, AreAcceptedAnswers, HaveSessions};
 
 /// The lines of a script have sessions' names.
 pub fn lines_of_a_script_have_sessions()

@@ -16,7 +16,7 @@ use Rattle.im_script.proofs.Unique.{read-or-stop, one-stop}
 use Rattle.im_sqlmodel.specs.Kept.{IsFirstUnsound, IsSqlKept}
 use Rattle.im_app.specs.Runs.{IsGiven}
 use Rattle.im_app.specs.Fates.{HasRunFate, IsDamaged, IsUnkept}
-use Rattle.im_app.specs.Statuses.{EndsReading, EndsRun, EndsWriting}
+use Rattle.im_app.specs.Statuses.{EndsGiven, EndsReading, EndsRun, EndsWriting}
 use Rattle.im_app.specs.declared.status.Status.{Status}
 use Rattle.im_app.specs.declared.status.Status.TheVariants as the
 
@@ -198,6 +198,23 @@ reading-run the.Memory e = tt
 reading-run the.Long e = tt
 reading-run (the.Kept k) e = absurd e
 reading-run (the.SqlKept tx) e = tt
+
+-- a script that gave no lines isn't one that was given
+pub reading-not-given : (status : Status) → EndsReading status → EndsGiven status → ⊥
+reading-not-given the.Ok e given = e
+reading-not-given the.Usage e given = e
+reading-not-given (the.Script k) e given = given
+reading-not-given the.ReadFault e given = given
+reading-not-given the.WriteFault e given = e
+reading-not-given the.DiskFault e given = e
+reading-not-given (the.Damaged d) e given = e
+reading-not-given the.KeeperFault e given = e
+reading-not-given the.Refused e given = e
+reading-not-given the.Forked e given = e
+reading-not-given the.Memory e given = given
+reading-not-given the.Long e given = given
+reading-not-given (the.Kept k) e given = e
+reading-not-given (the.SqlKept tx) e given = e
 
 -- an end is none that its kind leaves out
 pub ends-other : (P : Status → Type 0) (status other : Status) → P status → status ≡ other → (P other → ⊥) → ⊥

@@ -11,6 +11,8 @@ use Rattle.im_session.specs.declared.serve.Stopped.{Stopped}
 use Rattle.im_session.specs.declared.serve.Stopped.TheVariants as stops
 use Rattle.im_verify.specs.declared.ended.Ended.{Ended}
 use Rattle.im_verify.specs.declared.ended.Ended.TheVariants as ended
+use Rattle.im_verify.specs.declared.show.ShowEnd.{ShowEnd}
+use Rattle.im_verify.specs.declared.show.ShowEnd.TheVariants as shows
 use Rattle.im_app.specs.Damages.{damage_words}
 use Rattle.im_app.specs.declared.status.Status.{Status}
 use Rattle.im_app.specs.declared.status.Status.TheVariants.{Ok, Usage, Script, ReadFault, WriteFault, DiskFault, Damaged, KeeperFault, Refused, Forked, Memory, Long, Kept, SqlKept}
@@ -214,3 +216,11 @@ status_ended ended.KeeperFault = KeeperFault
 status_ended ended.Memory = Memory
 status_ended ended.Long = Long
 status_ended (ended.Kept line) = Kept line
+
+-- the status of an end of `show`
+abbrev pub status_shown : ShowEnd → Status
+status_shown shows.Ok = Ok
+status_shown shows.WriteFault = WriteFault
+status_shown shows.KeeperFault = KeeperFault
+status_shown shows.Memory = Memory
+status_shown (shows.Kept line) = Kept line

@@ -3,7 +3,7 @@ ghost use Rattle.im_counts.specs.Counts.{Rose};
 ghost use Rattle.im_verify.specs.Judged.{StopsHeld};
 ghost use Rattle.im_verify.specs.Shows.{Shows, ShowsPart};
 ghost use Rattle.im_app.specs.Fates.{HasShow};
-ghost use Rattle.im_app.specs.Statuses.{EndsShow};
+ghost use Rattle.im_app.specs.Statuses.{EndsShow, status_shown};
 
 use crate::status::Status;
 use im_digest::Hash32;
@@ -35,7 +35,15 @@ pub(crate) fn shown<H: Hash32, K: Sink, P: Keeper>(
     ensures fate { (Rose (K.faults sink.old) (K.faults sink.new) → ⊥) → (Rose (P.faults keeper.old) (P.faults keeper.new) → ⊥)
         → IfSome (P.kept keeper.old) (HasShow (H.digest hash.now) result) }
 {
-    match show(alloc, hash, sink, keeper) {
+    let end = show(alloc, hash, sink, keeper);
+    status_of(end)
+}
+
+// The status of an end.
+fn status_of(end: ShowEnd) -> Status
+    ensures { result ≡ status_shown end }
+{
+    match end {
         ShowEnd::Ok => Status::Ok,
         ShowEnd::WriteFault => Status::WriteFault,
         ShowEnd::KeeperFault => Status::KeeperFault,

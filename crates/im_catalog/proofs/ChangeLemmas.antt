@@ -18,7 +18,7 @@ use Rattle.im_model.specs.declared.transactions.Transaction.{Transaction}
 use Rattle.im_versions.specs.Versions.{is_of, all_versions, versions_of, begins_with}
 use Rattle.im_versions.specs.declared.versions.Version.{Version}
 use Rattle.im_versions.proofs.ListLemmas.{among-filter, among-first, among-rest, filter-all, filter-none}
-use Rattle.im_changes.specs.Changes.{AreChanges}
+use Rattle.im_versions.specs.Changes.{AreChanges}
 use Rattle.im_sqltype.specs.Orders.{octets_cmp}
 use Rattle.im_sqltype.specs.declared.values.Value.{Value}
 use Rattle.im_sqlmodel.specs.Keys.{rows_prefix}

@@ -15,9 +15,9 @@ use crate::reading::{read_index, read_table};
 use im_octet::reader::Reader;
 use im_sqlmodel::tables::{SqlIndex, Table};
 use im_sqltype::reading::ReadError;
+use im_versions::errors::ViewError;
 use im_versions::versions::Version;
-use im_view::errors::ViewError;
-use im_view::view::KvView;
+use im_versions::view::KvView;
 use sqlite_items::Items;
 use std::alloc::{AllocError, Global};
 

@@ -17,13 +17,13 @@ ghost use Rattle.im_catalog.specs.declared.histories.Numbered.{Numbered as TheNu
 
 use crate::keys::rows_prefix;
 use crate::rows::{kinds_of, said_row};
-use im_changes::view::ChangesView;
 use im_sqlmodel::tables::Table;
 use im_sqltype::kinds::ValueKind;
 use im_sqltype::rows::Row;
 use im_sqltype::values::Value;
+use im_versions::changes::ChangesView;
+use im_versions::errors::ViewError;
 use im_versions::versions::Version;
-use im_view::errors::ViewError;
 use std::alloc::{AllocError, Global};
 use std::collections::BTreeMap;
 

@@ -17,9 +17,9 @@ use im_sqlmodel::tables::Table;
 use im_sqltype::kinds::ValueKind;
 use im_sqltype::reading::{ReadError, read_row};
 use im_sqltype::rows::Row;
+use im_versions::errors::ViewError;
 use im_versions::versions::Version;
-use im_view::errors::ViewError;
-use im_view::view::KvView;
+use im_versions::view::KvView;
 use std::alloc::{AllocError, Global};
 
 /// The kinds of a table's columns, in order. Its only error is want of memory.

@@ -14,9 +14,9 @@ use im_index::snapshot::Snapshot;
 use im_machine::outputs::Output;
 use im_machine::questions::KeyQuestion;
 use im_octet::octets::Octets;
+use im_versions::errors::ViewError;
 use im_versions::versions::{Version, Versions};
-use im_view::errors::ViewError;
-use im_view::view::KvView;
+use im_versions::view::KvView;
 use std::alloc::{AllocError, Global};
 
 impl OpenStore {

@@ -13,7 +13,6 @@ pub mod MapLemmas
 pub mod NewestLemmas
 pub mod OrderLemmas
 pub mod PlaceLemmas
-pub mod PlainLemmas
 pub mod PrefixLemmas
 pub mod ScanLemmas
 pub mod SettleLemmas

@@ -4,7 +4,7 @@ ghost use Rattle.std.specs.Prelude.{◌≡◌, ◌<◌, ◌++◌, List, All, fil
 ghost use Rattle.std.specs.List.Sorted.{IsSorted};
 ghost use Rattle.im_model.specs.declared.transactions.Transaction.{Transaction};
 ghost use Rattle.im_versions.specs.declared.versions.Version.{Version as TheVersion};
-ghost use Rattle.im_changes.specs.Changes.{AreChanges};
+ghost use Rattle.im_versions.specs.Changes.{AreChanges};
 ghost use Rattle.im_index.specs.Indexed.{AreRunsOf};
 ghost use Rattle.im_index.specs.Marks.{numbered};
 

@@ -1,6 +1,6 @@
 //! The timed index: the versions of a history's keys in sorted runs, which are merged as they grow, and snapshots that
 //! share them. A read finds its place in each run by halving, and the steps that it may take are said by clauses. The
-//! index and its snapshots are views of the history's keys, and so is `PlainIndex`, the same as one list. A session
+//! index and its snapshots are views of the history's keys; the same as one list is im_plain. A session
 //! reads the index itself; a snapshot is for a reader that goes on while transactions are taken, and tells all versions
 //! under a prefix too.
 #![tactic(auto)]
@@ -9,11 +9,8 @@ mod blocks;
 mod changes;
 pub mod index;
 mod keys;
-pub mod laws;
-mod maps;
+pub mod maps;
 mod merging;
-pub mod plain;
-mod plain_reads;
 mod reads;
 mod run;
 mod search;

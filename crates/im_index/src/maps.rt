@@ -10,8 +10,8 @@ use im_versions::versions::{Version, Versions};
 use std::alloc::{AllocError, Global};
 use std::collections::BTreeMap;
 
-// Puts a version at its key, in the place of an earlier one.
-pub(crate) fn put<'v>(
+/// Puts a version at its key, in the place of an earlier one.
+pub fn put<'v>(
     newest: &mut BTreeMap<&'v [u8], &'v Version>,
     key: &'v [u8],
     version: &'v Version,
@@ -22,8 +22,8 @@ pub(crate) fn put<'v>(
     Ok(())
 }
 
-// The versions of a map that aren't deletions, in the order of their keys.
-pub(crate) fn live_of<'v>(
+/// The versions of a map that aren't deletions, in the order of their keys.
+pub fn live_of<'v>(
     alloc: Global,
     newest: &BTreeMap<&'v [u8], &'v Version>,
 ) -> Result<Vec<&'v Version>, AllocError>
@@ -39,8 +39,8 @@ pub(crate) fn live_of<'v>(
     Ok(live)
 }
 
-// Copies of lent versions.
-pub(crate) fn copies_of(alloc: Global, lent: &[&Version]) -> Result<Versions, AllocError>
+/// Copies of lent versions.
+pub fn copies_of(alloc: Global, lent: &[&Version]) -> Result<Versions, AllocError>
     ensures { IfOk result (λ copies. copies ≡ map (λ v. v.now) lent.now) }
 {
     let mut copies = Vec::with_capacity(alloc, lent.len())?;

@@ -13,7 +13,6 @@ use crate::cuts::shown_rows;
 use crate::found::{revisions_meeting, rows_meeting};
 use crate::ordering::sort_rows;
 use im_catalog::catalogue::{indexes, table};
-use im_changes::view::ChangesView;
 use im_expr::judged::{filter_fault, name_fault};
 use im_expr::scopes::scope_of;
 use im_octet::octets::Octets;
@@ -22,7 +21,8 @@ use im_sqlmodel::rows::StoredRow;
 use im_sqlmodel::tables::{Nameable, Table};
 use im_sqlparse::statements::{Name, OrderTerm, Period, Select};
 use im_sqltype::rows::Row;
-use im_view::errors::ViewError;
+use im_versions::changes::ChangesView;
+use im_versions::errors::ViewError;
 use sqlite_items::Items;
 use std::alloc::{AllocError, Global};
 

@@ -8,3 +8,4 @@ pub mod AloneLemmas
 pub mod FurtherLemmas
 pub mod KeptLemmas
 pub mod KnownLemmas
+pub mod ShownLemmas

@@ -7,3 +7,4 @@ pub mod Outcomes
 pub mod Sessions
 pub mod Alone
 pub mod Further
+pub mod Messages

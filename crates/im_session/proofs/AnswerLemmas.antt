@@ -2,8 +2,8 @@
 use Rattle.std.proofs.Common.{◌≡◌, ◌⊎◌, ◌<◌, ◌≤◌, ℕ, List, [], length, map, slice_index_or, take, Option, Some, None, codes, false, true, unwrap_or, refl, ap, ap₂, sym, ◌∙◌, subst, arith, inl, inr}
 use Rattle.std.proofs.lemmas.Bool.{both_ways}
 use Rattle.std.proofs.lemmas.List.{length-take-le}
-use Rattle.im_accept.proofs.ShownLemmas.{no-entry-closed}
-use Rattle.im_accept.specs.Messages.{IsReadBack, item_between}
+use Rattle.im_report.proofs.ShownLemmas.{no-entry-closed}
+use Rattle.im_report.specs.Messages.{IsReadBack, item_between}
 use Rattle.im_digest.specs.Digests.{Hash}
 use Rattle.im_model.specs.Entries.{entry_digest}
 use Rattle.im_model.specs.History.{header_of, transaction_of}

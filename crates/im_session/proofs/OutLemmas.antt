@@ -3,7 +3,7 @@ use Rattle.std.proofs.Common.{◌≡◌, ℕ, zero, suc, ◌≤◌, ◌++◌, Li
 use Rattle.std.specs.Prelude.{All, take}
 use Rattle.std.specs.List.{sum_by}
 use Rattle.std.proofs.lemmas.List.Sums.{sum_by-cons}
-use Rattle.im_accept.specs.Messages.{IsReadBack}
+use Rattle.im_report.specs.Messages.{IsReadBack}
 use Rattle.im_digest.specs.Digests.{Hash}
 use Rattle.im_report.proofs.OutcomeLemmas.{first_answered, replies_answered, replies_unrun}
 use Rattle.im_report.specs.Outcomes.{IsSession, Outcome, answered, halted, line_in, not_run, reply_in}

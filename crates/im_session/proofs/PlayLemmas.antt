@@ -7,8 +7,7 @@ use Rattle.std.proofs.lemmas.List.Elements.{All-map}
 use Rattle.std.proofs.lemmas.List.Sums.{sum_by-cons}
 use Rattle.std.specs.Str.{bytes_eq}
 use Rattle.std.proofs.lemmas.Slice.Eq.{bytes_eq-Decides}
-use Rattle.im_accept.specs.Messages.{IsReadBack}
-use Rattle.im_accept.specs.Taken.{AreReadBack}
+use Rattle.im_report.specs.Messages.{AreReadBack, IsReadBack}
 use Rattle.im_digest.specs.Digests.{Hash}
 use Rattle.im_octet.proofs.Common.{bytes-other, heads-are, tails-are}
 use Rattle.im_report.proofs.OutcomeLemmas.{flat_all}

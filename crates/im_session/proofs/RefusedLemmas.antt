@@ -2,7 +2,7 @@
 use Rattle.std.proofs.Common.{◌≡◌, ◌⊎◌, inl, inr, ◌<◌, ◌≤◌, ◌==◌, ◌||◌, ℕ, List, Bool, true, false, if◌then◌else◌, length, nat_lt, Result, IfErr, refl, ap, sym, ◌∙◌, arith}
 use Rattle.std.proofs.lemmas.Bool.{eqb-false, le-ltb, lt-ltb, ltb-false, or_parts, true_from_ne_false}
 use Rattle.std.proofs.lemmas.Result.{IfErr-weaker}
-use Rattle.im_accept.proofs.ShownLemmas.{above, beyond-closed, order-closed}
+use Rattle.im_report.proofs.ShownLemmas.{above, beyond-closed, order-closed}
 use Rattle.im_model.specs.declared.headers.Header.{Header}
 use Rattle.im_report.proofs.PlacedLemmas.{beyond-not-placed, order-not-placed}
 use Rattle.im_report.specs.Replies.{beyond_reply, order_reply}

@@ -3,7 +3,7 @@ use Rattle.std.proofs.Common.{◌≡◌, ℕ, ◌+◌, ◌≤◌, ◌++◌, List
 use Rattle.std.specs.Prelude.{All}
 use Rattle.std.proofs.lemmas.List.Elements.{All-push}
 use Rattle.std.proofs.lemmas.List.Quantifiers.{all_pairs_push}
-use Rattle.im_accept.specs.Messages.{IsReadBack}
+use Rattle.im_report.specs.Messages.{IsReadBack}
 use Rattle.im_digest.specs.Digests.{Hash}
 use Rattle.im_report.proofs.SingleLemmas.{floor_both, reads_more}
 use Rattle.im_report.specs.Outcomes.{AreAnswers, IsOver, Rises, floors_told, number_told}

@@ -11,7 +11,7 @@ use Rattle.std.specs.Io.KnownBytes.{Appends}
 use Rattle.std.specs.List.{flat_map, range_with_len}
 use Rattle.std.specs.Prelude.{All, IfSome}
 use Rattle.std.specs.Str.{bytes_eq}
-use Rattle.im_accept.specs.Messages.{IsReadBack}
+use Rattle.im_report.specs.Messages.{IsReadBack}
 use Rattle.im_digest.specs.Digests.{Hash}
 use Rattle.im_disk.specs.Disk.{Told}
 use Rattle.im_edge.specs.Clocks.{AddsTimes}

@@ -1,7 +1,7 @@
 -- What a command that places and links nothing is answered, and what it is where memory runs out.
 use Rattle.std.proofs.Common.{◌≡◌, ◌⊎◌, ◌-◌, inl, inr, ◌≤◌, ℕ, List, [], length, take, Option, Some, None, Result, IfErr, IsErrAnd, false, refl, ap, sym, ◌∙◌, subst, arith}
 use Rattle.std.proofs.lemmas.Bool.{both_ways}
-use Rattle.im_accept.specs.Messages.{IsReadBack}
+use Rattle.im_report.specs.Messages.{IsReadBack}
 use Rattle.im_digest.specs.Digests.{Hash}
 use Rattle.im_draft.specs.Drafts.{AreFree, IsReserved, Refuses}
 use Rattle.im_draft.specs.declared.drafts.Draft.{Draft}

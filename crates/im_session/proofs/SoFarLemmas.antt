@@ -5,7 +5,7 @@ use Rattle.std.specs.List.{flat_map}
 use Rattle.std.proofs.lemmas.List.{map-append}
 use Rattle.std.proofs.lemmas.List.Elements.{All-append, All-push, All-map}
 use Rattle.std.proofs.lemmas.List.Sums.{sum_by_push}
-use Rattle.im_accept.specs.Taken.{AreReadBack}
+use Rattle.im_report.specs.Messages.{AreReadBack}
 use Rattle.im_digest.specs.Digests.{Hash}
 use Rattle.im_model.specs.declared.transactions.Transaction.{Transaction}
 use Rattle.im_octet.proofs.Common.{all-left, all-right}

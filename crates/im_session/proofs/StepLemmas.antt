@@ -3,7 +3,7 @@ use Rattle.std.proofs.Common.{◌≡◌, ℕ, ◌+◌, ◌-◌, ◌≤◌, ◌++
 use Rattle.im_digest.specs.Digests.{Hash}
 use Rattle.im_model.specs.History.{transaction_of}
 use Rattle.im_model.specs.declared.transactions.Transaction.{Transaction}
-use Rattle.im_accept.specs.Messages.{IsReadBack}
+use Rattle.im_report.specs.Messages.{IsReadBack}
 use Rattle.im_report.specs.Asking.{MayAsk}
 use Rattle.im_report.specs.Outcomes.{IsLate, number_told}
 use Rattle.im_report.specs.Report.{Answered, IsAnswer, ReadsBy, ReadsFrom, floor_by, is_placed}

@@ -2,7 +2,7 @@
 use Rattle.std.specs.Prelude.{◌≡◌, ◌≤◌, ◌+◌, ◌++◌, ℕ, List, length, take, IsTrue, IfNone, IfSome, Option, Some}
 use mathlib.Core.List.{IsPrefix}
 use Rattle.im_digest.specs.Digests.{Hash}
-use Rattle.im_accept.specs.Messages.{IsReadBack}
+use Rattle.im_report.specs.Messages.{IsReadBack}
 use Rattle.im_model.specs.History.{transaction_of, IsHistory}
 use Rattle.im_model.specs.declared.transactions.Transaction.{Transaction}
 use Rattle.im_report.specs.Asking.{MayAsk}

@@ -3,7 +3,7 @@ use Rattle.std.specs.Prelude.{◌≡◌, ◌<◌, ◌≤◌, ◌+◌, ℕ, List,
 use Rattle.std.specs.List.{flat_map, sum_by}
 use mathlib.Core.List.{IsPrefix}
 use Rattle.im_digest.specs.Digests.{Hash}
-use Rattle.im_accept.specs.Taken.{AreReadBack}
+use Rattle.im_report.specs.Messages.{AreReadBack}
 use Rattle.im_model.specs.declared.transactions.Transaction.{Transaction}
 use Rattle.im_report.specs.Outcomes.{Outcome, highest, line_in, numbers_in, of_session}
 use Rattle.im_report.specs.Report.{floor_after}

@@ -2,7 +2,7 @@
 use Rattle.std.specs.Prelude.{◌≡◌, ◌≤◌, ◌+◌, ◌++◌, ℕ, List, [], ◌∷◌, length, map, All, Option, Some, None}
 use mathlib.Core.List.{IsPrefix}
 use Rattle.im_digest.specs.Digests.{Hash}
-use Rattle.im_accept.specs.Taken.{AreReadBack}
+use Rattle.im_report.specs.Messages.{AreReadBack}
 use Rattle.im_report.specs.Outcomes.{AreAnswers, floors_told, number_told}
 use Rattle.im_report.specs.Report.{Answered, answer_line, floor_after}
 use Rattle.im_report.specs.Sessions.{IsJustOver}

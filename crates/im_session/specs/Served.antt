@@ -2,7 +2,7 @@
 use Rattle.std.specs.Prelude.{◌≡◌, ◌⊎◌, ◌<◌, ◌≤◌, ◌+◌, ◌++◌, ℕ, ℤ, List, [], ◌∷◌, length, take, drop, map, Bool, All, Option, Some, None, IfSome, Result, Ok, Err}
 use Rattle.std.specs.Io.KnownBytes.{Appends}
 use Rattle.im_digest.specs.Digests.{Hash}
-use Rattle.im_accept.specs.Taken.{AreReadBack}
+use Rattle.im_report.specs.Messages.{AreReadBack}
 use Rattle.im_disk.specs.Disk.{Told, seen}
 use Rattle.im_disk.specs.Moments.{Leaves, LeavesNow}
 use Rattle.im_edge.specs.Clocks.{AddsTimes}

@@ -24,8 +24,8 @@ use im_store::errors::SnapshotError;
 use im_store::store::Store;
 use im_table::pass::Pass;
 use im_table::tip_name::TipName;
-use im_view::errors::ViewError;
-use im_view::view::KvView;
+use im_versions::errors::ViewError;
+use im_versions::view::KvView;
 use std::alloc::{AllocError, Global};
 use std::sync::Wait;
 

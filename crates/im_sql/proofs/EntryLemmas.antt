@@ -23,7 +23,7 @@ use Rattle.im_plan.proofs.EntryRowLemmas.{one-index, prefix-cut}
 use Rattle.im_plan.proofs.KeyBehindLemmas.{plain-key, behind-front, primary-behind, plain-key-behind}
 use Rattle.im_plan.proofs.ReachLemmas.{entry-parts}
 use Rattle.im_sql.specs.Sounding.{entries_of}
-use Rattle.im_sql.specs.declared.said.TableFound.{TableFound}
+use Rattle.im_sql.specs.declared.found.TableFound.{TableFound}
 use Rattle.im_sql.proofs.AmongLemmas.{Differ, map-among, flat-among}
 use Rattle.im_sql.proofs.GroupLemmas.{all-both, apart-both}
 use Rattle.im_sql.proofs.NextLemmas.{Apart, all-of}

@@ -17,7 +17,7 @@ use Rattle.im_sqlmodel.specs.declared.tables.SqlIndex.{SqlIndex}
 use Rattle.im_sqlmodel.specs.declared.written.Written.{Written}
 use Rattle.im_plan.proofs.BestLemmas.{at-any}
 use Rattle.im_sql.specs.Sounding.{under, IsCountShown, AreGapless, AreUpTo, said_by}
-use Rattle.im_sql.specs.declared.said.TableFound.{TableFound}
+use Rattle.im_sql.specs.declared.found.TableFound.{TableFound}
 use Rattle.im_sql.proofs.TestLemmas.{all-step}
 use Rattle.im_sql.proofs.UnderLemmas.{is_before, is-less}
 

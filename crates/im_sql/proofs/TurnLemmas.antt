@@ -15,7 +15,7 @@ use Rattle.im_versions.specs.Versions.{last_version, versions_in, versions_from,
 use Rattle.im_versions.specs.declared.versions.Version.{Version}
 use Rattle.im_versions.proofs.ListLemmas.{All-among, among-filter}
 use Rattle.im_versions.proofs.VersionLemmas.{versions-upto, versions-within, versions_in-number, versions_from-within}
-use Rattle.im_changes.specs.Changes.{AreChanges}
+use Rattle.im_versions.specs.Changes.{AreChanges}
 use Rattle.im_sqlmodel.specs.Keys.{table_prefix, indexes_prefix}
 use Rattle.im_sqlmodel.specs.Kept.{IsSqlSound, IsSqlKept, IsFirstUnsound}
 use Rattle.im_sqlmodel.specs.Sorts.{put_sorted, sorted}

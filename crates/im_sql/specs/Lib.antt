@@ -3,4 +3,3 @@ pub mod Working
 pub mod Entries
 pub mod Ranges
 pub mod Sounding
-pub mod Stepping

@@ -5,7 +5,7 @@ use Rattle.im_octet.specs.Fields.{field4}
 use Rattle.im_model.specs.declared.transactions.Transaction.{Transaction}
 use Rattle.im_versions.specs.Versions.{begins_with}
 use Rattle.im_versions.specs.declared.versions.Version.{Version}
-use Rattle.im_changes.specs.Changes.{AreChanges}
+use Rattle.im_versions.specs.Changes.{AreChanges}
 use Rattle.im_sqltype.specs.Orders.{octets_cmp}
 use Rattle.im_sqlmodel.specs.Keys.{tables_key, table_key, index_prefix, mark_key, rows_prefix}
 use Rattle.im_sqlmodel.specs.Sorts.{sorted}
@@ -16,7 +16,7 @@ use Rattle.im_sqlmodel.specs.declared.rows.StoredRow.{StoredRow}
 use Rattle.im_sqlmodel.specs.declared.tables.SqlIndex.{SqlIndex}
 use Rattle.im_sqlmodel.specs.declared.tables.Table.{Table}
 use Rattle.im_sqlmodel.specs.declared.written.Written.{Written}
-use Rattle.im_sql.specs.declared.said.TableFound.{TableFound}
+use Rattle.im_sql.specs.declared.found.TableFound.{TableFound}
 
 -- the versions whose keys have this octet behind 00
 abbrev pub kind_shown : ℕ → List Version → List Version

@@ -26,8 +26,8 @@ use im_sqlmodel::tables::{Column, SqlIndex, Table};
 use im_sqlmodel::written::Written;
 use im_sqlparse::statements::{ColumnDefinition, CreateIndex, CreateTable, DeclaredType, Name};
 use im_sqltype::columns::{ColumnType, Limit};
-use im_view::errors::ViewError;
-use im_view::view::KvView;
+use im_versions::errors::ViewError;
+use im_versions::view::KvView;
 use sqlite_items::Items;
 use std::alloc::{AllocError, Global};
 

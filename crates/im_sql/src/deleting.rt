@@ -27,7 +27,7 @@ use im_sqlmodel::rows::StoredRow;
 use im_sqlmodel::tables::{SqlIndex, Table};
 use im_sqlparse::statements::Delete;
 use im_sqltype::values::Value;
-use im_view::view::KvView;
+use im_versions::view::KvView;
 use std::alloc::{AllocError, Global};
 
 /// What DELETE answers where its line counts n transactions. Which rows are looked at `im_plan`'s `rows_meeting` says.

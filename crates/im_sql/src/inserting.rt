@@ -28,8 +28,8 @@ use im_sqlmodel::rows::StoredRow;
 use im_sqlmodel::tables::{SqlIndex, Table};
 use im_sqlparse::statements::Insertion;
 use im_sqltype::values::Value;
-use im_view::errors::ViewError;
-use im_view::view::KvView;
+use im_versions::errors::ViewError;
+use im_versions::view::KvView;
 use std::alloc::{AllocError, Global};
 
 /// What INSERT (`fresh`) or UPSERT answers where its line counts n transactions. For each row it asks the view once for

@@ -10,10 +10,10 @@ ghost use Rattle.im_sqlmodel.specs.declared.answers.SqlError.TheVariants as erro
 use crate::creating::{create_index, create_table};
 use crate::deleting::delete;
 use crate::inserting::insert;
-use im_changes::view::ChangesView;
 use im_plan::selects::select;
 use im_sqlmodel::answers::{SqlError, SqlOut};
 use im_sqlparse::statements::{Form, Stmt};
+use im_versions::changes::ChangesView;
 use std::alloc::Global;
 
 /// What a statement answers where its line counts n transactions: the rows of a SELECT; what is to be placed, and under

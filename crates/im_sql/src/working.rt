@@ -24,8 +24,8 @@ use im_sqlmodel::tables::{SqlIndex, Table};
 use im_sqlmodel::written::Written;
 use im_sqltype::reading::ReadError;
 use im_sqltype::values::Value;
-use im_view::errors::ViewError;
-use im_view::view::KvView;
+use im_versions::errors::ViewError;
+use im_versions::view::KvView;
 use std::alloc::{AllocError, Global};
 
 /// The row with the primary key of a row, as what is written so far leaves the table: its number is 0 where a row of

@@ -1,7 +1,7 @@
 use im_octet::octets::Octets;
 use im_sqltype::rows::Row;
 use im_tx::prepared::Prepared;
-use im_view::errors::ViewError;
+use im_versions::errors::ViewError;
 use sqlite_items::Items;
 use std::alloc::AllocError;
 

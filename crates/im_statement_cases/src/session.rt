@@ -5,8 +5,8 @@ use im_book::laws::placed_is_a_history;
 use im_index::index::Index;
 use im_index::snapshot::Snapshot;
 use im_model::transactions::Transaction;
+use im_plain::versions::place_refusal;
 use im_tx::prepared::Prepared;
-use im_versions::plain::place_refusal;
 use std::alloc::{AllocError, Global};
 use std::marker::Model;
 

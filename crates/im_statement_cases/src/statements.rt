@@ -3,12 +3,12 @@
 ghost use Rattle.std.specs.Prelude.{◌≤◌, length};
 
 use crate::session::Session;
-use im_sql::kept::kept;
 use im_sql::run::run;
 use im_sqlmodel::answers::{KeptError, SqlError, SqlOut};
 use im_sqlparse::errors::{ParseError, SqlSyntax};
 use im_sqlparse::parse;
 use im_sqlparse::statements::Stmt;
+use im_sqlsound::kept::kept;
 use im_tx::prepared::Prepared;
 use std::alloc::{AllocError, Global};
 

@@ -10,7 +10,7 @@ use im_model::headers::Header;
 use im_model::limits::Metadata;
 use im_octet::octets::Octets;
 use im_tx::prepared::Prepared;
-use im_view::errors::ViewError;
+use im_versions::errors::ViewError;
 use std::alloc::{AllocError, Global};
 use std::test::Fail;
 

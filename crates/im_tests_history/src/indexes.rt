@@ -3,16 +3,16 @@
 ghost use Rattle.std.specs.Prelude.{◌≡◌, ◌≤◌, ◌<◌, List, length, IfOk};
 ghost use Rattle.im_model.specs.declared.transactions.Transaction.{Transaction};
 ghost use Rattle.im_index.specs.Indexed.{IsIndexOf, IsSnapshotOf};
-ghost use Rattle.im_index.specs.Listed.{IsListOf};
+ghost use Rattle.im_plain.specs.Listed.{IsListOf};
 
 use crate::reads::{FRONTS, HIDDEN, told_plainly, write_all, write_last};
 use crate::values::{FOUR, Write, history_of};
 use im_index::index::Index;
-use im_index::plain::PlainIndex;
 use im_index::snapshot::Snapshot;
 use im_index::steps::Steps;
 use im_model::transactions::Transaction;
-use im_view::view::KvView;
+use im_plain::index::PlainIndex;
+use im_versions::view::KvView;
 use std::alloc::{AllocError, Global};
 use std::marker::Brand;
 use std::sync::ledger::{Blank, Ledger};

@@ -2,7 +2,7 @@
 
 use crate::values::{FOUR, Write, history_of};
 use im_model::transactions::Transaction;
-use im_versions::plain;
+use im_plain::versions as plain;
 use im_versions::versions::{Version, Versions};
 use std::alloc::{AllocError, Global};
 use std::test::Fail;

@@ -10,7 +10,7 @@ use im_index::steps::Steps;
 use im_model::entries::Entries;
 use im_model::transactions::Transaction;
 use im_octet::octets::Octets;
-use im_versions::plain::place_refusal;
+use im_plain::versions::place_refusal;
 use im_versions::refusals::PlaceError;
 use std::alloc::{AllocError, Global};
 use std::marker::Brand;

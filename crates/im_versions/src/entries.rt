@@ -1,5 +1,5 @@
 ghost use Rattle.std.specs.Prelude.{◌≡◌, IfOk};
-ghost use Rattle.im_versions.specs.Versions.{has_attribute, is_shown, version_of, versions_in};
+ghost use Rattle.im_versions.specs.Versions.{has_attribute, is_shown, version_of};
 
 use crate::versions::Version;
 use im_model::entries::Entry;
@@ -44,17 +44,4 @@ pub fn version_of(alloc: Global, k: u64, entry: &Entry) -> Result<Version, Alloc
         key: Octets::from_slice(alloc, entry.key.as_slice())?,
         value: Octets::from_slice(alloc, entry.value.as_slice())?,
     })
-}
-
-/// The versions that the entries of transaction `k` are, in their order. Its only error is want of memory.
-pub fn versions_in(alloc: Global, k: u64, entries: &[Entry]) -> Result<Vec<Version>, AllocError>
-    ensures { IfOk result (λ versions. versions.items ≡ versions_in k entries.now) }
-{
-    let mut versions = Vec::with_capacity(alloc, entries.len())?;
-    for entry in entries {
-        if is_shown(entry) {
-            versions.push(version_of(alloc, k, entry)?)?;
-        }
-    }
-    Ok(versions)
 }

@@ -1,4 +1,4 @@
-use Rattle.im_accept.proofs.ShownLemmas.{text-opens}
+use Rattle.im_report.proofs.ShownLemmas.{text-opens}
 use Rattle.im_accept.proofs.laws.each_message_is_open.Goals as goal
 
 pub returns : goal.returns

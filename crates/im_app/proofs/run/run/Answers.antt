@@ -1,4 +1,4 @@
-use Rattle.std.proofs.Common.{◌≡◌, ℕ, List, ap, Option, Some, Err, inl, inr, refl, subst}
+use Rattle.std.proofs.Common.{◌≡◌, ℕ, List, ap, arith, Option, Some, Err, inl, inr, refl, subst}
 use Rattle.im_digest.specs.Digests.{Hash}
 use Rattle.im_disk.specs.Disk.{Told, after, seen}
 use Rattle.im_disk.proofs.Growing.{grows_none}
@@ -13,13 +13,13 @@ use Rattle.im_script.specs.declared.commands.Line.{Line}
 use Rattle.im_script.proofs.Unique.{script-unique}
 use Rattle.im_app.specs.Fates.{HasRunFate}
 use Rattle.im_app.specs.Runs.{HasOneSession, IsGiven}
-use Rattle.im_app.specs.Statuses.{EndsWriting}
+use Rattle.im_app.specs.Statuses.{EndsReading, EndsWriting}
 use Rattle.im_app.specs.declared.status.Status.{Status}
 use Rattle.im_app.specs.declared.status.Status.TheVariants as the
 use Rattle.im_sqlmodel.specs.Kept.{IsFirstUnsound, IsSqlKept}
-use Rattle.im_app.proofs.FateLemmas.{Ends, ends-other, fate, unread-told, writing-run}
+use Rattle.im_app.proofs.FateLemmas.{Ends, ends-other, fate, reading-not-given, reading-run, unread-told, writing-run}
 use Rattle.im_app.proofs.FoundLemmas.{front-kept}
-use Rattle.im_app.proofs.RunLemmas.{alone-same, by-writing, front-told, given-not, part-told, reading-for, read-told, same-found, whole-told}
+use Rattle.im_app.proofs.RunLemmas.{alone-same, by-writing, front-told, given-not, if-told, part-told, reading-for, read-told, same-found, whole-told}
 use Rattle.im_app.proofs.run.run.Goals as goal
 
 pub returns-in-Ok-clause-report : goal.returns-in-Ok-clause-report
@@ -45,10 +45,6 @@ returns-in-Ok-clause-front g c = λ why e.
           (g.D.Disk.told c.args.disk) (g.D.Disk.told c.run_script.result.disk) (g.C.Clock.given c.args.clock) (g.C.Clock.given c.run_script.result.clock) (g.K.Sink.written c.args.sink.now) (g.K.Sink.written c.run_script.new.sink)
           (g.K.Sink.faults c.args.sink.now) (g.K.Sink.faults c.run_script.new.sink) given.1 front)
     ]
-
-pub returns-in-Err-clause-front : goal.returns-in-Err-clause-front
-returns-in-Err-clause-front g c = λ why e.
-    inl (refl, (refl, same-found (g.H.Hash32.digest c.args.hash.now) why (g.D.Disk.told c.args.disk) (reading-for c.in-Err.status why c.in-Err.ensures.ends e)))
 
 pub returns-in-Ok-clause-untouched : goal.returns-in-Ok-clause-untouched
 returns-in-Ok-clause-untouched g c =
@@ -107,16 +103,44 @@ returns-in-Ok-clause-disk_alone g c = λ want.
     (λ phases told one. c.run_script.ensures.disk_alone want
     (subst HasOneSession (script-unique given.0 phases c.in-Ok.script.phases.items told.read given.2.read) one))
 
-pub returns-in-Err-clause-disk_alone : goal.returns-in-Err-clause-disk_alone
-returns-in-Err-clause-disk_alone g c = λ want. alone-same (g.S.Source.left c.args.source.now) (g.D.Disk.faults c.args.disk)
-
-pub returns-in-Err-clause-fate : goal.returns-in-Err-clause-fate
-returns-in-Err-clause-fate g c = λ no_read no_write no_device.
+-- no script was read: neither sink, disk nor clock is touched
+pub returns-in-Err : goal.returns-in-Err
+returns-in-Err g c =
     let read = c.in-Err.ensures in
+    let status : Status = c.in-Err.status in
+    let left = g.S.Source.left c.args.source.now in
     let hash : Hash = g.H.Hash32.digest c.args.hash.now in
     let long : Has32 hash = record { long = (g.met.H.Hash32 g.world.𝓛 g.world.𝓜 g.world.𝓡 ((λ s x. x), (λ x. x), (λ x. x), λ x. x)).size c.args.hash.now } in
-    unread-told hash (g.D.Disk.told c.args.disk) c.in-Err.status (g.S.Source.left c.args.source.now) long
-    read.ends (λ e. no_read (read.read (ap Err e))) (λ k e. read.script k (ap Err e)) (λ e. read.long (ap Err e))
-
-pub returns-in-Err-clause-grows : goal.returns-in-Err-clause-grows
-returns-in-Err-clause-grows g c = grows_none (g.D.Disk.told c.args.disk)
+    let other : (x : Status) → status ≡ x → (EndsReading x → ⊥) → ⊥ = λ x e none. ends-other EndsReading status x read.ends e none in
+    record {
+      report = λ e. absurd (other the.Ok e (λ x. x));
+      part = λ e. absurd (other the.WriteFault e (λ x. x));
+      front = λ why e. inl (refl, (refl, same-found hash why (g.D.Disk.told c.args.disk) (reading-for status why read.ends e)));
+      given = λ given. absurd (reading-not-given status read.ends given);
+      taken = read.taken;
+      untouched = if-told left (λ script. ((phases : List (List Line)) → IsGiven script phases → ⊥) → (c.args.sink.now ≡ c.args.sink.now) × ((c.args.clock ≡ c.args.clock) × (c.args.disk ≡ c.args.disk))) (λ script told none. (refl, (refl, refl)));
+      ends = reading-run status read.ends;
+      never = λ e. other the.Usage e (λ x. x);
+      script = λ k e. read.script k (ap Err e);
+      long = λ e. read.long (ap Err e);
+      damaged = λ damage e. absurd (other (the.Damaged damage) e (λ x. x));
+      sound = λ damage t found told stands e. other (the.Damaged damage) e (λ x. x);
+      any_moment = λ t found told stands. inl told;
+      unharmed = λ t told none. inl told;
+      grows = grows_none (g.D.Disk.told c.args.disk);
+      nothing = λ ends want. (refl, (refl, refl));
+      unread = λ damage e. absurd (other (the.Damaged damage) e (λ x. x));
+      not_kept = λ tx e. absurd (other (the.SqlKept tx) e (λ x. x));
+      read = λ e. read.read (ap Err e);
+      write = λ e. absurd (other the.WriteFault e (λ x. x));
+      device = λ e. absurd (other the.DiskFault e (λ x. x));
+      source_count = λ none. read.count (λ e. none (let same = e in cc));
+      source_once = read.once;
+      sink_once = omega arith;
+      sink_count = λ write fault want. refl;
+      disk_count = λ fault want. refl;
+      disk_alone = λ want. alone-same left (g.D.Disk.faults c.args.disk);
+      clock = refl;
+      fate = λ no_read no_write no_device. unread-told hash (g.D.Disk.told c.args.disk) status left long
+          read.ends (λ e. no_read (read.read (ap Err e))) (λ k e. read.script k (ap Err e)) (λ e. read.long (ap Err e));
+    }

@@ -1,26 +1,40 @@
-use Rattle.std.proofs.Common.{ℕ, List, IfSome, subst}
+use Rattle.std.proofs.Common.{◌≡◌, ◌∙◌, IfSome, ap, inl, inr, subst, sym}
+use Rattle.im_digest.specs.Digests.{Hash}
 use Rattle.im_verify.specs.declared.show.ShowEnd.{ShowEnd}
+use Rattle.im_verify.specs.declared.show.ShowEnd.TheVariants as shows
 use Rattle.im_app.specs.Fates.{HasShow}
-use Rattle.im_app.proofs.ShownLemmas.{show_status, show-told}
+use Rattle.im_app.specs.Statuses.{EndsShow, status_shown}
+use Rattle.im_app.specs.declared.status.Status.{Status}
+use Rattle.im_app.proofs.ShownLemmas.{show-told, shown-ends, shown-is, shown-never}
 use Rattle.im_app.proofs.shown.shown.Goals as goal
 
-pub returns-in-Ok-clause-fate : goal.returns-in-Ok-clause-fate
-returns-in-Ok-clause-fate g c = λ sink keeper.
-    let hash : List ℕ → List ℕ = g.H.Hash32.digest c.args.hash.now in
+pub returns : goal.returns
+returns g c =
+    let ran = c.show-end.ensures in
+    let end : ShowEnd = c.show-end.result in
+    let status : Status = c.status_of.result in
+    let told : status ≡ status_shown end = c.status_of.ensures in
+    let is : (x : ShowEnd) → status ≡ status_shown x → end ≡ x = λ x e. shown-is status end x told e in
+    let hash : Hash = g.H.Hash32.digest c.args.hash.now in
     let kept = g.P.Keeper.kept c.args.keeper.now in
-    let P : ShowEnd → Type 0 = λ e. IfSome kept (HasShow hash (show_status e)) in
-    subst P c.in-Ok.is (show-told hash c.show.result kept (c.show.ensures.complete sink keeper))
-
-pub returns-in-Memory-clause-fate : goal.returns-in-Memory-clause-fate
-returns-in-Memory-clause-fate g c = λ sink keeper.
-    let hash : List ℕ → List ℕ = g.H.Hash32.digest c.args.hash.now in
-    let kept = g.P.Keeper.kept c.args.keeper.now in
-    let P : ShowEnd → Type 0 = λ e. IfSome kept (HasShow hash (show_status e)) in
-    subst P c.in-Memory.is (show-told hash c.show.result kept (c.show.ensures.complete sink keeper))
-
-pub returns-in-Kept-clause-fate : goal.returns-in-Kept-clause-fate
-returns-in-Kept-clause-fate g c = λ sink keeper.
-    let hash : List ℕ → List ℕ = g.H.Hash32.digest c.args.hash.now in
-    let kept = g.P.Keeper.kept c.args.keeper.now in
-    let P : ShowEnd → Type 0 = λ e. IfSome kept (HasShow hash (show_status e)) in
-    subst P c.in-Kept.is (show-told hash c.show.result kept (c.show.ensures.complete sink keeper))
+    record {
+      ok = λ e. ran.ok (is shows.Ok e);
+      part = λ e. ran.part (is shows.WriteFault e);
+      nothing = λ how.
+          ran.nothing (elim how [
+            | inl e ↦ inl (is shows.KeeperFault e)
+            | inr (inl e) ↦ inr (inl (is shows.Memory e))
+            | inr (inr e) ↦ inr (inr (e.0, is (shows.Kept e.0) e.1))
+          ]);
+      stops = λ k e. ran.stops k (is (shows.Kept k) e);
+      kept = ran.kept;
+      ends = subst EndsShow (sym told) (shown-ends end);
+      never = shown-never status end told;
+      write = λ e. ran.write (is shows.WriteFault e);
+      keep = λ e. ran.keep (is shows.KeeperFault e);
+      sink_count = λ other. ran.sink_count (λ e. other (told ∙ ap status_shown e));
+      keeper_count = λ other. ran.keeper_count (λ e. other (told ∙ ap status_shown e));
+      sink_once = ran.sink_once;
+      keeper_once = ran.keeper_once;
+      fate = λ sink keeper. subst (λ (s : Status). IfSome kept (HasShow hash s)) (sym told) (show-told hash end kept (ran.complete sink keeper));
+    }

@@ -2,7 +2,7 @@ use Rattle.std.proofs.Common.{◌<◌, ◌^◌, ◌∙◌, ℕ, List, filter, no
 use Rattle.std.specs.List.{All, AllZip, count_by}
 use Rattle.im_versions.specs.Versions.{is_of}
 use Rattle.im_versions.specs.declared.versions.Version.{Version}
-use Rattle.im_changes.specs.Changes.{AreChanges}
+use Rattle.im_versions.specs.Changes.{AreChanges}
 use Rattle.im_sqltype.specs.Orders.{octets_cmp}
 use Rattle.im_sqlmodel.specs.Rows.{IsRevision, numbered}
 use Rattle.im_sqlmodel.specs.Sorts.{sorted}

@@ -2,7 +2,7 @@ use Rattle.std.proofs.Common.{◌<◌, ◌++◌, ℕ, List, ap, sym, subst, take
 use Rattle.std.proofs.lemmas.List.{take_all}
 use Rattle.std.specs.List.{All, filter}
 use Rattle.std.specs.List.Sorted.{IsSorted}
-use Rattle.im_changes.specs.Changes.{AreChanges}
+use Rattle.im_versions.specs.Changes.{AreChanges}
 use Rattle.im_versions.specs.declared.versions.Version.{Version}
 use Rattle.im_index.specs.Marks.{numbered}
 use Rattle.im_index.proofs.ChangeLemmas.{looked_at-changes}

@@ -1,7 +1,7 @@
 use Rattle.std.proofs.Common.{◌≡◌, ◌∙◌, List, [], ◌∷◌, ◌++◌, ◌+◌, take, take_all, ap, sym, subst, arith}
 use Rattle.std.proofs.lemmas.List.{take_more}
 use Rattle.im_model.specs.declared.transactions.Transaction.{Transaction}
-use Rattle.im_index.specs.Listed.{IsListOf}
+use Rattle.im_plain.specs.Listed.{IsListOf}
 use Rattle.im_tests_history.proofs.indexes.list_of.Goals as goal
 
 pub loop-tx-preserved : goal.loop-tx-preserved

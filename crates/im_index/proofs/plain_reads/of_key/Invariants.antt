@@ -1,6 +1,0 @@
-use Rattle.std.proofs.Common.{◌≡◌, take, filter}
-use Rattle.im_versions.specs.Versions.{is_of}
-use Rattle.im_index.proofs.plain_reads.of_key.Given as goal
-
-abbrev pub invariant-loop-version : goal.invariant-loop-version
-invariant-loop-version l = l.copies.items ≡ filter (is_of l.key) (take l.version-index l.versions)

@@ -1,6 +1,0 @@
-use Rattle.std.proofs.Common.{◌≡◌, flat_map, take}
-use Rattle.im_sql.specs.Sounding.{entries_of}
-use Rattle.im_sql.proofs.entered.entries_given.Given as goal
-
-abbrev pub invariant-loop-found : goal.invariant-loop-found
-invariant-loop-found l = l.entries.items ≡ flat_map entries_of (take l.found-index l.tables)

@@ -1,7 +1,0 @@
-use Rattle.std.proofs.Common.{All, take}
-use Rattle.im_sql.specs.Stepping.{AreMarked}
-use Rattle.im_sql.proofs.marked.are_all_marked.Given as goal
-
--- those of each so far are
-abbrev pub invariant-loop-found : goal.invariant-loop-found
-invariant-loop-found l = All (AreMarked l.changes) (take l.found-index l.tables)

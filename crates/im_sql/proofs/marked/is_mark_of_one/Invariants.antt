@@ -1,8 +1,0 @@
-use Rattle.std.proofs.Common.{◌≢◌, All, take}
-use Rattle.im_sqlmodel.specs.Keys.{mark_key}
-use Rattle.im_sql.specs.declared.said.TableFound.{TableFound}
-use Rattle.im_sql.proofs.marked.is_mark_of_one.Given as goal
-
--- it is none's so far
-abbrev pub invariant-loop-found : goal.invariant-loop-found
-invariant-loop-found l = All (λ (f : TableFound). l.key ≢ mark_key f.table.tid) (take l.found-index l.tables)

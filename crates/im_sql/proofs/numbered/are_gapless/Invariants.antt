@@ -1,6 +1,0 @@
-use Rattle.std.proofs.Common.{take}
-use Rattle.im_sql.specs.Sounding.{AreGapless}
-use Rattle.im_sql.proofs.numbered.are_gapless.Given as goal
-
-abbrev pub invariant-loop-at : goal.invariant-loop-at
-invariant-loop-at l = AreGapless (take l.at l.indexes)

@@ -1,0 +1,19 @@
+use Rattle.std.proofs.Common.{◌≡◌, rules}
+use Rattle.std.proofs.lemmas.Cmp.{nat_cmp_total}
+use Rattle.std.proofs.lemmas.List.Sorted.{answers_always, ranks_by}
+use Rattle.std.specs.Ordering.{is_lt, nat_cmp}
+use Rattle.im_octet.proofs.Common.{on-ok}
+use Rattle.im_versions.specs.declared.versions.Version.{Version}
+use Rattle.im_sqlmodel.proofs.SortLemmas.{stable-sorted}
+use Rattle.im_sqlsound.proofs.kept.sort_by_number.Goals as goal
+
+pub returns : goal.returns
+returns c =
+    let cmp = λ (a b : Version). nat_cmp a.tx b.tx in
+    let order = ranks_by nat_cmp_total (λ (v : Version). v.tx) in
+    let compares = answers_always _ (λ a r. is_lt r ≡ is_lt (nat_cmp a.0.now.tx a.1.0.now.tx)) _ (λ f a r f' k. search rules) in
+    on-ok _ _ c.sort_by.result
+    (λ up. stable-sorted cmp order c.args.changes.now.items c.sort_by.new.self.items
+    (up (λ (x y : Version). is_lt (cmp x y)) order compares)
+    (c.sort_by.ensures.stable (λ (x y : Version). is_lt (cmp x y)) order compares))
+    c.sort_by.ensures.sorted
