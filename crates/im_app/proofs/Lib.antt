@@ -1,11 +1,6 @@
-pub mod FateLemmas
 pub mod FoundLemmas
 pub mod GeneratedLemmas
-pub mod GrammarLemmas
-pub mod LinkedLemmas
 pub mod ReportLemmas
 pub mod RunLemmas
 pub mod ServedLemmas
-pub mod ShownLemmas
 pub mod UnkeptLemmas
-pub mod VerdictLemmas

@@ -4,6 +4,11 @@ use Rattle.std.proofs.lemmas.List.{length-take}
 use Rattle.std.proofs.lemmas.List.Elements.{All-cons, All-nil}
 use Rattle.std.specs.Option.{option_map}
 use Rattle.std.specs.Prelude.{All}
+use Rattle.im_dealing.specs.Scripts.{FailsIn, WritesPhases}
+use Rattle.im_dealing.specs.declared.errors.LineError.{LineError}
+use Rattle.im_dealing.specs.declared.errors.LineError.TheVariants as fails
+use Rattle.im_dealing.specs.declared.errors.Stopped.{Stopped}
+use Rattle.im_dealing.specs.declared.errors.Stopped.TheVariants as stops
 use Rattle.im_octet.proofs.Common.{all-left, all-right}
 use Rattle.im_digest.specs.Digests.{Hash}
 use Rattle.im_disk.specs.Disk.{Files, Told, after, seen}
@@ -29,17 +34,14 @@ use Rattle.im_accept.proofs.SessionLemmas.{phases-taken, phases-texts}
 use Rattle.im_seated_journal.specs.Calls.{MakesBatches, MakesPart, StandsPut, calls_of_batch, calls_of_batches}
 use Rattle.im_journal.specs.Made.{failed_call}
 use Rattle.im_seated_journal.specs.Seats.{RoseBy}
-use Rattle.im_session.specs.Served.{AskedFor, FailsIn, HasTime, Serves, WritesPhases}
-use Rattle.im_session.specs.declared.errors.LineError.{LineError}
-use Rattle.im_session.specs.declared.errors.LineError.TheVariants as fails
-use Rattle.im_session.specs.declared.serve.Stopped.{Stopped}
-use Rattle.im_session.specs.declared.serve.Stopped.TheVariants as stops
+use Rattle.im_session.specs.Served.{AskedFor, HasTime, Serves}
 use Rattle.im_store.specs.Names.{Naming}
 use Rattle.im_store_opening.specs.Opened.{OpensAs}
 use Rattle.im_table.specs.Histories.{history_of}
 use Rattle.im_table.proofs.HistoryLemmas.{history_length}
 use Rattle.im_words.specs.declared.Link.{Link}
-use Rattle.im_app.specs.Runs.{HasOneSession, IsGiven, IsReport, KeepsFound, WritesFront, WritesPart, WritesReport, has_linker}
+use Rattle.im_status.specs.Scripts.{IsGiven}
+use Rattle.im_app.specs.Runs.{HasOneSession, IsReport, KeepsFound, WritesFront, WritesPart, WritesReport, has_linker}
 use Rattle.im_app.proofs.FoundLemmas.{served-keeps}
 use Rattle.im_app.proofs.RunLemmas.{if-told}
 

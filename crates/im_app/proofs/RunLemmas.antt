@@ -1,6 +1,10 @@
 -- How a run goes on from what opening and the sessions answered.
 use Rattle.std.proofs.Common.{◌≡◌, ℕ, ℤ, List, [], refl, sym, ◌∙◌, ap, subst, Result, Ok, Err, Option, Some, None, IfSome, inl, inr, ◌⊎◌, arith}
 use Rattle.std.proofs.KnownBytes.{Consumes-nil}
+use Rattle.im_dealing.specs.declared.errors.LineError.{LineError}
+use Rattle.im_dealing.specs.declared.errors.LineError.TheVariants as fails
+use Rattle.im_dealing.specs.declared.errors.Stopped.{Stopped}
+use Rattle.im_dealing.specs.declared.errors.Stopped.TheVariants as stops
 use Rattle.im_edge.specs.Sources.{TakesAtMost}
 use Rattle.im_digest.specs.Digests.{Hash}
 use Rattle.im_disk.specs.Disk.{Told}
@@ -8,17 +12,14 @@ use Rattle.im_format.specs.declared.damages.Damage.{Damage}
 use Rattle.im_opening.specs.declared.errors.OpenError.{OpenError}
 use Rattle.im_opening.specs.declared.errors.OpenError.TheVariants as opened
 use Rattle.im_script.specs.declared.commands.Line.{Line}
-use Rattle.im_session.specs.declared.errors.LineError.{LineError}
-use Rattle.im_session.specs.declared.errors.LineError.TheVariants as fails
-use Rattle.im_session.specs.declared.serve.Stopped.{Stopped}
-use Rattle.im_session.specs.declared.serve.Stopped.TheVariants as stops
 use Rattle.im_sqlmodel.specs.declared.answers.KeptError.{KeptError}
 use Rattle.im_sqlmodel.specs.declared.answers.KeptError.TheVariants as judged
 use Rattle.im_words.specs.declared.Link.{Link}
-use Rattle.im_app.specs.Runs.{HasOneSession, IsGiven, LeavesFound, WritesFront, WritesPart, WritesReport, opening_error}
-use Rattle.im_app.specs.Statuses.{EndsReading, EndsWriting, status_behind, status_by, status_for, status_kept}
-use Rattle.im_app.specs.declared.status.Status.{Status}
-use Rattle.im_app.specs.declared.status.Status.TheVariants as the
+use Rattle.im_status.specs.Scripts.{IsGiven}
+use Rattle.im_status.specs.Statuses.{EndsReading, EndsWriting, status_behind, status_by, status_for, status_kept}
+use Rattle.im_status.specs.declared.status.Status.{Status}
+use Rattle.im_status.specs.declared.status.Status.TheVariants as the
+use Rattle.im_app.specs.Runs.{HasOneSession, LeavesFound, WritesFront, WritesPart, WritesReport, opening_error}
 
 -- a run that was done: all was answered and written
 pub done-end : (end : Result Unit Stopped) → status_behind end ≡ the.Ok → end ≡ Ok tt

@@ -1,5 +1,9 @@
 -- A store was opened and served: what a run says of it, by how it ended.
 use Rattle.std.proofs.Common.{◌≡◌, ◌≤◌, ◌+◌, ℤ, ℕ, List, ap, subst, sym, ◌∙◌, Bool, Option, Some, Result, Err}
+use Rattle.im_dealing.specs.declared.errors.LineError.{LineError}
+use Rattle.im_dealing.specs.declared.errors.LineError.TheVariants as fails
+use Rattle.im_dealing.specs.declared.errors.Stopped.{Stopped}
+use Rattle.im_dealing.specs.declared.errors.Stopped.TheVariants as stops
 use Rattle.im_digest.specs.Digests.{Hash}
 use Rattle.im_disk.specs.Disk.{Told, seen}
 use Rattle.im_disk.specs.Grown.{Grows}
@@ -10,18 +14,15 @@ use Rattle.im_model.specs.declared.transactions.Transaction.{Transaction}
 use Rattle.im_opening.specs.Cut.{SyncsAtMost}
 use Rattle.im_script.specs.declared.commands.Line.{Line}
 use Rattle.im_session.specs.Served.{Serves}
-use Rattle.im_session.specs.declared.errors.LineError.{LineError}
-use Rattle.im_session.specs.declared.errors.LineError.TheVariants as fails
-use Rattle.im_session.specs.declared.serve.Stopped.{Stopped}
-use Rattle.im_session.specs.declared.serve.Stopped.TheVariants as stops
 use Rattle.im_store.specs.Names.{Naming}
 use Rattle.im_store_opening.specs.Opened.{OpensAs}
 use Rattle.im_table.specs.Histories.{history_of}
 use Rattle.im_words.specs.declared.Link.{Link}
-use Rattle.im_app.specs.Runs.{HasOneSession, IsGiven, KeepsFound, WritesFront, WritesPart, WritesReport, has_linker}
-use Rattle.im_app.specs.Statuses.{EndsWriting, status_behind, status_for}
-use Rattle.im_app.specs.declared.status.Status.{Status}
-use Rattle.im_app.specs.declared.status.Status.TheVariants as the
+use Rattle.im_status.specs.Scripts.{IsGiven}
+use Rattle.im_status.specs.Statuses.{EndsWriting, status_behind, status_for}
+use Rattle.im_status.specs.declared.status.Status.{Status}
+use Rattle.im_status.specs.declared.status.Status.TheVariants as the
+use Rattle.im_app.specs.Runs.{HasOneSession, KeepsFound, WritesFront, WritesPart, WritesReport, has_linker}
 use Rattle.im_app.proofs.ReportLemmas.{as-opened, device-alone, device-rose, device-same, front-report, grows, keeps, part-report, sink-rose, sink-same, whole-report, writes-once}
 use Rattle.im_app.proofs.RunLemmas.{done-end, ends-writing, line-end, no-unkept, undamaged, unstopped, write-end}
 

@@ -1,5 +1,7 @@
 -- A store was opened, and nothing was run over it: what a run says of it.
 use Rattle.std.proofs.Common.{◌≡◌, ℕ, List, inr, subst, sym, ◌∙◌, Option, Some}
+use Rattle.im_dealing.specs.declared.errors.LineError.{LineError}
+use Rattle.im_dealing.specs.declared.errors.LineError.TheVariants as fails
 use Rattle.im_digest.specs.Digests.{Hash}
 use Rattle.im_disk.specs.Disk.{Told, after, seen}
 use Rattle.im_disk.specs.Grown.{Grows}
@@ -9,18 +11,16 @@ use Rattle.im_format.specs.Standing.{Stands}
 use Rattle.im_format.specs.declared.damages.Damage.{Damage}
 use Rattle.im_model.specs.declared.transactions.Transaction.{Transaction}
 use Rattle.im_opening.specs.Cut.{SyncsAtMost}
-use Rattle.im_session.specs.declared.errors.LineError.{LineError}
-use Rattle.im_session.specs.declared.errors.LineError.TheVariants as fails
 use Rattle.im_sqlmodel.specs.Kept.{IsFirstUnsound}
 use Rattle.im_sqlmodel.specs.declared.answers.KeptError.{KeptError}
 use Rattle.im_sqlmodel.specs.declared.answers.KeptError.TheVariants as judged
 use Rattle.im_store.specs.Names.{Naming}
 use Rattle.im_store_opening.specs.Opened.{OpensAs}
 use Rattle.im_table.specs.Histories.{history_of}
+use Rattle.im_status.specs.Statuses.{EndsWriting, status_for, status_kept}
+use Rattle.im_status.specs.declared.status.Status.{Status}
+use Rattle.im_status.specs.declared.status.Status.TheVariants as the
 use Rattle.im_app.specs.Runs.{FindsUnkept, KeepsFound, LeavesFound}
-use Rattle.im_app.specs.Statuses.{EndsWriting, status_for, status_kept}
-use Rattle.im_app.specs.declared.status.Status.{Status}
-use Rattle.im_app.specs.declared.status.Status.TheVariants as the
 use Rattle.im_app.proofs.FoundLemmas.{opened-keeps}
 use Rattle.im_app.proofs.RunLemmas.{if-told, judged-by, judged-ends, judged-no-fault, judged-no-write, judged-not-done, judged-undamaged, unkept-by}
 

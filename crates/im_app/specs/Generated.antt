@@ -1,11 +1,9 @@
 -- What `gen` writes.
-use Rattle.std.specs.Prelude.{◌≡◌, ◌<◌, ◌==◌, ℕ, List, [], length, take, pos, All, Option, Some, if◌then◌else◌}
+use Rattle.std.specs.Prelude.{◌≡◌, ◌<◌, ℕ, List, [], length, take, pos, All, Option, Some}
 use Rattle.std.specs.Io.KnownBytes.{Appends}
 use Rattle.im_digest.specs.Digests.{Hash}
 use Rattle.im_disk.specs.Disk.{Told, seen}
 use Rattle.im_format.specs.Standing.{Stands}
-use Rattle.im_model.specs.Headers.{alh}
-use Rattle.im_model.specs.History.{header_of}
 use Rattle.im_model.specs.declared.transactions.Transaction.{Transaction}
 use Rattle.im_script.specs.Script.{lines_of}
 use Rattle.im_script.specs.declared.commands.Line.{Line}
@@ -14,11 +12,9 @@ use Rattle.im_facts.specs.Verdicts.{Verdict}
 use Rattle.im_verify.specs.Judged.{IsVerified, NoneForked, NoneRefused, kept_texts, up_to_fork}
 use Rattle.im_session.specs.Served.{HasTime}
 use Rattle.im_gen.specs.Generator.{accepted_of, linked_of, placed_of, script_text, told_line}
-use Rattle.im_app.specs.Runs.{HasOneSession, IsGiven}
-
--- the Alh of the last transaction, that of the empty string where there is none
-abbrev pub last_alh : Hash → List Transaction → List ℕ
-last_alh hash history = if length history == 0 then hash [] else alh hash (header_of hash history (length history))
+use Rattle.im_status.specs.Numbers.{last_alh}
+use Rattle.im_status.specs.Scripts.{IsGiven}
+use Rattle.im_app.specs.Runs.{HasOneSession}
 
 -- These octets are what was written for a script, at time 0 and from nothing, to a history for which reads of a disk stand now: where its lines
 -- are all of one session, its report.

@@ -1,5 +1,9 @@
 -- What a run did.
 use Rattle.std.specs.Prelude.{◌≡◌, ◌⊎◌, ◌≤◌, ◌++◌, ℤ, ℕ, List, [], length, take, drop, map, Bool, true, false, All, Option, Some, IfSome, Ok, Err}
+use Rattle.im_dealing.specs.Scripts.{FailsIn, WritesPhases}
+use Rattle.im_dealing.specs.declared.errors.LineError.{LineError}
+use Rattle.im_dealing.specs.declared.errors.LineError.TheVariants as line
+use Rattle.im_dealing.specs.declared.errors.Stopped.TheVariants as stops
 use Rattle.im_digest.specs.Digests.{Hash}
 use Rattle.im_accept.specs.Taken.{AreAcceptedAnswers, line_text}
 use Rattle.im_disk.specs.Disk.{Files, Told, after, seen}
@@ -13,22 +17,15 @@ use Rattle.im_opening.specs.declared.errors.OpenError.{OpenError}
 use Rattle.im_opening.specs.declared.errors.OpenError.TheVariants as opened
 use Rattle.im_report.specs.Outcomes.{Outcome}
 use Rattle.im_report.specs.Sessions.{SessionsReport, first_replies, lines_in, phase_text, replies_in}
-use Rattle.im_script.specs.Script.{IsScript, lines_of}
+use Rattle.im_script.specs.Script.{lines_of}
 use Rattle.im_script.specs.declared.commands.Line.{Line}
 use Rattle.im_seated_journal.specs.Calls.{MakesBatches, StandsPut}
-use Rattle.im_session.specs.Served.{AskedFor, FailsIn, HasTime, WritesPhases}
-use Rattle.im_session.specs.declared.errors.LineError.{LineError}
-use Rattle.im_session.specs.declared.errors.LineError.TheVariants as line
-use Rattle.im_session.specs.declared.serve.Stopped.TheVariants as stops
+use Rattle.im_session.specs.Served.{AskedFor, HasTime}
 use Rattle.im_sqlmodel.specs.Kept.{IsFirstUnsound, IsSqlKept}
 use Rattle.im_text.specs.Lines.{AreTexts}
 use Rattle.im_words.specs.declared.Link.{Link}
 use Rattle.im_words.specs.declared.Link.TheVariants.{Auto, Manual}
-
--- these octets are a script that isn't too long, of these phases
-pub record IsGiven (script : List ℕ) (phases : List (List Line)) : Type 0 where
-  pub short : length script ≤ 67108864
-  pub read : IsScript script phases
+use Rattle.im_status.specs.Scripts.{IsGiven}
 
 -- all lines of a script are of one session
 abbrev pub HasOneSession : List (List Line) → Type 0

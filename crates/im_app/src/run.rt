@@ -1,5 +1,7 @@
-ghost use Rattle.std.specs.Prelude.{◌≡◌, ◌⊎◌, ℕ, ◌+◌, ◌≤◌, ◌<◌, [], length, List, true, IfErr, IfOk, IfSome, IsErrOf, OnOk, Err, Result, Some, vec_capacity};
-ghost use Rattle.std.specs.List.{All};
+ghost use Rattle.std.specs.Prelude.{◌≡◌, ◌⊎◌, ℕ, ◌+◌, ◌≤◌, ◌<◌, [], length, List, IfSome, OnOk, Err, Result, Some, vec_capacity};
+ghost use Rattle.im_dealing.specs.Found.{IsFoundKept};
+ghost use Rattle.im_dealing.specs.declared.errors.LineError.{LineError as Why};
+ghost use Rattle.im_dealing.specs.declared.errors.Stopped.{Stopped as TheStopped};
 ghost use Rattle.im_disk.specs.Disk.{Told, after, seen};
 ghost use Rattle.im_disk.specs.declared.calls.Call.TheVariants.{Synced};
 ghost use Rattle.im_disk.specs.Grown.{Grows};
@@ -11,36 +13,33 @@ ghost use Rattle.im_format.specs.declared.damages.Damage.{Damage};
 ghost use Rattle.im_model.specs.declared.transactions.Transaction.{Transaction};
 ghost use Rattle.im_mtree.specs.Checks.{first_fail};
 ghost use Rattle.im_script.specs.Script.{StopsAfter};
-ghost use Rattle.im_app.specs.Fates.{HasRunFate};
-ghost use Rattle.im_app.specs.Runs.{FindsUnkept, GivesScript, HasOneSession, IsGiven, KeepsFound, LeavesFound, WritesFront, WritesPart, WritesReport, has_linker};
-ghost use Rattle.im_app.specs.Statuses.{EndsGiven, EndsReading, EndsRun, EndsWriting, status_behind, status_by, status_for, status_kept};
+ghost use Rattle.im_status.specs.Fates.{HasRunFate};
+ghost use Rattle.im_status.specs.Scripts.{IsGiven};
+ghost use Rattle.im_status.specs.Statuses.{EndsGiven, EndsReading, EndsRun, EndsWriting, status_behind, status_by, status_for, status_kept};
+ghost use Rattle.im_app.specs.Runs.{FindsUnkept, GivesScript, HasOneSession, KeepsFound, LeavesFound, WritesFront, WritesPart, WritesReport, has_linker};
 ghost use Rattle.im_opening.specs.Cut.{SyncsAtMost};
 ghost use Rattle.im_script.specs.Script.{lines_of, names_of};
 ghost use Rattle.im_session.specs.Served.{Serves};
-ghost use Rattle.im_session.specs.Statements.{IsFoundKept};
 ghost use Rattle.im_sqlmodel.specs.Kept.{IsFirstUnsound, IsSqlKept};
 ghost use Rattle.im_table.specs.Histories.{history_of};
 ghost use Rattle.im_store.specs.Names.{naming_of};
-ghost use Rattle.im_session.specs.declared.errors.LineError.{LineError as Why};
-ghost use Rattle.im_session.specs.declared.serve.Stopped.{Stopped as TheStopped};
 ghost use Rattle.im_script.specs.declared.commands.Line.{Line as TheLine};
 
-use crate::status::{Done, Status};
+use im_dealing::errors::{LineError, Stopped};
 use im_digest::Hash32;
 use im_disk::disk::Disk;
 use im_edge::clock::Clock;
 use im_edge::gate::Gate;
 use im_edge::sink::Sink;
-use im_edge::source::{Source, SourceError, read_all};
-use im_model::limits::MOST_INPUT_OCTETS;
+use im_edge::source::Source;
 use im_opening::errors::OpenError;
 use im_script::phases::Script;
-use im_script::scripts::{ScriptError, read_script};
-use im_session::errors::LineError;
-use im_session::serve::{Served, Stopped, serve};
+use im_session::serve::{Served, serve};
 use im_sqllaw::law::SqlKeys;
 use im_sqlmodel::answers::KeptError;
-use im_sqlsound::kept::kept;
+use im_sqlmodel::engine::SqlEngine;
+use im_status::scripts::read_phases;
+use im_status::status::{Done, Status};
 use im_store::opened::Opened;
 use im_store_opening::opening::{OpenFailed, open};
 use im_table::pass::Pass;
@@ -49,33 +48,6 @@ use std::alloc::Global;
 use std::marker::Brand;
 use std::sync::Wait;
 use std::thread::Threads;
-
-// Reads a script from a source, to its end.
-fn read_phases<S: Source>(alloc: Global, source: &mut S) -> Result<Script, Status>
-    ensures given { IfOk result (λ read. (script : List ℕ) × IfSome (S.left source.old) (λ octets. octets ≡ script) × IsGiven script read.phases.items) }
-    ensures names { IfOk result (λ read. (read.names.items ≡ names_of [] (lines_of read.phases.items)) × (length read.names.items ≤ 8)) }
-    ensures emptied { OnOk result (IfSome (S.left source.old) (λ _. S.left source.new ≡ Some [])) }
-    ensures taken { TakesAtMost 67112960 (S.left source.old) (S.left source.new) }
-    ensures ends { IfErr result EndsReading }
-    ensures script { (k : ℕ) → IsErrOf result (Status.Script k) → IfSome (S.left source.old) (λ script.
-        (length script ≤ 67108864) × ((n : ℕ) × (k ≡ n + 1) × StopsAfter script n)) }
-    ensures long { IsErrOf result Status.Long → IfSome (S.left source.old) (λ script. 67108864 < length script) }
-    ensures read { IsErrOf result Status.ReadFault → Rose (S.faults source.old) (S.faults source.new) }
-    ensures once { S.faults source.new ≤ S.faults source.old + 1 }
-    ensures count { (IsErrOf result Status.ReadFault → ⊥) → S.faults source.new ≡ S.faults source.old }
-{
-    let octets = match read_all(alloc, source, MOST_INPUT_OCTETS) {
-        Ok(octets) => octets,
-        Err(SourceError::Memory) => return Err(Status::Memory),
-        Err(SourceError::Failed) => return Err(Status::ReadFault),
-        Err(SourceError::Long) => return Err(Status::Long),
-    };
-    match read_script(alloc, octets.as_slice()) {
-        Ok(script) => Ok(script),
-        Err(ScriptError::Memory) => Err(Status::Memory),
-        Err(ScriptError::Line(line)) => Err(Status::Script { line }),
-    }
-}
 
 // The status of a disk that wasn't opened.
 fn status_of(error: OpenError) -> Status
@@ -99,15 +71,16 @@ fn status_unkept(error: KeptError) -> Status
 }
 
 // Whether the keys of what was found that begin with octet 00 are SQL's. It waits for nobody.
-fn judge<H: Hash32, D: Disk, C: Clock>(
+fn judge<H: Hash32, D: Disk, C: Clock, Q: SqlEngine>(
     alloc: Global,
+    engine: &Q,
     opened: &Opened<'_, H, D, C, SqlKeys>,
 ) -> Result<(), KeptError>
     ensures kept { OnOk result (IsSqlKept (history_of opened.now.found)) }
     ensures not_kept { (tx : ℕ) → result ≡ Err (KeptError.NotKept tx) → IsFirstUnsound (history_of opened.now.found) tx }
 {
     let (keys, count) = opened.keys(alloc)?;
-    let judged = kept(alloc, &keys, count);
+    let judged = engine.judge(alloc, &keys, count);
     drop(keys);
     judged
 }
@@ -131,11 +104,13 @@ fn serve_script<
     D: Disk + Send,
     C: Clock + Send,
     G: Gate + Sync,
+    Q: SqlEngine + Sync,
     R: Threads + Wait + Sync,
 >(
     rt: &R,
     alloc: Global,
     gate: &G,
+    engine: &Q,
     sink: &mut K,
     opened: Opened<'_, H, D, C, SqlKeys>,
     passes: Vec<Pass>,
@@ -149,8 +124,8 @@ fn serve_script<
     ensures served { (end : Result Unit TheStopped) × (result.status ≡ status_behind end)
         × Serves D.told D.faults links (naming_of H.digest D.told D.faults C.constant C.given opened.entry) script.phases.items (K.written sink.old) (K.written sink.new) (K.faults sink.old) (K.faults sink.new) result.disk (C.constant result.clock) (C.given result.clock) end }
 {
-    let Served { disk, clock, end } = serve::<H, K, D, C, G, Brand, R>(
-        rt, alloc, gate, sink, opened, passes, script, links,
+    let Served { disk, clock, end } = serve::<H, K, D, C, G, Brand, Q, R>(
+        rt, alloc, gate, engine, sink, opened, passes, script, links,
     );
     Done {
         status: status_after(end),
@@ -167,12 +142,14 @@ fn run_script<
     D: Disk + Send,
     C: Clock + Send,
     G: Gate + Sync,
+    Q: SqlEngine + Sync,
     R: Threads + Wait + Sync,
 >(
     rt: &R,
     alloc: Global,
     hash: &H,
     gate: &G,
+    engine: &Q,
     sink: &mut K,
     disk: D,
     clock: C,
@@ -220,8 +197,18 @@ fn run_script<
         };
     };
     match open(rt, alloc, hash, disk, clock, logs) {
-        Ok(opened) => match judge(alloc, &opened) {
-            Ok(()) => serve_script(rt, alloc, gate, sink, opened, passes, script, is_auto(link)),
+        Ok(opened) => match judge(alloc, engine, &opened) {
+            Ok(()) => serve_script(
+                rt,
+                alloc,
+                gate,
+                engine,
+                sink,
+                opened,
+                passes,
+                script,
+                is_auto(link),
+            ),
             Err(error) => {
                 drop(script);
                 let (disk, clock) = opened.close();
@@ -261,12 +248,14 @@ pub(crate) fn run<
     D: Disk + Send,
     C: Clock + Send,
     G: Gate + Sync,
+    Q: SqlEngine + Sync,
     R: Threads + Wait + Sync,
 >(
     rt: &R,
     alloc: Global,
     hash: &H,
     gate: &G,
+    engine: &Q,
     source: &mut S,
     sink: &mut K,
     disk: D,
@@ -325,7 +314,9 @@ pub(crate) fn run<
         → IfSome (S.left source.old) (HasRunFate (H.digest hash.now) (D.told disk) result.status) }
 {
     match read_phases(alloc, source) {
-        Ok(script) => run_script(rt, alloc, hash, gate, sink, disk, clock, logs, link, script),
+        Ok(script) => run_script(
+            rt, alloc, hash, gate, engine, sink, disk, clock, logs, link, script,
+        ),
         Err(status) => Done {
             status,
             disk,

@@ -1,5 +1,6 @@
 ghost use Rattle.std.specs.Prelude.{◌≡◌, ◌⊎◌, ℕ, ◌+◌, ◌<◌, ◌≤◌, [], List, length, map, IfSome, Err, Some};
 ghost use Rattle.std.specs.String.{string_bytes};
+ghost use Rattle.im_dealing.specs.declared.errors.LineError.{LineError as Why};
 ghost use Rattle.im_disk.specs.Disk.{Told, after, seen};
 ghost use Rattle.im_disk.specs.declared.calls.Call.TheVariants.{Synced};
 ghost use Rattle.im_disk.specs.Grown.{Grows};
@@ -19,19 +20,16 @@ ghost use Rattle.im_words.specs.Command.{AreWordsRefused};
 ghost use Rattle.im_words.specs.Form.{IsForm, IsGenForm, IsShowForm, IsVerifyForm};
 ghost use Rattle.im_words.specs.Meaning.{AsksGen, AsksRun, AsksShow, AsksVerify};
 ghost use Rattle.im_words.specs.declared.Link.{Link};
-ghost use Rattle.im_app.specs.Fates.{HasRunFate, HasShow, HasVerdict};
+ghost use Rattle.im_status.specs.Fates.{HasRunFate, HasShow, HasVerdict};
 ghost use Rattle.im_opening.specs.Cut.{SyncsAtMost};
-ghost use Rattle.im_session.specs.declared.errors.LineError.{LineError as Why};
 ghost use Rattle.im_script.specs.declared.commands.Line.{Line};
+ghost use Rattle.im_status.specs.Scripts.{IsGiven};
+ghost use Rattle.im_status.specs.Statuses.{EndsGenerated, EndsGiven, EndsReading, EndsRun, EndsShow, EndsVerify, status_for};
 ghost use Rattle.im_app.specs.Generated.{WritesGenerated, WritesGeneratedPart};
-ghost use Rattle.im_app.specs.Runs.{FindsUnkept, GivesScript, HasOneSession, IsGiven, KeepsFound, LeavesFound, WritesFront, WritesPart, WritesReport};
-ghost use Rattle.im_app.specs.Statuses.{EndsGenerated, EndsGiven, EndsReading, EndsRun, EndsShow, EndsVerify, status_for};
+ghost use Rattle.im_app.specs.Runs.{FindsUnkept, GivesScript, HasOneSession, KeepsFound, LeavesFound, WritesFront, WritesPart, WritesReport};
 
 use crate::generate::generate;
 use crate::run::run;
-use crate::shown::shown;
-use crate::status::{Done, Status};
-use crate::verdict::verdict;
 use im_digest::Hash32;
 use im_disk::disk::Disk;
 use im_edge::clock::Clock;
@@ -39,6 +37,10 @@ use im_edge::gate::Gate;
 use im_edge::keeper::Keeper;
 use im_edge::sink::Sink;
 use im_edge::source::Source;
+use im_sqlmodel::engine::SqlEngine;
+use im_status::shown::shown;
+use im_status::status::{Done, Status};
+use im_status::verdict::verdict;
 use im_words::{Request, WordsError, read_words};
 use std::alloc::Global;
 use std::sync::Wait;
@@ -62,11 +64,13 @@ pub fn top<
     P: Keeper,
     C: Clock + Send,
     G: Gate + Sync,
+    Q: SqlEngine + Sync,
 >(
     rt: &R,
     alloc: Global,
     words: &[String],
     hash: &H,
+    engine: &Q,
     source: &mut S,
     sink: &mut K,
     disk: D,
@@ -265,9 +269,9 @@ pub fn top<
     ensures idle { AsksVerify (map string_bytes words.now) ⊎ ((EndsReading result.status × (result.status ≡ Status.Memory → ⊥)) ⊎ (((d : Damage) × (result.status ≡ Status.Damaged d)) ⊎ ((tx : ℕ) × (result.status ≡ Status.SqlKept tx)))) → result.clock ≡ clock }
 {
     match read_words(alloc, words) {
-        Ok(Request::Run { logs, link }) => {
-            run(rt, alloc, hash, gate, source, sink, disk, clock, logs, link)
-        }
+        Ok(Request::Run { logs, link }) => run(
+            rt, alloc, hash, gate, engine, source, sink, disk, clock, logs, link,
+        ),
         Ok(Request::Verify) => {
             let status = verdict(alloc, hash, source, sink, keeper);
             Done {
@@ -285,7 +289,7 @@ pub fn top<
             }
         }
         Ok(Request::Gen { lines }) => {
-            let status = generate(rt, alloc, hash, sink, u64::from(lines));
+            let status = generate(rt, alloc, hash, engine, sink, u64::from(lines));
             Done {
                 status,
                 disk,

@@ -11,12 +11,13 @@ use crate::lines::Run;
 use crate::shown::Place;
 use crate::stop::Stop;
 use crate::wanting::end_of;
-use im_app::status::{Done, Status};
 use im_app::top::top;
 use im_disk::memory::MemDisk;
 use im_edge::fused_keeper::FusedKeeper;
 use im_edge::gate::OpenGate;
 use im_edge::keeper::{Keeper, MemKeeper};
+use im_sqlengine::engine::Engine;
+use im_status::status::{Done, Status};
 use std::alloc::{AllocError, Global};
 use std::mem;
 use std::sync::Wait;
@@ -91,6 +92,7 @@ impl Stage {
             run.alloc,
             words,
             &hash(run),
+            &Engine,
             &mut source,
             &mut sink,
             disk,

@@ -2,7 +2,6 @@
 //! printed.
 #![tactic(auto)]
 
-use im_app::status::{Done, Status};
 use im_app::top::top;
 use im_digest::Sha;
 use im_disk::memory::MemDisk;
@@ -11,6 +10,8 @@ use im_edge::gate::OpenGate;
 use im_edge::keeper::MemKeeper;
 use im_edge::sink::Writing;
 use im_edge::source::Reading;
+use im_sqlengine::engine::Engine;
+use im_status::status::{Done, Status};
 use std::alloc::{AllocError, Global};
 use std::io;
 use std::process::ExitCode;
@@ -64,6 +65,7 @@ fn run<R: Print + Alloc<A = Global> + Threads + Wait + Sync>(
         rt.alloc(),
         words,
         &Sha,
+        &Engine,
         &mut Reading::new(script.as_bytes()),
         &mut Writing::new(io::writer(rt)),
         disk,

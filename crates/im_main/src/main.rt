@@ -4,7 +4,6 @@
 mod clock;
 
 use clock::SystemClock;
-use im_app::status::{Done, Status};
 use im_app::top::top;
 use im_digest::Sha;
 use im_edge::file_keeper::FileKeeper;
@@ -14,6 +13,8 @@ use im_edge::locked_keeper::LockedKeeper;
 use im_edge::sink::Writing;
 use im_edge::source::Reading;
 use im_folder::locked_folder::LockedFolder;
+use im_sqlengine::engine::Engine;
+use im_status::status::{Done, Status};
 use std::io::{self, Lock, Write};
 use std::process::ExitCode;
 use std::{env, fs};
@@ -56,6 +57,7 @@ fn main(rt: HostRuntime) -> ExitCode {
         rt.alloc(),
         words.as_slice(),
         &Sha,
+        &Engine,
         &mut Reading::new(rt.reader()),
         &mut Writing::new(io::writer(&rt)),
         disk,

@@ -2,6 +2,9 @@
 use Rattle.std.proofs.Common.{◌≡◌, ◌⊎◌, ◌<◌, ◌≤◌, ℕ, List, [], length, map, slice_index_or, take, Option, Some, None, codes, false, true, unwrap_or, refl, ap, ap₂, sym, ◌∙◌, subst, arith, inl, inr}
 use Rattle.std.proofs.lemmas.Bool.{both_ways}
 use Rattle.std.proofs.lemmas.List.{length-take-le}
+use Rattle.im_dealing.specs.Lines.{MayBecome}
+use Rattle.im_dealing.specs.Shown.{IsRefusedBetween}
+use Rattle.im_dealing.specs.declared.answers.Answer.{Answer}
 use Rattle.im_report.proofs.ShownLemmas.{no-entry-closed}
 use Rattle.im_report.specs.Messages.{IsReadBack, item_between}
 use Rattle.im_digest.specs.Digests.{Hash}
@@ -20,9 +23,6 @@ use Rattle.im_script.specs.declared.commands.Command.TheVariants as asks
 use Rattle.im_session.proofs.ProvedLemmas.{advance_said, anchor_taken, dual_taken, entries_seen, few_taken, header_beyond, header_said, header_zero, item_said, no_item_said, prove_said, refused_said, state_empty, state_said, state_taken}
 use Rattle.im_session.proofs.ShowLemmas.{closed_again, shown_answered}
 use Rattle.im_session.specs.Answered.{IsAnswered}
-use Rattle.im_session.specs.Lines.{MayBecome}
-use Rattle.im_session.specs.Shown.{IsRefusedBetween}
-use Rattle.im_session.specs.declared.answers.Answer.{Answer}
 use Rattle.im_store.specs.Gains.{Gains}
 use Rattle.im_store.specs.Loads.{SawDurable}
 use Rattle.im_store.specs.Reading.{AnswersAdvance, AnswersDual, AnswersEntry, AnswersHeader, AreDurable, HasFewer}

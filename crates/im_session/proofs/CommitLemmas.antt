@@ -1,5 +1,7 @@
 -- What a commit's receipt or error makes of its line.
 use Rattle.std.proofs.Common.{◌≡◌, ◌≤◌, ◌∷◌, ℕ, ℤ, List, [], map, inl, inr, true, false, Option, Some, None, refl, ap, sym, ◌∙◌, subst, arith}
+use Rattle.im_dealing.specs.declared.answers.Answer.{Answer}
+use Rattle.im_dealing.specs.declared.errors.LineError.TheVariants as line
 use Rattle.im_digest.specs.Digests.{Hash}
 use Rattle.im_draft.specs.Drafts.{entry_of, AreEntries, AreFree}
 use Rattle.im_draft.specs.declared.drafts.Draft.{Draft}
@@ -11,8 +13,6 @@ use Rattle.im_script.specs.declared.commands.Command.{Command}
 use Rattle.im_script.specs.declared.commands.Command.TheVariants.{Set}
 use Rattle.im_session.proofs.StepLemmas.{Asks, counted_here, late_stuck, refused_late, refused_step, tx_step, unplaced_stuck}
 use Rattle.im_session.specs.Answered.{IsAnswered, IsRefusal, IsUnanswered, as_answered, fault_of}
-use Rattle.im_session.specs.declared.answers.Answer.{Answer}
-use Rattle.im_session.specs.declared.errors.LineError.TheVariants as line
 use Rattle.im_store.specs.Commits.{Explains, HasPlaced, IsRefusedDurably, faults_of_error, number_told}
 use Rattle.im_store.specs.Gains.{Gains}
 use Rattle.im_store.specs.declared.errors.CommitError.{CommitError}

@@ -2,11 +2,11 @@
 use Rattle.std.proofs.Common.{◌≡◌, ℕ, ◌-◌, ◌<◌, ◌++◌, List, [], length, take, drop, Result, Ok, Err, OnErr, ap, sym, ◌∙◌, subst, arith, append-nil, slice_index_or}
 use Rattle.std.specs.Prelude.{IfOk}
 use Rattle.std.proofs.Math.Seq.{take-append_seam}
+use Rattle.im_dealing.proofs.LineLemmas.{pass_later}
+use Rattle.im_dealing.specs.Phases.{AreDone}
+use Rattle.im_dealing.specs.Runs.{IsDone, IsHelper, IsIdle}
+use Rattle.im_dealing.specs.declared.sessions.Session.{Session}
 use Rattle.im_digest.specs.Digests.{Hash}
-use Rattle.im_session.proofs.LineLemmas.{pass_later}
-use Rattle.im_session.specs.Phases.{AreDone}
-use Rattle.im_session.specs.Runs.{IsDone, IsHelper, IsIdle}
-use Rattle.im_session.specs.declared.sessions.Session.{Session}
 use Rattle.im_store.specs.Gains.{Gains}
 use Rattle.im_store.specs.Growth.{IsLinked}
 use Rattle.im_table.specs.Known.{KnownPass, TableId}

@@ -4,22 +4,22 @@ use Rattle.std.specs.Prelude.{All, AllPairs}
 use Rattle.std.specs.List.{flat_map, sum_by}
 use Rattle.std.proofs.lemmas.List.{length-map}
 use mathlib.Core.List.{IsPrefix}
+use Rattle.im_dealing.proofs.GatherLemmas.{BeginsAt, TakesIn, done_weights, gathered_many, handed_grown, starts_of, taken_grown}
+use Rattle.im_dealing.proofs.OutLemmas.{have_outs}
+use Rattle.im_dealing.proofs.PlayLemmas.{WasPlayed, outcomes_in, phase_is}
+use Rattle.im_dealing.proofs.SoFarLemmas.{grown_on}
+use Rattle.im_dealing.proofs.StopLemmas.{phase_ends, phase_knows, phase_texts}
+use Rattle.im_dealing.specs.Dealing.{AreDealt, AreNamed, lines_with}
+use Rattle.im_dealing.specs.Gathered.{AreGathered, AreHanded, IsWholePass, weight_of}
+use Rattle.im_dealing.specs.Phases.{AreDone, EndsPhase, HasGrown, IsPlayed, KnowsFaults}
+use Rattle.im_dealing.specs.Runs.{IsHelper, IsIdle, start_of}
+use Rattle.im_dealing.specs.Written.{first_texts, stop_of}
+use Rattle.im_dealing.specs.declared.sessions.Ended.{Ended}
+use Rattle.im_dealing.specs.declared.sessions.Session.{Session}
 use Rattle.im_digest.specs.Digests.{Hash}
 use Rattle.im_report.specs.Outcomes.{Outcome}
 use Rattle.im_report.specs.Sessions.{phase_text}
 use Rattle.im_script.specs.declared.commands.Line.{Line}
-use Rattle.im_session.proofs.GatherLemmas.{BeginsAt, TakesIn, done_weights, gathered_many, handed_grown, starts_of, taken_grown}
-use Rattle.im_session.proofs.OutLemmas.{have_outs}
-use Rattle.im_session.proofs.PlayLemmas.{WasPlayed, outcomes_in, phase_is}
-use Rattle.im_session.proofs.SoFarLemmas.{grown_on}
-use Rattle.im_session.proofs.StopLemmas.{phase_ends, phase_knows, phase_texts}
-use Rattle.im_session.specs.Dealing.{AreDealt, AreNamed, lines_with}
-use Rattle.im_session.specs.Gathered.{AreGathered, AreHanded, IsWholePass, weight_of}
-use Rattle.im_session.specs.Phases.{AreDone, EndsPhase, HasGrown, IsPlayed, KnowsFaults}
-use Rattle.im_session.specs.Runs.{IsHelper, IsIdle, start_of}
-use Rattle.im_session.specs.Written.{first_texts, stop_of}
-use Rattle.im_session.specs.declared.sessions.Ended.{Ended}
-use Rattle.im_session.specs.declared.sessions.Session.{Session}
 use Rattle.im_store.specs.Gains.{Gains}
 use Rattle.im_table.proofs.FrontLemmas.{prefix_self}
 use Rattle.im_table.specs.Known.{KnownPass, TableId}

@@ -1,7 +1,10 @@
 -- Headers and proofs of the pass's list are those of each list that it may become.
 use Rattle.std.proofs.Common.{◌≡◌, ◌<◌, ◌≤◌, ◌-◌, ◌==◌, ◌||◌, ℕ, List, Bool, true, false, if◌then◌else◌, length, take, nat_lt, Option, ap, ap₂, sym, ◌∙◌, subst, arith, codes}
-use Rattle.std.proofs.lemmas.Bool.{le-ltb, lt-ltb, ne_eqb}
+use Rattle.std.proofs.lemmas.Bool.{le-ltb, lt-ltb}
 use Rattle.std.proofs.lemmas.List.{get_or-take, length-take-le, take_all}
+use Rattle.im_dealing.proofs.GrowLemmas.{front_length, history_taken}
+use Rattle.im_dealing.proofs.RefusedLemmas.{not_zero}
+use Rattle.im_dealing.specs.Lines.{MayBecome}
 use Rattle.im_digest.specs.Digests.{Hash}
 use Rattle.im_dual.proofs.FrontLemmas.{front-anchor, front-between}
 use Rattle.im_model.proofs.HeaderLemmas.{header-prefix}
@@ -12,8 +15,6 @@ use Rattle.im_model.specs.declared.transactions.Transaction.{Transaction}
 use Rattle.im_proof.specs.Between.{anchor_between, dual_between}
 use Rattle.im_proof.specs.declared.proofs.DualProof.{DualProof}
 use Rattle.im_report.specs.Replies.{advance_reply, beyond_reply, between_reply, header_reply, item_reply, item_shown, no_entry_reply, order_reply, prove_reply, shown_header, state_reply}
-use Rattle.im_session.proofs.GrowLemmas.{front_length, history_taken}
-use Rattle.im_session.specs.Lines.{MayBecome}
 use Rattle.im_store.proofs.ProveLemmas.{transaction_front}
 use Rattle.im_table.proofs.HistoryLemmas.{history_length}
 use Rattle.im_table.specs.Histories.{history_of}
@@ -51,9 +52,6 @@ anchor_seen hash p items s t m some order within =
 -- the first n, of which all are durable
 pub few_taken : (p : KnownPass) (items : List LogItem) (n : ℕ) → MayBecome p items → n ≤ p.view.least.durable → n ≤ length (history_of items)
 few_taken p items n m durable = omega (arith, durable, m.enough, history_length items)
-
-pub not_zero : (k : ℕ) → 1 ≤ k → (k == 0) ≡ false
-not_zero k some = ne_eqb k 0 (λ e. let no : ⊥ = omega (arith, some, e) in no)
 
 -- what it has seen stands in the first n of each list, where these are durable
 pub state_taken : (hash : Hash) (p : KnownPass) (items : List LogItem) (n : ℕ) → MayBecome p items → n ≤ p.view.least.durable → 1 ≤ n → n ≤ length p.view.seen

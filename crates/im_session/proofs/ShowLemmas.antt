@@ -1,6 +1,11 @@
 -- What a command that places and links nothing is answered, and what it is where memory runs out.
 use Rattle.std.proofs.Common.{◌≡◌, ◌⊎◌, ◌-◌, inl, inr, ◌≤◌, ℕ, List, [], length, take, Option, Some, None, Result, IfErr, IsErrAnd, false, refl, ap, sym, ◌∙◌, subst, arith}
 use Rattle.std.proofs.lemmas.Bool.{both_ways}
+use Rattle.im_dealing.proofs.GrowLemmas.{history_taken}
+use Rattle.im_dealing.specs.Lines.{MayBecome}
+use Rattle.im_dealing.specs.declared.answers.Answer.{Answer}
+use Rattle.im_dealing.specs.declared.errors.LineError.{LineError}
+use Rattle.im_dealing.specs.declared.errors.LineError.TheVariants.{Memory}
 use Rattle.im_report.specs.Messages.{IsReadBack}
 use Rattle.im_digest.specs.Digests.{Hash}
 use Rattle.im_draft.specs.Drafts.{AreFree, IsReserved, Refuses}
@@ -15,13 +20,8 @@ use Rattle.im_report.specs.Replies.{linked_reply, refused_reply, reserved_reply}
 use Rattle.im_report.specs.Report.{IsAnswer, IsSetAnswer, ReadsBy, floor_by, tells_tx}
 use Rattle.im_script.specs.declared.commands.Command.{Command}
 use Rattle.im_script.specs.declared.commands.Command.TheVariants.{Set, Get, Scan, History, Header, State, Prove, Advance, Item, Link, Sql}
-use Rattle.im_session.proofs.GrowLemmas.{history_taken}
 use Rattle.im_session.proofs.StepLemmas.{link_step, shown_step, slack_kept, stuck_none}
 use Rattle.im_session.specs.Answered.{IsAnswered, IsUnanswered}
-use Rattle.im_session.specs.Lines.{MayBecome}
-use Rattle.im_session.specs.declared.answers.Answer.{Answer}
-use Rattle.im_session.specs.declared.errors.LineError.{LineError}
-use Rattle.im_session.specs.declared.errors.LineError.TheVariants.{Memory}
 use Rattle.im_store.proofs.GainLemmas.{gains_before, gains_same, later_self}
 use Rattle.im_store.specs.Gains.{Gains}
 use Rattle.im_store.specs.Growth.{IsLinked}

@@ -1,6 +1,11 @@
 -- What a statement is answered, by what it read and by what became of its commit.
 use Rattle.std.proofs.Common.{◌≡◌, ◌⊎◌, ◌≤◌, ◌<◌, ◌^◌, ◌++◌, ℕ, ℤ, List, [], ◌∷◌, length, map, take, nat_le, Bool, true, false, if◌then◌else◌, Option, Some, Result, Ok, Err, refl, ap, sym, ◌∙◌, subst, true≢false, arith, inl, inr}
 use Rattle.std.proofs.lemmas.List.{take_all, take-take}
+use Rattle.im_dealing.proofs.GrowLemmas.{front_length, history_taken, may_before, take_front}
+use Rattle.im_dealing.specs.Lines.{MayBecome}
+use Rattle.im_dealing.specs.Shown.{ShowsKeys}
+use Rattle.im_dealing.specs.declared.answers.Answer.{Answer}
+use Rattle.im_dealing.specs.declared.errors.LineError.TheVariants as line
 use Rattle.im_digest.specs.Digests.{Hash}
 use Rattle.im_draft.specs.declared.preconditions.Pre.{Pre}
 use Rattle.im_draft.specs.declared.preconditions.Pre.TheVariants.{Since}
@@ -16,15 +21,10 @@ use Rattle.im_report.specs.Report.{ReadsBy, tells_tx}
 use Rattle.im_report.specs.Statements.{AsksToWrite, IsReadTold, IsSqlAnswer, IsUnplacedReply, tx_read_reply}
 use Rattle.im_script.specs.declared.commands.Command.TheVariants.{Sql}
 use Rattle.im_session.proofs.CommitLemmas.{placed_unanswered}
-use Rattle.im_session.proofs.GrowLemmas.{front_length, history_taken, may_before, take_front}
 use Rattle.im_session.proofs.ReadLemmas.{keys_length}
 use Rattle.im_session.proofs.StepLemmas.{Asks, refused_step, slack_kept, stuck_none, tx_step, unplaced_stuck}
 use Rattle.im_session.specs.Answered.{IsAnswered, IsOfStatement, IsStatementRefusal, IsUnanswered, as_answered}
-use Rattle.im_session.specs.Lines.{MayBecome}
-use Rattle.im_session.specs.Shown.{ShowsKeys}
 use Rattle.im_session.specs.Statements.{AsksBehind, HasCounted}
-use Rattle.im_session.specs.declared.answers.Answer.{Answer}
-use Rattle.im_session.specs.declared.errors.LineError.TheVariants as line
 use Rattle.im_sqlmodel.proofs.KeptLemmas.{kept-up}
 use Rattle.im_sqlmodel.specs.Answers.{AnswerIs}
 use Rattle.im_sqlmodel.specs.Kept.{IsSqlKept}

@@ -1,5 +1,9 @@
 -- What one line makes of its session's pass, by the calls that it makes.
 use Rattle.std.proofs.Common.{◌≡◌, ℕ, ◌+◌, ◌-◌, ◌≤◌, ◌++◌, List, [], ◌∷◌, length, take, min, Bool, true, false, Option, Some, None, ℤ, if◌then◌else◌, true≢false, ap, sym, ◌∙◌, subst, arith, append-nil}
+use Rattle.im_dealing.proofs.GrowLemmas.{front_length, history_taken, transaction_at}
+use Rattle.im_dealing.specs.Lines.{IsStep, IsStuck, KnowsFault, MayBecome, WasRefused}
+use Rattle.im_dealing.specs.declared.errors.LineError.{LineError}
+use Rattle.im_dealing.specs.declared.errors.LineError.TheVariants.{DiskFault, Memory}
 use Rattle.im_digest.specs.Digests.{Hash}
 use Rattle.im_model.specs.History.{transaction_of}
 use Rattle.im_model.specs.declared.transactions.Transaction.{Transaction}
@@ -10,11 +14,7 @@ use Rattle.im_report.specs.Report.{Answered, IsAnswer, ReadsBy, ReadsFrom, floor
 use Rattle.im_script.specs.declared.commands.Command.{Command}
 use Rattle.im_script.specs.declared.commands.Command.TheVariants.{Link}
 use Rattle.im_script.specs.declared.commands.Line.{Line}
-use Rattle.im_session.proofs.GrowLemmas.{front_length, history_taken, transaction_at}
-use Rattle.im_session.specs.Lines.{IsStep, IsStuck, KnowsFault, MayBecome, WasRefused}
 use Rattle.im_session.specs.Statements.{HasCounted}
-use Rattle.im_session.specs.declared.errors.LineError.{LineError}
-use Rattle.im_session.specs.declared.errors.LineError.TheVariants.{DiskFault, Memory}
 use Rattle.std.proofs.lemmas.List.{take-map}
 use Rattle.im_store.proofs.GainLemmas.{gains_same, later_self}
 use Rattle.im_store.proofs.ProveLemmas.{transaction_front}

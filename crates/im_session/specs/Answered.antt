@@ -1,13 +1,13 @@
 -- What the answer of one command, or want of one, makes of a pass.
 use Rattle.std.specs.Prelude.{◌≡◌, ℕ, List}
+use Rattle.im_dealing.specs.Lines.{IsStep, IsStuck}
+use Rattle.im_dealing.specs.declared.answers.Answer.{Answer}
+use Rattle.im_dealing.specs.declared.errors.LineError.{LineError}
+use Rattle.im_dealing.specs.declared.errors.LineError.TheVariants as line
+use Rattle.im_dealing.specs.declared.errors.LineError.TheVariants.{Memory}
 use Rattle.im_digest.specs.Digests.{Hash}
 use Rattle.im_report.specs.Report.{Answered}
 use Rattle.im_script.specs.declared.commands.Command.{Command}
-use Rattle.im_session.specs.Lines.{IsStep, IsStuck}
-use Rattle.im_session.specs.declared.answers.Answer.{Answer}
-use Rattle.im_session.specs.declared.errors.LineError.{LineError}
-use Rattle.im_session.specs.declared.errors.LineError.TheVariants as line
-use Rattle.im_session.specs.declared.errors.LineError.TheVariants.{Memory}
 use Rattle.im_report.specs.Reads.{place_reply}
 use Rattle.im_report.specs.Statements.{conflict_reply, full_read_reply}
 use Rattle.im_store.specs.declared.errors.CommitError.{CommitError}

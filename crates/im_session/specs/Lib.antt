@@ -1,10 +1,3 @@
-pub mod Lines
 pub mod Answered
-pub mod Shown
 pub mod Statements
-pub mod Runs
-pub mod Dealing
-pub mod Gathered
-pub mod Phases
-pub mod Written
 pub mod Served

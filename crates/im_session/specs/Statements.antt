@@ -1,8 +1,6 @@
 -- What a statement reads of a session's pass, and asks for.
-use Rattle.std.specs.Prelude.{◌≡◌, ◌≤◌, ℕ, List, [], length, take, true, Ok}
-use Rattle.std.specs.List.{All}
+use Rattle.std.specs.Prelude.{◌≤◌, ℕ, [], length, take, Ok}
 use Rattle.im_sqlmodel.specs.Answers.{AnswerIs}
-use Rattle.im_sqlmodel.specs.Kept.{IsSqlKept}
 use Rattle.im_sqlmodel.specs.declared.answers.SqlOut.TheVariants as out
 use Rattle.im_sqlparse.specs.Formed.{IsStatement}
 use Rattle.im_sqlparse.specs.declared.statements.Form.{Form}
@@ -10,13 +8,7 @@ use Rattle.im_store.specs.Gains.{Gains}
 use Rattle.im_table.specs.Histories.{history_of}
 use Rattle.im_table.specs.Known.{KnownPass}
 use Rattle.im_table.specs.Passes.{Later}
-use Rattle.im_table.specs.declared.items.LogItem.{LogItem}
 use Rattle.im_tx.specs.Asked.{Asked}
-
--- what was found as the store was opened: its keys that begin with octet 00 are SQL's, and each item is marked
-pub record IsFoundKept (found : List LogItem) : Type 0 where
-  pub marked : All (λ item. item.found ≡ true) found
-  pub kept : IsSqlKept (history_of found)
 
 -- a line counted so many transactions behind an earlier moment of its pass, no fewer than the pass knew then to be durable, and has placed, linked and told
 -- nothing since

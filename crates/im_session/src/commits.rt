@@ -6,8 +6,8 @@ ghost use Rattle.im_report.specs.Reads.{place_reply};
 ghost use Rattle.im_session.specs.Answered.{IsAnswered, IsRefusal, IsUnanswered, fault_of};
 ghost use Rattle.im_table.specs.Passes.{IsPassOf, Later};
 
-use crate::answers::Answer;
-use crate::errors::LineError;
+use im_dealing::answers::Answer;
+use im_dealing::errors::LineError;
 use im_digest::Hash32;
 use im_disk::disk::Disk;
 use im_draft::drafts::Draft;

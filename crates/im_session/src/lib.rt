@@ -2,17 +2,11 @@
 //! replies of a phase are written in the script's order as soon as all its sessions have ended.
 #![tactic(auto)]
 
-mod answers;
 mod commits;
-mod dealing;
-pub mod errors;
 mod lines;
 mod phase;
 mod play;
 mod proofs;
 mod reads;
 pub mod serve;
-pub mod sessions;
 mod statements;
-mod tidings;
-mod writing;

@@ -1,21 +1,21 @@
 // The lines of one session.
 ghost use Rattle.std.specs.Prelude.{◌≡◌, List, [], ◌∷◌, ◌++◌, map, None, Some, IfErr, IfOk, OnOk};
 ghost use mathlib.Core.List.{IsPrefix};
+ghost use Rattle.im_dealing.specs.Found.{IsFoundKept};
+ghost use Rattle.im_dealing.specs.Lines.{IsShowing, IsStep, IsStuck};
+ghost use Rattle.im_dealing.specs.Runs.{HasRun, IsDone, IsReady, start_of};
 ghost use Rattle.im_report.specs.Report.{answer_line, Answered as TheAnswered};
 ghost use Rattle.im_session.specs.Answered.{IsAnswered, IsUnanswered};
-ghost use Rattle.im_session.specs.Lines.{IsShowing, IsStep, IsStuck};
-ghost use Rattle.im_session.specs.Runs.{HasRun, IsDone, IsReady, start_of};
-ghost use Rattle.im_session.specs.Statements.{IsFoundKept};
 ghost use Rattle.im_table.specs.Passes.{IsPassOf, Later};
 
-use crate::answers::Answer;
 use crate::commits::{answer_link, answer_set};
-use crate::errors::LineError;
 use crate::proofs::{answer_advance, answer_header, answer_item, answer_prove, answer_state};
 use crate::reads::{answer_get, answer_history, answer_scan};
-use crate::sessions::Session;
 use crate::statements::answer_sql;
-use crate::tidings::Tidings;
+use im_dealing::answers::Answer;
+use im_dealing::errors::LineError;
+use im_dealing::sessions::Session;
+use im_dealing::tidings::Tidings;
 use im_digest::Hash32;
 use im_disk::disk::Disk;
 use im_edge::clock::Clock;
@@ -24,6 +24,7 @@ use im_octet::octets::Octets;
 use im_report::replies::reply_text;
 use im_script::commands::{Command, Line};
 use im_sqllaw::law::SqlKeys;
+use im_sqlmodel::engine::SqlEngine;
 use im_store::store::Store;
 use im_table::pass::Pass;
 use im_table::tip_name::TipName;
@@ -32,9 +33,10 @@ use std::mem;
 use std::sync::Wait;
 
 // Answers a command.
-fn answer<H: Hash32, D: Disk, C: Clock, N: TipName, R: Wait>(
+fn answer<H: Hash32, D: Disk, C: Clock, N: TipName, Q: SqlEngine, R: Wait>(
     rt: &R,
     alloc: Global,
+    engine: &Q,
     store: &Store<'_, H, D, C, SqlKeys, N>,
     pass: &mut Pass,
     command: Command,
@@ -54,7 +56,7 @@ fn answer<H: Hash32, D: Disk, C: Clock, N: TipName, R: Wait>(
             answer_link(rt, alloc, store, pass, count)
         }
         Command::Sql { text } => {
-            let answer = answer_sql(rt, alloc, store, pass, text.as_str());
+            let answer = answer_sql(rt, alloc, engine, store, pass, text.as_str());
             drop(text);
             answer
         }
@@ -101,9 +103,10 @@ fn show<H: Hash32, D: Disk, C: Clock, N: TipName, R: Wait>(
 
 // Runs a line, puts the text of its reply behind the others, and tells how many transactions are durable as the reply does. After an error
 // no text was put for it.
-fn run_line<H: Hash32, D: Disk, C: Clock, N: TipName, R: Wait>(
+fn run_line<H: Hash32, D: Disk, C: Clock, N: TipName, Q: SqlEngine, R: Wait>(
     rt: &R,
     alloc: Global,
+    engine: &Q,
     store: &Store<'_, H, D, C, SqlKeys, N>,
     pass: &mut Pass,
     texts: &mut Vec<Octets>,
@@ -121,7 +124,7 @@ fn run_line<H: Hash32, D: Disk, C: Clock, N: TipName, R: Wait>(
         return Err(LineError::Memory);
     };
     let Line { session, command } = line;
-    let Answer { number, reply } = answer(rt, alloc, store, pass, command)?;
+    let Answer { number, reply } = answer(rt, alloc, engine, store, pass, command)?;
     tidings.tell(rt, number);
     let text = reply_text(alloc, session.as_slice(), number, reply.as_slice())?;
     texts.push_reserved(Octets::from_vec(text));
@@ -129,10 +132,11 @@ fn run_line<H: Hash32, D: Disk, C: Clock, N: TipName, R: Wait>(
 }
 
 // Runs lines in order, up to one that gets no reply. The gate is called before and after each of them.
-fn run_lines<H: Hash32, D: Disk, C: Clock, G: Gate, N: TipName, R: Wait>(
+fn run_lines<H: Hash32, D: Disk, C: Clock, G: Gate, N: TipName, Q: SqlEngine, R: Wait>(
     rt: &R,
     alloc: Global,
     gate: &G,
+    engine: &Q,
     store: &Store<'_, H, D, C, SqlKeys, N>,
     tidings: &Tidings,
     session: &mut Session,
@@ -153,6 +157,7 @@ fn run_lines<H: Hash32, D: Disk, C: Clock, G: Gate, N: TipName, R: Wait>(
         let ran = run_line(
             rt,
             alloc,
+            engine,
             store,
             &mut session.pass,
             &mut session.texts,
@@ -172,10 +177,11 @@ fn run_lines<H: Hash32, D: Disk, C: Clock, G: Gate, N: TipName, R: Wait>(
 }
 
 /// Runs the lines of a session in a phase.
-pub(crate) fn run_session<H: Hash32, D: Disk, C: Clock, G: Gate, N: TipName, R: Wait>(
+pub(crate) fn run_session<H: Hash32, D: Disk, C: Clock, G: Gate, N: TipName, Q: SqlEngine, R: Wait>(
     rt: &R,
     alloc: Global,
     gate: &G,
+    engine: &Q,
     store: &Store<'_, H, D, C, SqlKeys, N>,
     tidings: &Tidings,
     session: &mut Session,
@@ -184,5 +190,5 @@ pub(crate) fn run_session<H: Hash32, D: Disk, C: Clock, G: Gate, N: TipName, R: 
     ensures done { IsDone N.digest N.table session.old session.new }
 {
     let lines = mem::replace(&mut session.lines, Vec::new(alloc));
-    session.why = run_lines(rt, alloc, gate, store, tidings, session, lines);
+    session.why = run_lines(rt, alloc, gate, engine, store, tidings, session, lines);
 }

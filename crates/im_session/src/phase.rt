@@ -1,17 +1,18 @@
 // Sessions on threads of their own, beside a linker and an indexer.
 ghost use Rattle.std.specs.Prelude.{◌≡◌, ◌<◌, ℕ, false, length, slice_index_or};
 ghost use Rattle.std.specs.List.{All};
-ghost use Rattle.im_session.specs.Phases.{AreDone};
-ghost use Rattle.im_session.specs.Runs.{IsDone, IsHelper, IsIdle, IsReady};
+ghost use Rattle.im_dealing.specs.Phases.{AreDone};
+ghost use Rattle.im_dealing.specs.Runs.{IsDone, IsHelper, IsIdle, IsReady};
 
 use crate::lines::run_session;
-use crate::sessions::Session;
-use crate::tidings::Tidings;
+use im_dealing::sessions::Session;
+use im_dealing::tidings::Tidings;
 use im_digest::Hash32;
 use im_disk::disk::Disk;
 use im_edge::clock::Clock;
 use im_edge::gate::Gate;
 use im_sqllaw::law::SqlKeys;
+use im_sqlmodel::engine::SqlEngine;
 use im_store::store::Store;
 use im_table::pass::Pass;
 use im_table::tip_name::TipName;
@@ -118,11 +119,13 @@ fn run_sessions<
     C: Clock + Send,
     G: Gate + Sync,
     N: TipName + Send + Sync,
+    Q: SqlEngine + Sync,
     R: Threads + Wait + Sync,
 >(
     rt: &R,
     alloc: Global,
     gate: &G,
+    engine: &Q,
     store: &Store<'_, H, D, C, SqlKeys, N>,
     tidings: &Tidings,
     sessions: &mut [Session],
@@ -138,7 +141,7 @@ fn run_sessions<
         &|_, session: &mut Session|
             requires { IsReady N.found N.table session.old }
             ensures { IsDone N.digest N.table session.old session.new }
-        { run_session(rt, alloc, gate, store, tidings, session) },
+        { run_session(rt, alloc, gate, engine, store, tidings, session) },
     );
 }
 
@@ -149,11 +152,13 @@ fn run_all<
     C: Clock + Send,
     G: Gate + Sync,
     N: TipName + Send + Sync,
+    Q: SqlEngine + Sync,
     R: Threads + Wait + Sync,
 >(
     rt: &R,
     alloc: Global,
     gate: &G,
+    engine: &Q,
     store: &Store<'_, H, D, C, SqlKeys, N>,
     tidings: &Tidings,
     mut sessions: Vec<Session>,
@@ -161,7 +166,15 @@ fn run_all<
     requires { All (IsReady N.found N.table) sessions.items }
     ensures { AreDone N.digest N.table sessions.items result.items }
 {
-    run_sessions(rt, alloc, gate, store, tidings, sessions.as_mut_slice());
+    run_sessions(
+        rt,
+        alloc,
+        gate,
+        engine,
+        store,
+        tidings,
+        sessions.as_mut_slice(),
+    );
     tidings.end(rt);
     sessions
 }
@@ -213,11 +226,13 @@ pub(crate) fn run_phase<
     C: Clock + Send,
     G: Gate + Sync,
     N: TipName + Send + Sync,
+    Q: SqlEngine + Sync,
     R: Threads + Wait + Sync,
 >(
     rt: &R,
     alloc: Global,
     gate: &G,
+    engine: &Q,
     store: &Store<'_, H, D, C, SqlKeys, N>,
     sessions: Vec<Session>,
     helpers: Helpers,
@@ -241,7 +256,7 @@ pub(crate) fn run_phase<
         &|sessions: Vec<Session>| -> Vec<Session>
             requires { All (IsReady N.found N.table) sessions.items }
             ensures { AreDone N.digest N.table sessions.items result.items }
-        { run_all(rt, alloc, gate, store, tidings, sessions) },
+        { run_all(rt, alloc, gate, engine, store, tidings, sessions) },
         sessions,
     );
     (sessions, linker, indexer)

@@ -1,19 +1,19 @@
 // One phase: the lines are dealt, the sessions run, and their passes are taken in again.
 ghost use Rattle.std.specs.Prelude.{◌≡◌, ◌≢◌, ◌≤◌, ◌<◌, ◌+◌, AllPairs, List, [], length, map, vec_capacity, IfOk, OnErr};
 ghost use Rattle.std.specs.List.{All, flat_map};
+ghost use Rattle.im_dealing.specs.Dealing.{AreNamed};
+ghost use Rattle.im_dealing.specs.Found.{IsFoundKept};
+ghost use Rattle.im_dealing.specs.Gathered.{AreGathered, AreHanded, IsWholePass};
+ghost use Rattle.im_dealing.specs.Phases.{EndsPhase, IsPlayed, KnowsFaults};
+ghost use Rattle.im_dealing.specs.Runs.{IsReady};
+ghost use Rattle.im_dealing.specs.Written.{first_texts, stop_of};
 ghost use Rattle.im_report.specs.Outcomes.{Outcome};
 ghost use Rattle.im_report.specs.Sessions.{phase_text};
-ghost use Rattle.im_session.specs.Dealing.{AreDealt, AreNamed};
-ghost use Rattle.im_session.specs.Phases.{EndsPhase, IsPlayed, KnowsFaults};
-ghost use Rattle.im_session.specs.Gathered.{AreGathered, AreHanded, IsWholePass};
-ghost use Rattle.im_session.specs.Runs.{IsReady};
-ghost use Rattle.im_session.specs.Statements.{IsFoundKept};
-ghost use Rattle.im_session.specs.Written.{first_texts, stop_of};
 ghost use Rattle.im_table.specs.Passes.{IsPassOf};
 
-use crate::dealing::{Dealt, deal};
 use crate::phase::{Helpers, run_phase};
-use crate::sessions::{Ended, Lines, Session, Texts};
+use im_dealing::dealing::{Room, room_for};
+use im_dealing::sessions::{Ended, Lines, Played, Session, Texts};
 use im_digest::Hash32;
 use im_disk::disk::Disk;
 use im_edge::clock::Clock;
@@ -21,50 +21,13 @@ use im_edge::gate::Gate;
 use im_octet::octets::Octets;
 use im_script::phases::Phase;
 use im_sqllaw::law::SqlKeys;
+use im_sqlmodel::engine::SqlEngine;
 use im_store::store::Store;
 use im_table::pass::Pass;
 use im_table::tip_name::TipName;
 use std::alloc::{AllocError, Global};
 use std::sync::Wait;
 use std::thread::Threads;
-
-/// What a phase came to.
-#[derive(Drop)]
-pub(crate) struct Played {
-    /// The number of each line's session, in the script's order.
-    pub(crate) order: Vec<u8>,
-    /// What each session left.
-    pub(crate) ended: Vec<Ended>,
-}
-
-// All the memory that a phase takes before its sessions begin.
-#[derive(Drop)]
-struct Room {
-    order: Vec<u8>,
-    lines: Vec<Lines>,
-    sessions: Vec<Session>,
-    ended: Vec<Ended>,
-}
-
-// Deals the lines, and takes room for the sessions and for what they leave.
-fn room_for(alloc: Global, names: &[Octets], phase: Phase) -> Result<Room, AllocError>
-    requires named { AreNamed names.now phase }
-    requires apart { AllPairs (λ a b. a ≢ b) names.now }
-    requires few { length names.now ≤ 8 }
-    ensures dealt { IfOk result (λ room. AreDealt names.now phase room.order.items room.lines.items) }
-    ensures none { IfOk result (λ room. (room.sessions.items ≡ []) × (room.ended.items ≡ [])) }
-    ensures room { IfOk result (λ room. (length names.now ≤ vec_capacity room.sessions) × (length names.now ≤ vec_capacity room.ended)) }
-{
-    let sessions = Vec::with_capacity(alloc, names.len())?;
-    let ended = Vec::with_capacity(alloc, names.len())?;
-    let Dealt { order, lines } = deal(alloc, names, phase)?;
-    Ok(Room {
-        order,
-        lines,
-        sessions,
-        ended,
-    })
-}
 
 // A session for each list of lines, with a pass split off the main one, which keeps the rest. It takes no memory.
 fn hand_out<H: Hash32, D: Disk, C: Clock, N: TipName>(
@@ -142,11 +105,13 @@ pub(crate) fn play<
     C: Clock + Send,
     G: Gate + Sync,
     N: TipName + Send + Sync,
+    Q: SqlEngine + Sync,
     R: Threads + Wait + Sync,
 >(
     rt: &R,
     alloc: Global,
     gate: &G,
+    engine: &Q,
     store: &Store<'_, H, D, C, SqlKeys, N>,
     main: &mut Pass,
     names: &[Octets],
@@ -180,7 +145,7 @@ pub(crate) fn play<
         indexer,
         links,
     };
-    let (sessions, linker, indexer) = run_phase(rt, alloc, gate, store, sessions, helpers);
+    let (sessions, linker, indexer) = run_phase(rt, alloc, gate, engine, store, sessions, helpers);
     store.end(main, linker);
     store.end(main, indexer);
     let ended = gather(store, main, sessions, run, ended);

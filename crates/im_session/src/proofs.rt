@@ -1,21 +1,21 @@
 //! Replies that show headers and proofs.
 
-ghost use Rattle.std.specs.Prelude.{◌≡◌, ◌≤◌, IfErr, IfNone, IfOk, IfSome, Ok};
+ghost use Rattle.std.specs.Prelude.{◌≡◌, IfErr, IfOk, Ok};
 ghost use Rattle.im_script.specs.declared.commands.Command.TheVariants as says;
 ghost use Rattle.im_session.specs.Answered.{IsAnswered, IsUnanswered};
-ghost use Rattle.im_session.specs.Shown.{IsRefusedBetween};
 ghost use Rattle.im_table.specs.Passes.{IsPassOf, Later};
 ghost use Rattle.im_wire.specs.Messages.{HasMessage};
 ghost use Rattle.im_wire.specs.Texts.{text};
 ghost use Rattle.im_wire.specs.declared.messages.Message.TheVariants as message;
 
-use crate::answers::Answer;
-use crate::errors::LineError;
+use im_dealing::answers::Answer;
+use im_dealing::errors::LineError;
+use im_dealing::proofs::{message_text, refused_between};
 use im_digest::Hash32;
 use im_disk::disk::Disk;
 use im_edge::clock::Clock;
 use im_header::alh;
-use im_report::replies::{beyond_text, header_shown, no_entry_text, order_text};
+use im_report::replies::{beyond_text, header_shown, no_entry_text};
 use im_sqllaw::law::SqlKeys;
 use im_store::answers::{Advance, ProvedEntry};
 use im_store::errors::{ItemError, ProveError};
@@ -23,33 +23,8 @@ use im_store::store::Store;
 use im_table::pass::Pass;
 use im_table::tip_name::TipName;
 use im_wire::messages::Message;
-use im_wire::writing::write;
 use std::alloc::{AllocError, Global};
 use std::sync::Wait;
-
-// The text of a message, which is read as that message again.
-fn message_text(alloc: Global, message: Message) -> Result<Vec<u8>, AllocError>
-    ensures text { IfOk result (λ octets. octets.items ≡ text message) }
-    ensures again { IfOk result (λ octets. HasMessage octets.items message) }
-{
-    let octets = write(alloc, &message);
-    drop(message);
-    octets
-}
-
-// The refusal of two numbers of transactions, or `None` where they are in order and the second is at most `count`.
-fn refused_between(alloc: Global, count: u64, s: u64, t: u64) -> Result<Option<Vec<u8>>, AllocError>
-    ensures refused { IfOk result (λ refused. IfSome refused (λ reply. IsRefusedBetween count s t reply.items)) }
-    ensures taken { IfOk result (λ refused. IfNone refused ((1 ≤ s) × (s ≤ t) × (t ≤ count))) }
-{
-    if s == 0 || t < s {
-        return Ok(Some(order_text(alloc, s, t)?));
-    }
-    if count < t {
-        return Ok(Some(beyond_text(alloc, count)?));
-    }
-    Ok(None)
-}
 
 // Numbers that were compared before are in order and durable: want of memory is the only error left.
 fn proved<T: Drop>(given: Result<T, ProveError>) -> Result<T, AllocError>

@@ -1,28 +1,25 @@
-ghost use Rattle.std.specs.Prelude.{◌≡◌, ◌≢◌, ◌<◌, ◌≤◌, AllPairs, List, [], length, vec_capacity};
-ghost use Rattle.std.specs.List.{All, flat_map};
-ghost use Rattle.im_report.specs.Outcomes.{Outcome};
+ghost use Rattle.std.specs.Prelude.{◌≡◌, ◌≢◌, ◌≤◌, AllPairs, [], length, vec_capacity};
+ghost use Rattle.im_dealing.specs.Dealing.{AreNamed};
+ghost use Rattle.im_dealing.specs.Found.{IsFoundKept};
+ghost use Rattle.im_dealing.specs.Gathered.{IsWholePass};
+ghost use Rattle.im_dealing.specs.Scripts.{RunsPhase, RunsPhases};
 ghost use Rattle.im_script.specs.Script.{lines_of, names_of};
-ghost use Rattle.im_session.specs.Dealing.{AreNamed};
-ghost use Rattle.im_session.specs.Gathered.{IsWholePass};
-ghost use Rattle.im_report.specs.Sessions.{phase_text};
-ghost use Rattle.im_session.specs.Phases.{EndsPhase};
-ghost use Rattle.im_session.specs.Statements.{IsFoundKept};
-ghost use Rattle.im_session.specs.Served.{EndsBy, RunsPhase, RunsPhases, Serves, WritesPhase};
-ghost use Rattle.im_session.specs.Written.{first_texts, stop_of};
+ghost use Rattle.im_session.specs.Served.{Serves};
 ghost use Rattle.im_store.specs.Names.{naming_of};
 
-use crate::errors::LineError;
-use crate::play::{Played, play};
-use crate::writing::{Front, front_of, write_front};
+use crate::play::play;
+use im_dealing::errors::{LineError, Stopped};
+use im_dealing::writing::tell;
 use im_digest::Hash32;
 use im_disk::disk::Disk;
 use im_edge::clock::Clock;
 use im_edge::gate::Gate;
-use im_edge::sink::{Sink, WriteFault};
+use im_edge::sink::Sink;
 use im_octet::octets::Octets;
 use im_script::phases::{Phase, Script};
 use im_sqllaw::law::SqlKeys;
 use im_sqllaw::laws::a_list_is_kept;
+use im_sqlmodel::engine::SqlEngine;
 use im_store::opened::Opened;
 use im_store::store::Store;
 use im_table::pass::Pass;
@@ -30,15 +27,6 @@ use im_table::tip_name::TipName;
 use std::alloc::Global;
 use std::sync::Wait;
 use std::thread::Threads;
-
-/// How a script ended before its end.
-#[derive(Clone, Copy, Debug, PartialEq, Eq)]
-pub enum Stopped {
-    /// A line got no reply: the first of its phase, in the script's order, for this reason.
-    Line(LineError),
-    /// The sink failed at the replies of a phase whose lines were all answered.
-    Write,
-}
 
 /// What a script left: the disk and the clock, and why it ended before its end, if it did.
 #[derive(Drop)]
@@ -51,30 +39,6 @@ pub struct Served<D, C> {
     pub end: Result<(), Stopped>,
 }
 
-// Writes what a phase was answered, up to the first line without a reply, which ends the script.
-fn tell<K: Sink>(sink: &mut K, played: Played) -> Result<(), Stopped>
-    requires few { All (λ number. number < length played.ended.items) played.order.items × (length played.ended.items ≤ 8) }
-    ensures wrote { (outcomes : List Outcome) → flat_map (λ text. text) (first_texts played.order.items played.ended.items) ≡ phase_text outcomes
-        → EndsPhase outcomes (stop_of played.order.items played.ended.items)
-        → WritesPhase outcomes (K.written sink.old) (K.written sink.new) (K.faults sink.old) (K.faults sink.new) result }
-    ensures by { EndsBy (stop_of played.order.items played.ended.items) result }
-{
-    let Played { order, ended } = played;
-    let lines = order.as_slice();
-    let sessions = ended.as_slice();
-    let Front { count, why } = front_of(lines, sessions);
-    let wrote = write_front(sink, &lines[..count], sessions);
-    drop(order);
-    drop(ended);
-    match why {
-        Some(why) => Err(Stopped::Line(why)),
-        None => match wrote {
-            Ok(()) => Ok(()),
-            Err(WriteFault) => Err(Stopped::Write),
-        },
-    }
-}
-
 // Runs one phase, and writes its replies. A phase without lines takes nothing.
 fn run_one<
     H: Hash32 + Sync,
@@ -83,11 +47,13 @@ fn run_one<
     C: Clock + Send,
     G: Gate + Sync,
     N: TipName + Send + Sync,
+    Q: SqlEngine + Sync,
     R: Threads + Wait + Sync,
 >(
     rt: &R,
     alloc: Global,
     gate: &G,
+    engine: &Q,
     sink: &mut K,
     store: &Store<'_, H, D, C, SqlKeys, N>,
     main: &mut Pass,
@@ -107,7 +73,9 @@ fn run_one<
     if phase.as_slice().is_empty() {
         return Ok(());
     }
-    match play(rt, alloc, gate, store, main, names, run, phase, links) {
+    match play(
+        rt, alloc, gate, engine, store, main, names, run, phase, links,
+    ) {
         Ok(played) => tell(sink, played),
         Err(_) => Err(Stopped::Line(LineError::Memory)),
     }
@@ -121,11 +89,13 @@ fn run_phases<
     C: Clock + Send,
     G: Gate + Sync,
     N: TipName + Send + Sync,
+    Q: SqlEngine + Sync,
     R: Threads + Wait + Sync,
 >(
     rt: &R,
     alloc: Global,
     gate: &G,
+    engine: &Q,
     sink: &mut K,
     store: &Store<'_, H, D, C, SqlKeys, N>,
     main: &mut Pass,
@@ -143,7 +113,7 @@ fn run_phases<
     let mut run = [0u64; 8];
     for phase in phases {
         run_one(
-            rt, alloc, gate, sink, store, main, &names, &mut run, phase, links,
+            rt, alloc, gate, engine, sink, store, main, &names, &mut run, phase, links,
         )?;
     }
     Ok(())
@@ -163,11 +133,13 @@ pub fn serve<
     C: Clock + Send,
     G: Gate + Sync,
     N: TipName + Send + Sync,
+    Q: SqlEngine + Sync,
     R: Threads + Wait + Sync,
 >(
     rt: &R,
     alloc: Global,
     gate: &G,
+    engine: &Q,
     sink: &mut K,
     opened: Opened<'_, H, D, C, SqlKeys>,
     mut passes: Vec<Pass>,
@@ -185,7 +157,9 @@ pub fn serve<
     ensures served { Serves D.told D.faults links (naming_of H.digest D.told D.faults C.constant C.given opened.entry) script.phases.items (K.written sink.old) (K.written sink.new) (K.faults sink.old) (K.faults sink.new) result.disk (C.constant result.clock) (C.given result.clock) result.end }
 {
     let (store, mut main) = opened.named::<N>();
-    let end = run_phases(rt, alloc, gate, sink, &store, &mut main, script, links);
+    let end = run_phases(
+        rt, alloc, gate, engine, sink, &store, &mut main, script, links,
+    );
     passes.push_reserved(main);
     let (disk, clock) = store.close(passes);
     a_list_is_kept();

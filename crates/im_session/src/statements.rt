@@ -1,35 +1,33 @@
 //! Replies to statements of SQL.
 
 ghost use Rattle.std.specs.Prelude.{◌≡◌, ◌≤◌, ℕ, List, IfErr, IfOk, Ok};
+ghost use Rattle.im_dealing.specs.Found.{IsFoundKept};
 ghost use Rattle.im_script.specs.declared.commands.Command.TheVariants.{Sql};
 ghost use Rattle.im_session.specs.Answered.{IsAnswered, IsOfStatement, IsStatementRefusal, IsUnanswered, fault_of};
-ghost use Rattle.im_session.specs.Statements.{AsksBehind, HasCounted, IsFoundKept};
+ghost use Rattle.im_session.specs.Statements.{AsksBehind, HasCounted};
+ghost use Rattle.im_seated_book.specs.Seats.{MayBePlaced};
+ghost use Rattle.im_sqllaw.specs.Law.{KeepsSql};
 ghost use Rattle.im_sqlparse.specs.Formed.{IsStatement};
 ghost use Rattle.im_sqlparse.specs.Statements.{statement_of};
-ghost use Rattle.im_sqlparse.specs.declared.errors.SqlSyntax.{SqlSyntax};
 ghost use Rattle.im_sqlparse.specs.declared.statements.Form.{Form as TheForm};
-ghost use Rattle.im_sqlreply.specs.Replies.{syntax_reply};
-ghost use Rattle.im_sqlreply.specs.Shown.{IsShown};
 ghost use Rattle.im_table.specs.Known.{KnownPass};
 ghost use Rattle.im_table.specs.Passes.{IsPassOf, Later};
 
-use crate::answers::Answer;
-use crate::errors::LineError;
 use crate::reads::keys_at;
+use im_dealing::answers::Answer;
+use im_dealing::errors::LineError;
+use im_dealing::statements::{shown, unread};
 use im_digest::Hash32;
 use im_disk::disk::Disk;
 use im_edge::clock::Clock;
 use im_report::statements::{conflict_text, full_read_text, tx_read_text};
-use im_sql::run::run;
 use im_sqllaw::law::SqlKeys;
 use im_sqllaw::laws::{a_list_is_kept, a_statement_asks_since, a_statement_may_be_placed};
-use im_sqlmodel::answers::{SqlError, SqlOut};
-use im_sqlparse::errors::ParseError;
+use im_sqlmodel::answers::SqlOut;
+use im_sqlmodel::engine::SqlEngine;
 use im_sqlparse::laws::what_is_read_is_formed;
 use im_sqlparse::parse;
 use im_sqlparse::statements::Stmt;
-use im_sqlreply::errors::{error_text, syntax_text};
-use im_sqlreply::rows::rows_text;
 use im_store::errors::CommitError;
 use im_store::store::Store;
 use im_table::pass::Pass;
@@ -81,13 +79,13 @@ fn commit_read<H: Hash32, D: Disk, C: Clock, N: TipName, R: Wait>(
 ) -> Result<Answer, LineError>
     requires pass { IsPassOf N.table pass.old }
     requires asks { (said : TheForm) × AsksBehind pass.old said read prepared }
+    requires law { MayBePlaced KeepsSql pass.old.view.seen prepared }
     ensures later { Later pass.old pass.new }
     ensures ok { IfOk result (λ answer. (first : KnownPass) (text : List ℕ) (said : TheForm) → HasCounted first pass.old read → statement_of text ≡ Ok said
         → AsksBehind pass.old said read prepared → IsAnswered N.digest first pass.new (Sql text) answer) }
     ensures err { IfErr result (λ why. (first : KnownPass) (text : List ℕ) (said : TheForm) → HasCounted first pass.old read → statement_of text ≡ Ok said
         → AsksBehind pass.old said read prepared → IsUnanswered first pass.new (Sql text) why) }
 {
-    a_statement_may_be_placed();
     a_statement_asks_since();
     match store.commit(rt, alloc, pass, prepared) {
         Ok(receipt) => {
@@ -100,35 +98,11 @@ fn commit_read<H: Hash32, D: Disk, C: Clock, N: TipName, R: Wait>(
     }
 }
 
-// The reply of an answer that asks for nothing to be placed; want of memory has none.
-fn shown(alloc: Global, answer: Result<SqlOut, SqlError>) -> Result<Vec<u8>, LineError>
-    requires shown { (prepared : _) → answer ≡ Ok (SqlOut.Write prepared) → ⊥ }
-    ensures ok { IfOk result (λ reply. IsShown answer reply.items) }
-    ensures err { IfErr result (λ why. why ≡ LineError.Memory) }
-{
-    let reply = reply_to(alloc, &answer);
-    drop(answer);
-    reply
-}
-
-// The reply to a statement that got this answer, as above.
-fn reply_to(alloc: Global, answer: &Result<SqlOut, SqlError>) -> Result<Vec<u8>, LineError>
-    requires shown { (prepared : _) → answer.now ≡ Ok (SqlOut.Write prepared) → ⊥ }
-    ensures ok { IfOk result (λ reply. IsShown answer.now reply.items) }
-    ensures err { IfErr result (λ why. why ≡ LineError.Memory) }
-{
-    match answer {
-        Ok(SqlOut::Rows(rows)) => Ok(rows_text(alloc, rows)?),
-        Ok(SqlOut::Nothing) => Ok(Vec::from_slice(alloc, b"none")?),
-        Ok(SqlOut::Write(_)) => unreachable!(),
-        Err(error) => Ok(error_text(alloc, error)?),
-    }
-}
-
 // Answers a statement whose line counted so many transactions.
-fn answer_statement<H: Hash32, D: Disk, C: Clock, N: TipName, R: Wait>(
+fn answer_statement<H: Hash32, D: Disk, C: Clock, N: TipName, Q: SqlEngine, R: Wait>(
     rt: &R,
     alloc: Global,
+    engine: &Q,
     store: &Store<'_, H, D, C, SqlKeys, N>,
     pass: &mut Pass,
     stmt: &Stmt,
@@ -147,7 +121,8 @@ fn answer_statement<H: Hash32, D: Disk, C: Clock, N: TipName, R: Wait>(
     let keys = keys_at(rt, alloc, store, pass, number)?;
     store.show(rt, pass);
     a_list_is_kept();
-    let answer = run(alloc, &keys, stmt, number);
+    a_statement_may_be_placed::<Q>();
+    let answer = engine.run(alloc, &keys, stmt, number);
     drop(keys);
     match answer {
         Ok(SqlOut::Write(prepared)) => commit_read(rt, alloc, store, pass, prepared, number),
@@ -160,10 +135,11 @@ fn answer_statement<H: Hash32, D: Disk, C: Clock, N: TipName, R: Wait>(
 
 /// Answers `sql`: what the statement answers behind all that is durable as the line began. Where it is to write, a transaction is committed under its
 /// preconditions. Where another session has written a key since that they guard, that is told, and nothing is tried again. What a statement costs is said at
-/// `im_sql::run`, and at the store's `snapshot` and `commit`; it also waits for the book's lock once.
-pub(crate) fn answer_sql<H: Hash32, D: Disk, C: Clock, N: TipName, R: Wait>(
+/// its engine, and at the store's `snapshot` and `commit`; it also waits for the book's lock once.
+pub(crate) fn answer_sql<H: Hash32, D: Disk, C: Clock, N: TipName, Q: SqlEngine, R: Wait>(
     rt: &R,
     alloc: Global,
+    engine: &Q,
     store: &Store<'_, H, D, C, SqlKeys, N>,
     pass: &mut Pass,
     text: &str,
@@ -179,7 +155,7 @@ pub(crate) fn answer_sql<H: Hash32, D: Disk, C: Clock, N: TipName, R: Wait>(
     match parsed {
         Ok(stmt) => {
             what_is_read_is_formed();
-            let answer = answer_statement(rt, alloc, store, pass, &stmt, number);
+            let answer = answer_statement(rt, alloc, engine, store, pass, &stmt, number);
             drop(stmt);
             answer
         }
@@ -188,20 +164,5 @@ pub(crate) fn answer_sql<H: Hash32, D: Disk, C: Clock, N: TipName, R: Wait>(
             drop(parsed);
             unread(alloc, error, number)
         }
-    }
-}
-
-// The answer to a text that isn't read as a statement; want of memory has none.
-fn unread(alloc: Global, error: ParseError, number: u64) -> Result<Answer, LineError>
-    ensures number { IfOk result (λ answer. answer.number ≡ number) }
-    ensures ok { IfOk result (λ answer. (fault : SqlSyntax) × (error ≡ ParseError.Syntax fault) × (answer.reply.items ≡ syntax_reply fault)) }
-    ensures err { IfErr result (λ why. why ≡ LineError.Memory) }
-{
-    match error {
-        ParseError::Syntax(fault) => {
-            let reply = syntax_text(alloc, fault)?;
-            Ok(Answer { number, reply })
-        }
-        ParseError::Memory => Err(LineError::Memory),
     }
 }

@@ -6,7 +6,7 @@ use Rattle.std.specs.List.{AllByRecursion, IsAmong}
 use Rattle.std.specs.Ordering.{is_lt}
 use Rattle.std.specs.declared.cmp.Ordering.{Ordering}
 use Rattle.std.specs.declared.cmp.Ordering.TheVariants.{Less, Equal, Greater}
-use Rattle.im_versions.proofs.ListLemmas.{All-among, among-cons, among-first, among-rest}
+use Rattle.im_versions.proofs.ListLemmas.{All-among, among-cons, among-first, among-left, among-nil, among-rest, among-right}
 use Rattle.im_versions.proofs.ScanLemmas.{below-turned, same-key}
 use Rattle.im_sqltype.specs.Orders.{octets_cmp}
 use Rattle.im_sqlmodel.specs.Sorts.{put_sorted, sorted}
@@ -17,22 +17,6 @@ use Rattle.im_catalog.proofs.HistoryLemmas.{among-either}
 use Rattle.im_sql.proofs.CountLemmas.{fewer, few-by}
 use Rattle.im_sql.proofs.NextLemmas.{Apart, all-put, all-of}
 use Rattle.im_sql.proofs.ShortLemmas.{Below, below-all}
-
-pub among-nil : {A : Type 0} (v : A) → IsAmong [] v → ⊥
-among-nil v m = (let few : m.0 < 0 = m.1.0 in omega (arith, few))
-
--- ---- one list behind another
-
-pub among-left : {A : Type 0} (xs ys : List A) (v : A) → IsAmong xs v → IsAmong (xs ++ ys) v
-among-left [] ys v m = absurd (among-nil v m)
-among-left {A} (x ∷ xs) ys v m = elim (among-cons x xs v m) [
-  | inl same ↦ subst (IsAmong (x ∷ (xs ++ ys))) (sym same) (among-first x (xs ++ ys))
-  | inr rest ↦ among-rest x (xs ++ ys) v (among-left xs ys v rest)
-]
-
-pub among-right : {A : Type 0} (xs ys : List A) (v : A) → IsAmong ys v → IsAmong (xs ++ ys) v
-among-right [] ys v m = m
-among-right (x ∷ xs) ys v m = among-rest x (xs ++ ys) v (among-right xs ys v m)
 
 -- ---- what a function makes of each
 

@@ -15,7 +15,6 @@ pub mod AmongLemmas
 pub mod GroupLemmas
 pub mod NumberLemmas
 pub mod EntryLemmas
-pub mod CarriedLemmas
 pub mod TurnLemmas
 pub mod UnderLemmas
 pub mod TestLemmas

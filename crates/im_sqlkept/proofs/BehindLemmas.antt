@@ -14,7 +14,7 @@ use Rattle.im_draft.specs.Drafts.{entry_of}
 use Rattle.im_sqlmodel.specs.Creations.{draft_written}
 use Rattle.im_sqlmodel.specs.Rows.{IsLiveAs}
 use Rattle.im_sqlmodel.specs.declared.written.Written.{Written}
-use Rattle.im_sql.proofs.CarriedLemmas.{versions-pushed}
+use Rattle.im_sqlmodel.proofs.CarriedLemmas.{versions-pushed}
 
 -- ---- what is written at a key
 

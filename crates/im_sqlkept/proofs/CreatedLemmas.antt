@@ -27,7 +27,7 @@ use Rattle.im_catalog.proofs.FoundLemmas.{entry-is}
 use Rattle.im_catalog.proofs.TableLemmas.{one-table, table-read, tid-cut}
 use Rattle.im_sqlkept.proofs.BehindLemmas.{written_at, Once, last_behind, last-pushed, live-still, live-new, live-by, IsLiveBy}
 use Rattle.im_sql.specs.Writing.{table_entries}
-use Rattle.im_sql.proofs.CarriedLemmas.{taken-front, push-grows}
+use Rattle.im_sqlmodel.proofs.CarriedLemmas.{taken-front, push-grows}
 
 pub created-once : (t : Table) → Once (table_entries t)
 created-once t = (((λ same. (let zero_one : 0 ≡ 1 = ap (λ (k : List ℕ). get_or k 1 0) same in omega (arith, zero_one))), tt), (tt, tt))

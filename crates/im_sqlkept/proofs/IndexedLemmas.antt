@@ -27,7 +27,7 @@ use Rattle.im_catalog.proofs.FoundLemmas.{entry-is}
 use Rattle.im_catalog.proofs.OneLemmas.{one-index-version}
 use Rattle.im_catalog.proofs.TableLemmas.{tid-cut}
 use Rattle.im_sql.specs.Writing.{written_at}
-use Rattle.im_sql.proofs.CarriedLemmas.{taken-front, push-grows}
+use Rattle.im_sqlmodel.proofs.CarriedLemmas.{taken-front, push-grows}
 use Rattle.im_sql.proofs.WorkLemmas.{index-of}
 use Rattle.im_sqlkept.proofs.BehindLemmas.{Once, last_behind, last-pushed, live-still, live-new, live-by, IsLiveBy}
 use Rattle.im_sqlkept.proofs.GuardLemmas.{guarded-same}

@@ -32,7 +32,7 @@ use Rattle.im_plan.proofs.EntryRowLemmas.{one-index, text-same, entry-live}
 use Rattle.im_plan.proofs.ReachLemmas.{entry-parts}
 use Rattle.im_sql.specs.Working.{holder}
 use Rattle.im_sql.specs.Writing.{written_at}
-use Rattle.im_sql.proofs.CarriedLemmas.{taken-front, push-grows}
+use Rattle.im_sqlmodel.proofs.CarriedLemmas.{taken-front, push-grows}
 use Rattle.im_sql.proofs.EntryLemmas.{same-numbers, row-alone}
 use Rattle.im_sql.proofs.NextLemmas.{apart-from, apart-one, key_in, find-some}
 use Rattle.im_sql.proofs.PutLemmas.{either, put-at}

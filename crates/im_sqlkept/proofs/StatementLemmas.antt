@@ -48,7 +48,7 @@ use Rattle.im_catalog.proofs.FrontLemmas.{among-kept}
 use Rattle.im_sql.proofs.AnswerLemmas.{refused}
 use Rattle.im_sql.specs.Writing.{written_at}
 use Rattle.im_sql.proofs.AmongLemmas.{among-map}
-use Rattle.im_sql.proofs.CarriedLemmas.{taken-front, kept-push}
+use Rattle.im_sqlmodel.proofs.CarriedLemmas.{taken-front, kept-push}
 use Rattle.im_sql.proofs.CountLemmas.{count-few, indexes-few}
 use Rattle.im_sql.proofs.CreateLemmas.{table-made, index-made}
 use Rattle.im_sql.proofs.HangLemmas.{nothing-of}

@@ -1,6 +1,6 @@
-//! What a store keeps. Each function does nothing, and its contract is the law.
+//! What keeps the keys SQL's. The function does nothing, and its contract is the law.
 
-ghost use Rattle.std.specs.Prelude.{◌≡◌, ◌≢◌, ◌≤◌, ◌++◌, ◌∷◌, [], ℕ, List, length, take, All, Ok};
+ghost use Rattle.std.specs.Prelude.{◌≡◌, ◌≤◌, ◌++◌, ◌∷◌, [], ℕ, List, length, take, Ok};
 ghost use Rattle.im_model.specs.History.{IsHistory};
 ghost use Rattle.im_model.specs.declared.transactions.Transaction.{Transaction};
 ghost use Rattle.im_versions.specs.Admits.{Admits};
@@ -8,7 +8,7 @@ ghost use Rattle.im_tx.specs.Asked.{Asked};
 ghost use Rattle.im_sqlparse.specs.Formed.{IsStatement};
 ghost use Rattle.im_sqlparse.specs.declared.statements.Form.{Form};
 ghost use Rattle.im_sqlmodel.specs.Answers.{AnswerIs};
-ghost use Rattle.im_sqlmodel.specs.Kept.{IsSqlKept, SqlKept};
+ghost use Rattle.im_sqlmodel.specs.Kept.{IsSqlKept};
 ghost use Rattle.im_sqlmodel.specs.declared.answers.SqlOut.TheVariants as out;
 
 /// What a statement asks for keeps the keys SQL's, where it is placed behind a history that admits it: one that begins
@@ -17,19 +17,4 @@ pub fn a_statement_keeps()
     ensures { (history : List Transaction) (tx : Transaction) (n : ℕ) (said : Form) (asked : Asked) → IsHistory (history ++ tx ∷ []) → IsSqlKept history
         → n ≤ length history → IsStatement said → AnswerIs (take n history) said (Ok (out.Write asked))
         → Admits history asked.pres → tx.entries ≡ asked.entries → IsSqlKept (history ++ tx ∷ []) }
-{}
-
-/// Entries without a key that begins with octet 00 keep the keys SQL's.
-pub fn other_keys_keep()
-    ensures { (history : List Transaction) (tx : Transaction) → IsSqlKept history
-        → All (λ e. (rest : List ℕ) → e.key ≢ 0 ∷ rest) tx.entries → IsSqlKept (history ++ tx ∷ []) }
-{}
-
-/// So a store keeps them: where they were SQL's as it was opened, they are, behind each transaction of either kind.
-pub fn a_store_keeps()
-    ensures statement { (found : ℕ) (history : List Transaction) (tx : Transaction) (n : ℕ) (said : Form) (asked : Asked) → found ≤ length history
-        → IsHistory (history ++ tx ∷ []) → SqlKept found history → n ≤ length history → IsStatement said → AnswerIs (take n history) said (Ok (out.Write asked))
-        → Admits history asked.pres → tx.entries ≡ asked.entries → SqlKept found (history ++ tx ∷ []) }
-    ensures others { (found : ℕ) (history : List Transaction) (tx : Transaction) → found ≤ length history → SqlKept found history
-        → All (λ e. (rest : List ℕ) → e.key ≢ 0 ∷ rest) tx.entries → SqlKept found (history ++ tx ∷ []) }
 {}

@@ -15,22 +15,18 @@ ghost use Rattle.im_table.specs.Histories.{history_of, GoesOn};
 ghost use Rattle.im_table.specs.declared.items.LogItem.{LogItem};
 ghost use Rattle.im_tx.specs.Asked.{Asked};
 
-use im_sqlkept::laws::a_store_keeps;
+use im_sqlmodel::engine::SqlEngine;
 
 /// Entries without a key that begins with octet 00 may be placed behind whatever was seen.
 pub fn other_entries_may_be_placed()
     ensures { (seen : List LogItem) (asked : Asked) → All (λ e. (rest : List ℕ) → e.key ≢ 0 ∷ rest) asked.entries → MayBePlaced KeepsSql seen asked }
-{
-    a_store_keeps();
-}
+{}
 
-/// And so may what a statement asks for behind the first transactions of what was seen.
-pub fn a_statement_may_be_placed()
+/// And so may what a statement asks for behind the first transactions of what was seen: it rests on what any engine keeps (`SqlEngine::keeps`).
+pub fn a_statement_may_be_placed<Q: SqlEngine>()
     ensures { (seen : List LogItem) (n : ℕ) (said : Form) (asked : Asked) → n ≤ length seen → IsStatement said → AnswerIs (take n (history_of seen)) said (Ok (out.Write asked))
         → MayBePlaced KeepsSql seen asked }
-{
-    a_store_keeps();
-}
+{}
 
 /// A statement asks for no key to be live or missing: each precondition is that a key wasn't written behind what was read.
 pub fn a_statement_asks_since()

@@ -11,7 +11,7 @@ use Rattle.im_octet.proofs.Common.{some-is}
 use Rattle.im_model.specs.declared.transactions.Transaction.{Transaction}
 use Rattle.im_versions.specs.Versions.{last_version, is_live, is_of, begins_with, IsBelow, IsScan}
 use Rattle.im_versions.specs.declared.versions.Version.{Version}
-use Rattle.im_versions.proofs.ListLemmas.{All-among, among-cons, among-first, among-filter, rising-unique}
+use Rattle.im_versions.proofs.ListLemmas.{All-among, among-cons, among-filter, among-first, among-left, among-nil, among-right, rising-unique}
 use Rattle.im_versions.proofs.VersionLemmas.{last-of-key, below-strict, scan-unique}
 use Rattle.im_sqltype.specs.Texts.{row_text}
 use Rattle.im_sqltype.specs.declared.values.Value.{Value}
@@ -33,7 +33,7 @@ use Rattle.im_plan.proofs.BestLemmas.{at-any}
 use Rattle.im_plan.proofs.EntryLemmas.{zip-at, zip-length}
 use Rattle.im_sql.specs.Sounding.{kind_shown, under, said_by, entries_of, IsTableVersion, IsFound, IsFoundBy, AreFound, IsCountShown, AreNumbered, AreGapless, IsMarked, IsSoundAlone, IsMarkShown, AreEntered, IsAll, Hang, AreByNumber}
 use Rattle.im_sql.specs.declared.found.TableFound.{TableFound}
-use Rattle.im_sql.proofs.AmongLemmas.{among-nil, among-left, among-right, among-map, map-among, among-flat, flat-among, among-sorted, sorted-among, sorted-rising, by_key, no-more, up_to, length-up_to, among-up_to}
+use Rattle.im_sql.proofs.AmongLemmas.{among-map, map-among, among-flat, flat-among, among-sorted, sorted-among, sorted-rising, by_key, no-more, up_to, length-up_to, among-up_to}
 use Rattle.im_sql.proofs.CountLemmas.{few-by}
 use Rattle.im_sql.proofs.EntryLemmas.{entries-apart}
 use Rattle.im_sql.proofs.GroupLemmas.{AreTold, InGroup, groups, hits, apart-both, one-sizes, groups-few, hit-groups}

@@ -10,7 +10,7 @@ use Rattle.im_model.specs.History.{no_transaction}
 use Rattle.im_model.specs.declared.transactions.Transaction.{Transaction}
 use Rattle.im_versions.specs.Versions.{all_versions, versions_of, last_version, is_of, begins_with}
 use Rattle.im_versions.specs.declared.versions.Version.{Version}
-use Rattle.im_versions.proofs.ListLemmas.{All-among, among-cons, among-filter, among-first}
+use Rattle.im_versions.proofs.ListLemmas.{All-among, among-cons, among-filter, among-first, among-left, among-nil, among-right}
 use Rattle.im_versions.proofs.VersionLemmas.{last-of-key, versions-within}
 use Rattle.im_octet.proofs.Common.{some-is}
 use Rattle.im_sqltype.specs.Orders.{octets_cmp}
@@ -36,8 +36,8 @@ use Rattle.im_plan.proofs.EntryRowLemmas.{one-index, text-same}
 use Rattle.im_sql.specs.Sounding.{said_by, entries_of, IsMarked, IsMarkShown, AreByNumber}
 use Rattle.im_sqlsound.specs.Stepping.{live_last, live_of, live_own, own_entries, IsPartBy, AreParts, AreOwnEntries, IsKnownKey, AreMarked, StoodOf, StandsOf}
 use Rattle.im_sql.specs.declared.found.TableFound.{TableFound}
-use Rattle.im_sql.proofs.AmongLemmas.{among-nil, among-left, among-right, among-map, map-among, among-flat, flat-among, among-sorted, sorted-among, by_key}
-use Rattle.im_sql.proofs.CarriedLemmas.{entry-zero, versions-pushed}
+use Rattle.im_sql.proofs.AmongLemmas.{among-map, map-among, among-flat, flat-among, among-sorted, sorted-among, by_key}
+use Rattle.im_sqlmodel.proofs.CarriedLemmas.{entry-zero, versions-pushed}
 use Rattle.im_sql.proofs.EntryLemmas.{same-numbers, row-alone}
 use Rattle.im_sqlsound.proofs.StepLemmas.{IsLeft, IsNew, entry-told, last-new, either, table-still, table-back, index-still, index-back, step-sound}
 

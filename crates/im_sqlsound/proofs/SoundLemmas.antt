@@ -10,7 +10,7 @@ use Rattle.im_octet.proofs.Common.{some-is}
 use Rattle.im_model.specs.declared.transactions.Transaction.{Transaction}
 use Rattle.im_versions.specs.Versions.{last_version, last_number, is_live, is_written, is_of, versions_of, begins_with, IsScan}
 use Rattle.im_versions.specs.declared.versions.Version.{Version}
-use Rattle.im_versions.proofs.ListLemmas.{All-among, among-first}
+use Rattle.im_versions.proofs.ListLemmas.{All-among, among-first, among-left, among-nil, among-right}
 use Rattle.im_versions.proofs.VersionLemmas.{last-of-key}
 use Rattle.im_sqltype.specs.declared.values.Value.{Value}
 use Rattle.im_sqlmodel.specs.Keys.{tables_key, table_prefix, indexes_prefix, index_prefix, rows_prefix, mark_key}
@@ -28,7 +28,7 @@ use Rattle.im_plan.proofs.BestLemmas.{at-any}
 use Rattle.im_plan.proofs.EntryLemmas.{zip-among-left}
 use Rattle.im_sql.specs.Sounding.{kind_shown, under, said_by, entries_of, IsTableVersion, IsFound, AreFound, IsCountShown, IsMarked, IsSoundAlone, IsMarkShown, AreSettled, Hang, AreByNumber}
 use Rattle.im_sql.specs.declared.found.TableFound.{TableFound}
-use Rattle.im_sql.proofs.AmongLemmas.{among-nil, among-left, among-right, among-map, map-among, among-flat, flat-among, among-sorted, sorted-among, by_key, none-out, one-of}
+use Rattle.im_sql.proofs.AmongLemmas.{among-map, map-among, among-flat, flat-among, among-sorted, sorted-among, by_key, none-out, one-of}
 use Rattle.im_sql.proofs.GroupLemmas.{AreTold, InGroup, groups, sizes-one, groups-few, groups-hit}
 use Rattle.im_sql.proofs.NextLemmas.{Apart, apart-from, pairs-from, all-of, find-none, find-some}
 use Rattle.im_sqlsound.proofs.ShownLemmas.{shown-live, live-shown, live-under, under-shown, table-live, table-found, index-live, index-found, row-live, row-found, sum-groups}

@@ -6,7 +6,7 @@ use Rattle.std.specs.List.{IsAmong, last_or}
 use Rattle.im_model.specs.declared.transactions.Transaction.{Transaction}
 use Rattle.im_versions.specs.Versions.{last_version, last_number, version_number, versions_in, versions_of, is_of, is_written, begins_with}
 use Rattle.im_versions.specs.declared.versions.Version.{Version}
-use Rattle.im_versions.proofs.ListLemmas.{All-among, among-filter, last-among}
+use Rattle.im_versions.proofs.ListLemmas.{All-among, among-filter, among-right, last-among}
 use Rattle.im_versions.proofs.VersionLemmas.{versions_in-number}
 use Rattle.im_sqltype.specs.Texts.{row_text}
 use Rattle.im_sqltype.specs.declared.values.Value.{Value}
@@ -19,8 +19,7 @@ use Rattle.im_sqlmodel.specs.declared.tables.SqlIndex.{SqlIndex}
 use Rattle.im_sqlmodel.specs.declared.tables.Table.{Table}
 use Rattle.im_sqlmodel.specs.declared.written.Written.{Written}
 use Rattle.im_catalog.proofs.FoundLemmas.{begins-is}
-use Rattle.im_sql.proofs.AmongLemmas.{among-right}
-use Rattle.im_sql.proofs.CarriedLemmas.{taken-front, push-grows, versions-pushed}
+use Rattle.im_sqlmodel.proofs.CarriedLemmas.{taken-front, push-grows, versions-pushed}
 
 -- ---- what its own keys say
 

@@ -1,6 +1,5 @@
 //! Sessions of a script, through the top call: that they run side by side, and that what they place is told once each.
 
-use im_app::status::{Done, Status};
 use im_app::top::top;
 use im_digest::Sum;
 use im_disk::memory::MemDisk;
@@ -9,6 +8,8 @@ use im_edge::gate::{Gate, Point};
 use im_edge::keeper::MemKeeper;
 use im_edge::sink::Writing;
 use im_edge::source::Reading;
+use im_sqlengine::engine::Engine;
+use im_status::status::{Done, Status};
 use std::alloc::Global;
 use std::sync::Wait;
 use std::sync::atomic::{AtomicBool, Ordering};
@@ -93,6 +94,7 @@ fn ran<R: Threads + Wait + Sync>(
         alloc,
         words.as_slice(),
         &Sum,
+        &Engine,
         &mut Reading::new(script),
         &mut sink,
         MemDisk::new(alloc, Vec::new(alloc))?,

@@ -1,7 +1,7 @@
 //! How a run ended, and what the words of the command line ask for.
 
-use im_app::status::Status;
 use im_format::damages::{Damage, Difference};
+use im_status::status::Status;
 use im_words::{Link, Request, WordsError, read_words};
 use std::alloc::{AllocError, Global};
 use std::test::Fail;

@@ -1,5 +1,5 @@
 -- Lists that a test keeps whole or empties, members of lists, and lists in strictly rising order.
-use Rattle.std.proofs.Common.{◌≡◌, ◌<◌, ◌≤◌, ℕ, suc, zero, Bool, true, false, cond, List, [], ◌∷◌, length, get_or, take, drop, refl, arith, ap, subst, ◌∙◌, sym, inl, inr, ◌⊎◌, Some, None, Option}
+use Rattle.std.proofs.Common.{◌≡◌, ◌<◌, ◌≤◌, ℕ, suc, zero, Bool, true, false, cond, List, [], ◌∷◌, ◌++◌, length, get_or, take, drop, refl, arith, ap, subst, ◌∙◌, sym, inl, inr, ◌⊎◌, Some, None, Option}
 use Rattle.std.specs.List.{All, AllPairs, IsAmong, filter, insert, last_or}
 use Rattle.std.proofs.lemmas.List.{get_or_default}
 use Rattle.std.proofs.lemmas.List.Elements.{All-append, All-cons, All-drop, All-filter, All-take, filter_passes}
@@ -31,6 +31,23 @@ among-first x xs = (0, (omega arith, refl))
 -- what stands behind the first element is a member
 pub among-rest : {X : Type 0} (x : X) (xs : List X) (v : X) → IsAmong xs v → IsAmong (x ∷ xs) v
 among-rest x xs v (i, rest) = (suc i, (let within : i < length xs = rest.0 in omega arith, rest.1))
+
+-- the empty list has none
+pub among-nil : {X : Type 0} (v : X) → IsAmong [] v → ⊥
+among-nil v m = (let few : m.0 < 0 = m.1.0 in omega (arith, few))
+
+-- members of a list are members of it with another behind it
+pub among-left : {X : Type 0} (xs ys : List X) (v : X) → IsAmong xs v → IsAmong (xs ++ ys) v
+among-left [] ys v m = absurd (among-nil v m)
+among-left {X} (x ∷ xs) ys v m = elim (among-cons x xs v m) [
+  | inl same ↦ subst (IsAmong (x ∷ (xs ++ ys))) (sym same) (among-first x (xs ++ ys))
+  | inr rest ↦ among-rest x (xs ++ ys) v (among-left xs ys v rest)
+]
+
+-- and of it behind another
+pub among-right : {X : Type 0} (xs ys : List X) (v : X) → IsAmong ys v → IsAmong (xs ++ ys) v
+among-right [] ys v m = m
+among-right (x ∷ xs) ys v m = among-rest x (xs ++ ys) v (among-right xs ys v m)
 
 -- what holds of each element holds of a member
 pub All-among : {X : Type 0} (P : X → Type 0) (xs : List X) (v : X) → All P xs → IsAmong xs v → P v

@@ -5,9 +5,10 @@ use Rattle.im_script.specs.declared.commands.Line.{Line}
 use Rattle.im_script.proofs.Unique.{script-unique}
 use Rattle.im_verify.specs.Judged.{IsVerified, kept_texts, up_to_fork}
 use Rattle.im_gen.specs.Generator.{accepted_of, placed_of, script_text}
-use Rattle.im_app.specs.GeneratedLines.{script_lines}
-use Rattle.im_app.specs.Runs.{HasOneSession, IsGiven}
-use Rattle.im_app.proofs.GrammarLemmas.{script-is}
+use Rattle.im_status.specs.GeneratedLines.{script_lines}
+use Rattle.im_status.specs.Scripts.{IsGiven}
+use Rattle.im_status.proofs.GrammarLemmas.{script-is}
+use Rattle.im_app.specs.Runs.{HasOneSession}
 use Rattle.im_app.proofs.GeneratedLemmas.{linked-all, one-script}
 use Rattle.im_app.proofs.generate.generated.Goals as goal
 

@@ -6,8 +6,8 @@ use Rattle.im_table.specs.Histories.{history_of}
 use Rattle.im_app.proofs.FoundLemmas.{whole-low, whole-taken}
 use Rattle.im_app.proofs.run.judge.Goals as goal
 
-pub kept-judged-requires : goal.kept-judged-requires
-kept-judged-requires g c =
+pub judge-judged-requires : goal.judge-judged-requires
+judge-judged-requires g c =
     let shown = c.in_ok-keys.ensures in
     (history_of c.args.opened.now.found, shown.0, whole-low c.args.opened.now.found c.in_ok-keys.count shown.1)
 
@@ -15,12 +15,12 @@ pub returns-clause-kept : goal.returns-clause-kept
 returns-clause-kept g c =
     let shown = c.in_ok-keys.ensures in
     let found = c.args.opened.now.found in
-    subst (λ (h : List Transaction). OnOk c.kept-judged.result (IsSqlKept h)) (whole-taken found c.in_ok-keys.count shown.1)
-    (c.kept-judged.ensures.kept (history_of found) shown.0 (whole-low found c.in_ok-keys.count shown.1))
+    subst (λ (h : List Transaction). OnOk c.judge-judged.result (IsSqlKept h)) (whole-taken found c.in_ok-keys.count shown.1)
+    (c.judge-judged.ensures.kept (history_of found) shown.0 (whole-low found c.in_ok-keys.count shown.1))
 
 pub returns-clause-not_kept : goal.returns-clause-not_kept
 returns-clause-not_kept g c = λ tx is.
     let shown = c.in_ok-keys.ensures in
     let found = c.args.opened.now.found in
     subst (λ (h : List Transaction). IsFirstUnsound h tx) (whole-taken found c.in_ok-keys.count shown.1)
-    (c.kept-judged.ensures.not_kept (history_of found) shown.0 (whole-low found c.in_ok-keys.count shown.1) tx is)
+    (c.judge-judged.ensures.not_kept (history_of found) shown.0 (whole-low found c.in_ok-keys.count shown.1) tx is)

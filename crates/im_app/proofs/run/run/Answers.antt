@@ -11,13 +11,14 @@ use Rattle.im_model.specs.declared.transactions.Transaction.{Transaction}
 use Rattle.im_mtree.specs.Checks.{first_fail}
 use Rattle.im_script.specs.declared.commands.Line.{Line}
 use Rattle.im_script.proofs.Unique.{script-unique}
-use Rattle.im_app.specs.Fates.{HasRunFate}
-use Rattle.im_app.specs.Runs.{HasOneSession, IsGiven}
-use Rattle.im_app.specs.Statuses.{EndsReading, EndsWriting}
-use Rattle.im_app.specs.declared.status.Status.{Status}
-use Rattle.im_app.specs.declared.status.Status.TheVariants as the
+use Rattle.im_status.specs.Fates.{HasRunFate}
+use Rattle.im_status.specs.Scripts.{IsGiven}
+use Rattle.im_status.specs.Statuses.{EndsReading, EndsWriting}
+use Rattle.im_status.specs.declared.status.Status.{Status}
+use Rattle.im_status.specs.declared.status.Status.TheVariants as the
+use Rattle.im_app.specs.Runs.{HasOneSession}
 use Rattle.im_sqlmodel.specs.Kept.{IsFirstUnsound, IsSqlKept}
-use Rattle.im_app.proofs.FateLemmas.{Ends, ends-other, fate, reading-not-given, reading-run, unread-told, writing-run}
+use Rattle.im_status.proofs.FateLemmas.{Ends, ends-other, fate, reading-not-given, reading-run, unread-told, writing-run}
 use Rattle.im_app.proofs.FoundLemmas.{front-kept}
 use Rattle.im_app.proofs.RunLemmas.{alone-same, by-writing, front-told, given-not, if-told, part-told, reading-for, read-told, same-found, whole-told}
 use Rattle.im_app.proofs.run.run.Goals as goal

@@ -1,4 +1,6 @@
 use Rattle.std.proofs.Common.{◌≡◌, length, ap, arith, inl, inr, refl, sym, ◌∙◌, subst, Option, Err, Some}
+use Rattle.im_dealing.specs.Found.{IsFoundKept}
+use Rattle.im_dealing.specs.declared.errors.LineError.TheVariants as fails
 use Rattle.im_digest.specs.Digests.{Hash}
 use Rattle.im_disk.specs.Disk.{Told, after, seen}
 use Rattle.im_disk.specs.declared.calls.Call.TheVariants.{Synced}
@@ -8,11 +10,9 @@ use Rattle.im_format.specs.Damages.{image_checks}
 use Rattle.im_mtree.specs.Checks.{first_fail}
 use Rattle.im_opening.specs.Cut.{WasBegun}
 use Rattle.im_opening.specs.declared.errors.OpenError.{OpenError}
-use Rattle.im_session.specs.Statements.{IsFoundKept}
-use Rattle.im_session.specs.declared.errors.LineError.TheVariants as fails
 use Rattle.im_store.specs.Names.{Naming, naming_of}
+use Rattle.im_status.specs.Statuses.{status_by}
 use Rattle.im_app.specs.Runs.{opening_error}
-use Rattle.im_app.specs.Statuses.{status_by}
 use Rattle.im_app.proofs.FoundLemmas.{opened-keeps}
 use Rattle.im_app.proofs.RunLemmas.{damage-by, if-told, opening-by, same-found}
 use Rattle.im_app.proofs.ServedLemmas.{ran-alone, ran-constant, ran-device, ran-disk, ran-ends, ran-front, ran-grows, ran-keeps, ran-no-unkept, ran-once, ran-over, ran-part, ran-report, ran-sink, ran-undamaged, ran-unharmed, ran-write}

@@ -5,11 +5,11 @@ use Rattle.im_words.proofs.FormLemmas.{form_asks_so, show_asks, verify_asks}
 use Rattle.im_words.proofs.GenLemmas.{gen_asks_so}
 use Rattle.im_words.specs.Command.{AreWordsRefused}
 use Rattle.im_words.specs.Meaning.{AsksGen, AsksRun, AsksShow, AsksVerify}
+use Rattle.im_status.specs.Statuses.{EndsGenerated, EndsShow, EndsVerify}
+use Rattle.im_status.specs.declared.status.Status.{Status}
+use Rattle.im_status.specs.declared.status.Status.TheVariants as the
+use Rattle.im_status.proofs.FateLemmas.{ends-other}
 use Rattle.im_app.specs.Generated.{WritesGenerated, WritesGeneratedPart}
-use Rattle.im_app.specs.Statuses.{EndsGenerated, EndsShow, EndsVerify}
-use Rattle.im_app.specs.declared.status.Status.{Status}
-use Rattle.im_app.specs.declared.status.Status.TheVariants as the
-use Rattle.im_app.proofs.FateLemmas.{ends-other}
 use Rattle.im_app.proofs.RunLemmas.{alone-same, same-found, takes-none, usage-found}
 use Rattle.im_app.proofs.top.top.Goals as goal
 

@@ -1,6 +1,8 @@
 use Rattle.std.proofs.Common.{List, ℕ, ◌≡◌, ◌≢◌, ◌∷◌, All, map, sym, subst}
 use Rattle.std.proofs.lemmas.List.Elements.{All-map}
 use Rattle.std.proofs.lemmas.Result.{IfErr-weaker, IfOk-weaker}
+use Rattle.im_dealing.specs.declared.errors.LineError.{LineError}
+use Rattle.im_dealing.specs.declared.errors.LineError.TheVariants.{Memory}
 use Rattle.im_octet.proofs.Common.{if-err}
 use Rattle.im_draft.specs.Drafts.{entry_of, AreEntries, AreFree}
 use Rattle.im_draft.specs.declared.drafts.Draft.{Draft}
@@ -8,8 +10,6 @@ use Rattle.im_model.specs.declared.entries.Entry.{Entry}
 use Rattle.im_script.specs.declared.commands.Command.TheVariants.{Set}
 use Rattle.im_session.proofs.CommitLemmas.{error_unanswered, receipt_answered, receipt_unanswered, refusal_answered}
 use Rattle.im_session.specs.Answered.{IsUnanswered}
-use Rattle.im_session.specs.declared.errors.LineError.{LineError}
-use Rattle.im_session.specs.declared.errors.LineError.TheVariants.{Memory}
 use Rattle.im_table.specs.Known.{KnownPass}
 use Rattle.im_session.proofs.commits.commit.Goals as goal
 

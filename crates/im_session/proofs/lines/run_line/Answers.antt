@@ -1,10 +1,10 @@
 use Rattle.std.proofs.Common.{◌≡◌, ◌++◌, ◌∷◌, [], refl, rules}
+use Rattle.im_dealing.specs.Lines.{IsStuck}
+use Rattle.im_dealing.specs.declared.errors.LineError.TheVariants.{Memory}
 use Rattle.im_octet.proofs.Common.{if-err}
 use Rattle.im_report.specs.Report.{Answered, answer_line}
 use Rattle.im_session.proofs.ShowLemmas.{shown_unanswered}
 use Rattle.im_session.specs.Answered.{as_answered}
-use Rattle.im_session.specs.Lines.{IsStuck}
-use Rattle.im_session.specs.declared.errors.LineError.TheVariants.{Memory}
 use Rattle.im_store.proofs.GainLemmas.{gains_same, later_self}
 use Rattle.im_session.proofs.lines.run_line.Goals as goal
 

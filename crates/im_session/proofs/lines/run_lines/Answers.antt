@@ -1,14 +1,14 @@
 use Rattle.std.proofs.Common.{◌≡◌, ◌++◌, ◌∷◌, [], ◌∙◌, ℕ, List, length, Result, OnOk, refl, ap, sym, subst, append_assoc}
 use Rattle.std.specs.Prelude.{IfErr}
+use Rattle.im_dealing.proofs.GatherLemmas.{all_of}
+use Rattle.im_dealing.proofs.LineLemmas.{pass_later, run_cut, run_more, run_whole}
+use Rattle.im_dealing.proofs.RunLemmas.{run_none}
+use Rattle.im_dealing.specs.Lines.{IsStep, IsStuck}
+use Rattle.im_dealing.specs.Runs.{Start, start_of}
+use Rattle.im_dealing.specs.declared.errors.LineError.{LineError}
 use Rattle.im_digest.specs.Digests.{Hash}
 use Rattle.im_report.specs.Report.{Answered, answer_line}
 use Rattle.im_script.specs.declared.commands.Line.{Line}
-use Rattle.im_session.proofs.GatherLemmas.{all_of}
-use Rattle.im_session.proofs.LineLemmas.{pass_later, run_cut, run_more, run_whole}
-use Rattle.im_session.proofs.RunLemmas.{run_none}
-use Rattle.im_session.specs.Lines.{IsStep, IsStuck}
-use Rattle.im_session.specs.Runs.{Start, start_of}
-use Rattle.im_session.specs.declared.errors.LineError.{LineError}
 use Rattle.im_table.proofs.FrontLemmas.{prefix_self, prefix_trans}
 use Rattle.im_table.specs.Known.{KnownPass, TableId}
 use Rattle.im_session.proofs.lines.run_lines.Goals as goal

@@ -1,7 +1,7 @@
 use Rattle.std.proofs.Common.{◌≡◌, ◌++◌}
 use mathlib.Core.List.{IsPrefix}
-use Rattle.im_session.proofs.LineLemmas.{AreRun}
-use Rattle.im_session.specs.Runs.{start_of}
+use Rattle.im_dealing.proofs.LineLemmas.{AreRun}
+use Rattle.im_dealing.specs.Runs.{start_of}
 use Rattle.im_table.specs.Passes.{IsPassOf}
 use Rattle.im_session.proofs.lines.run_lines.Given as goal
 

@@ -1,6 +1,6 @@
 use Rattle.std.proofs.Common.{◌≡◌, List, Vec, Global, ap, subst}
+use Rattle.im_dealing.specs.Runs.{HasRun, start_of}
 use Rattle.im_script.specs.declared.commands.Line.{Line}
-use Rattle.im_session.specs.Runs.{HasRun, start_of}
 use Rattle.im_session.proofs.lines.run_session.Goals as goal
 
 pub returns : goal.returns

@@ -1,4 +1,4 @@
-use Rattle.im_session.specs.Runs.{IsIdle}
+use Rattle.im_dealing.specs.Runs.{IsIdle}
 use Rattle.im_session.proofs.phase.index_on.Given as goal
 
 abbrev pub invariant-loop : goal.invariant-loop

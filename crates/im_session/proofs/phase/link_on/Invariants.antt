@@ -1,4 +1,4 @@
-use Rattle.im_session.specs.Runs.{IsHelper}
+use Rattle.im_dealing.specs.Runs.{IsHelper}
 use Rattle.im_session.proofs.phase.link_on.Given as goal
 
 abbrev pub invariant-loop : goal.invariant-loop

@@ -1,9 +1,9 @@
 use Rattle.std.proofs.Common.{◌≡◌, ◌++◌, ◌∷◌, [], ◌∙◌, List, length, refl, ap, sym, subst, arith, append_assoc, length-append}
 use Rattle.std.specs.List.{All}
-use Rattle.im_session.proofs.GatherLemmas.{TakesIn, all_of, gathered_many, gathered_none, gathered_push, inside, middle}
-use Rattle.im_session.specs.Gathered.{AreGathered}
-use Rattle.im_session.specs.declared.sessions.Ended.{Ended}
-use Rattle.im_session.specs.declared.sessions.Session.{Session}
+use Rattle.im_dealing.proofs.GatherLemmas.{TakesIn, all_of, gathered_many, gathered_none, gathered_push, inside, middle}
+use Rattle.im_dealing.specs.Gathered.{AreGathered}
+use Rattle.im_dealing.specs.declared.sessions.Ended.{Ended}
+use Rattle.im_dealing.specs.declared.sessions.Session.{Session}
 use Rattle.im_table.specs.Known.{KnownPass, TableId}
 use Rattle.im_table.specs.Passes.{IsPassOf}
 use Rattle.im_session.proofs.play.gather.Goals as goal

@@ -1,6 +1,6 @@
 use Rattle.std.proofs.Common.{◌≡◌, ◌≤◌, ◌++◌, length}
 use Rattle.std.specs.Prelude.{vec_capacity}
-use Rattle.im_session.specs.Gathered.{AreGathered}
+use Rattle.im_dealing.specs.Gathered.{AreGathered}
 use Rattle.im_table.specs.Passes.{IsPassOf}
 use Rattle.im_session.proofs.play.gather.Given as goal
 

@@ -1,11 +1,11 @@
 use Rattle.std.proofs.Common.{◌≡◌, ◌+◌, ◌++◌, ◌∷◌, [], ◌∙◌, ℕ, List, length, map, refl, ap, sym, subst, arith, append_assoc, length-append}
 use Rattle.std.specs.List.{All}
 use Rattle.std.proofs.lemmas.List.{length-map}
+use Rattle.im_dealing.proofs.GatherLemmas.{BeginsAt, all_of, begun_push, handed_none, handed_push, inside}
+use Rattle.im_dealing.specs.Gathered.{AreHanded}
+use Rattle.im_dealing.specs.Runs.{IsReady}
+use Rattle.im_dealing.specs.declared.sessions.Session.{Session}
 use Rattle.im_script.specs.declared.commands.Line.{Line}
-use Rattle.im_session.proofs.GatherLemmas.{BeginsAt, all_of, begun_push, handed_none, handed_push, inside}
-use Rattle.im_session.specs.Gathered.{AreHanded}
-use Rattle.im_session.specs.Runs.{IsReady}
-use Rattle.im_session.specs.declared.sessions.Session.{Session}
 use Rattle.im_table.specs.Known.{KnownPass, TableId}
 use Rattle.im_session.proofs.play.hand_out.Goals as goal
 

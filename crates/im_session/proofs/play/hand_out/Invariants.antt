@@ -1,10 +1,10 @@
 use Rattle.std.proofs.Common.{◌≡◌, ◌≤◌, ◌++◌, length, map}
 use Rattle.std.specs.List.{All}
 use Rattle.std.specs.Prelude.{vec_capacity}
-use Rattle.im_session.proofs.GatherLemmas.{BeginsAt}
-use Rattle.im_session.specs.Gathered.{AreHanded}
-use Rattle.im_session.specs.Runs.{IsReady}
-use Rattle.im_session.specs.declared.sessions.Session.{Session}
+use Rattle.im_dealing.proofs.GatherLemmas.{BeginsAt}
+use Rattle.im_dealing.specs.Gathered.{AreHanded}
+use Rattle.im_dealing.specs.Runs.{IsReady}
+use Rattle.im_dealing.specs.declared.sessions.Session.{Session}
 use Rattle.im_session.proofs.play.hand_out.Given as goal
 
 abbrev pub invariant-loop-mine : goal.invariant-loop-mine

@@ -1,9 +1,9 @@
 use Rattle.std.proofs.Common.{◌≡◌, ◌∙◌, List, length, ap, arith, sym}
 use Rattle.std.proofs.lemmas.List.{length-map}
+use Rattle.im_dealing.proofs.GatherLemmas.{done_passes}
+use Rattle.im_dealing.specs.declared.sessions.Session.{Session}
 use Rattle.im_script.specs.declared.commands.Line.{Line}
-use Rattle.im_session.proofs.GatherLemmas.{done_passes}
 use Rattle.im_session.proofs.PlayedLemmas.{HasSteps, hands_many, order_few, plays, split_off, taken_in, whole_again}
-use Rattle.im_session.specs.declared.sessions.Session.{Session}
 use Rattle.im_table.specs.Known.{KnownPass, TableId}
 use Rattle.im_session.proofs.play.play.Given.{Over}
 use Rattle.im_session.proofs.play.play.Goals.{After-gather-ended}

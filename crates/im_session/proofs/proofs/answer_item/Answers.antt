@@ -1,7 +1,7 @@
 use Rattle.std.proofs.Common.{◌≤◌, ◌∙◌, ap, subst}
+use Rattle.im_dealing.proofs.ReadLemmas.{none-said, some-said}
 use Rattle.im_report.specs.Replies.{no_entry_reply}
 use Rattle.im_session.proofs.AnswerLemmas.{item_refused, item_told, looked, no_item_told}
-use Rattle.im_session.proofs.ReadLemmas.{none-said, some-said}
 use Rattle.im_store.proofs.GainLemmas.{gains_before, gains_same, later_self}
 use Rattle.im_store.specs.Reading.{ExplainsEntry}
 use Rattle.im_store.specs.declared.errors.ItemError.{ItemError}

@@ -1,8 +1,8 @@
 use Rattle.std.proofs.Common.{◌≤◌, arith, inl}
 use Rattle.std.proofs.lemmas.Result.{IfOk-at_ok}
+use Rattle.im_dealing.proofs.ReadLemmas.{none-said, some-said}
 use Rattle.im_proof.specs.declared.proofs.DualProof.{DualProof}
 use Rattle.im_session.proofs.AnswerLemmas.{looked, proof_answered, proof_told}
-use Rattle.im_session.proofs.ReadLemmas.{none-said, some-said}
 use Rattle.im_session.proofs.RefusedLemmas.{prove_short}
 use Rattle.im_store.proofs.GainLemmas.{gains_same, later_self}
 use Rattle.im_store.specs.Reading.{AnswersDual}

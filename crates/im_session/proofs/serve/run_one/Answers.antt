@@ -1,10 +1,10 @@
 use Rattle.std.proofs.Common.{rules, ◌≡◌, ◌∙◌, ℕ, List, [], length, sym, subst, Err, Ok}
 use Rattle.std.proofs.lemmas.List.{nil_from_length}
+use Rattle.im_dealing.proofs.ScriptLemmas.{ran_none, ran_played, ran_refused}
+use Rattle.im_dealing.specs.Scripts.{RunsPhase}
+use Rattle.im_dealing.specs.declared.errors.LineError.TheVariants.{Memory}
+use Rattle.im_dealing.specs.declared.errors.Stopped.TheVariants as stops
 use Rattle.im_script.specs.declared.commands.Line.{Line}
-use Rattle.im_session.proofs.ServeLemmas.{ran_none, ran_played, ran_refused}
-use Rattle.im_session.specs.Served.{RunsPhase}
-use Rattle.im_session.specs.declared.errors.LineError.TheVariants.{Memory}
-use Rattle.im_session.specs.declared.serve.Stopped.TheVariants as stops
 use Rattle.im_table.specs.Known.{KnownPass}
 use Rattle.im_session.proofs.serve.run_one.Goals as goal
 

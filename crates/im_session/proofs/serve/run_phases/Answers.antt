@@ -1,13 +1,13 @@
 use Rattle.std.proofs.Common.{rules, ◌≡◌, ◌≢◌, ◌++◌, ◌∷◌, [], ◌∙◌, ℕ, List, length, ap, sym, subst, arith, append_assoc, append-nil, Result, Err, Ok}
 use Rattle.std.specs.Prelude.{AllPairs}
 use Rattle.std.proofs.lemmas.List.{nil_from_length}
+use Rattle.im_dealing.proofs.ScriptLemmas.{phase_named, well_done, well_next, well_none, well_stops}
+use Rattle.im_dealing.specs.Dealing.{AreNamed}
+use Rattle.im_dealing.specs.Scripts.{RunsPhases}
+use Rattle.im_dealing.specs.declared.errors.Stopped.{Stopped}
 use Rattle.im_script.specs.Script.{lines_of, names_of}
 use Rattle.im_script.specs.declared.commands.Line.{Line}
 use Rattle.im_script.proofs.NameLemmas.{names-apart}
-use Rattle.im_session.proofs.ServeLemmas.{phase_named, well_done, well_next, well_none, well_stops}
-use Rattle.im_session.specs.Dealing.{AreNamed}
-use Rattle.im_session.specs.Served.{RunsPhases}
-use Rattle.im_session.specs.declared.serve.Stopped.{Stopped}
 use Rattle.im_session.proofs.serve.run_phases.Goals as goal
 
 -- the lines of each phase have names among those of the script, which are apart

@@ -1,6 +1,6 @@
 use Rattle.std.proofs.Common.{◌≡◌, ◌++◌}
-use Rattle.im_session.specs.Gathered.{IsWholePass}
-use Rattle.im_session.proofs.ServeLemmas.{GoesWell}
+use Rattle.im_dealing.proofs.ScriptLemmas.{GoesWell}
+use Rattle.im_dealing.specs.Gathered.{IsWholePass}
 use Rattle.im_session.proofs.serve.run_phases.Given as goal
 
 abbrev pub invariant-loop-phase : goal.invariant-loop-phase

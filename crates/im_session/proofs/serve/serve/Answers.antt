@@ -1,7 +1,7 @@
 use Rattle.std.proofs.Common.{◌≡◌, ◌++◌, ◌∷◌, [], ◌∙◌, List, length, ap, subst, sym, arith}
+use Rattle.im_dealing.specs.Found.{IsFoundKept}
 use Rattle.im_session.proofs.ServeLemmas.{serves_of}
 use Rattle.im_session.specs.Served.{Serves}
-use Rattle.im_session.specs.Statements.{IsFoundKept}
 use Rattle.im_sqllaw.specs.Law.{KeepsSql}
 use Rattle.im_store.specs.Closing.{ClosesStore}
 use Rattle.im_store.specs.Names.{Naming, naming_of}

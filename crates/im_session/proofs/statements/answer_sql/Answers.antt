@@ -1,14 +1,14 @@
 use Rattle.std.proofs.Common.{◌≡◌, ℕ, List, sym, subst, Result, Ok, Err}
 use Rattle.std.specs.Prelude.{IfOk}
 use Rattle.std.proofs.lemmas.Result.{IfErr-weaker, IfOk-weaker}
+use Rattle.im_dealing.specs.declared.answers.Answer.{Answer}
+use Rattle.im_dealing.specs.declared.errors.LineError.{LineError}
 use Rattle.im_digest.specs.Digests.{Hash}
 use Rattle.im_script.specs.declared.commands.Command.TheVariants.{Sql}
 use Rattle.im_session.proofs.ShowLemmas.{shown_unanswered}
 use Rattle.im_session.proofs.StatementLemmas.{counted_now, fault_answered}
 use Rattle.im_session.specs.Answered.{IsAnswered, IsUnanswered}
 use Rattle.im_session.specs.Statements.{HasCounted}
-use Rattle.im_session.specs.declared.answers.Answer.{Answer}
-use Rattle.im_session.specs.declared.errors.LineError.{LineError}
 use Rattle.im_sqlparse.specs.Statements.{Parses, statement_of}
 use Rattle.im_sqlparse.specs.declared.errors.ParseError.{ParseError}
 use Rattle.im_sqlparse.specs.declared.errors.ParseError.TheVariants.{Syntax}

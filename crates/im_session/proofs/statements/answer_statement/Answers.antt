@@ -1,13 +1,13 @@
 use Rattle.std.proofs.Common.{List, ℕ, ◌≡◌, take, subst, arith, Result, Ok}
 use Rattle.std.proofs.lemmas.Result.{IfErr-weaker, IfOk-weaker}
+use Rattle.im_dealing.specs.declared.errors.LineError.{LineError}
+use Rattle.im_dealing.specs.declared.errors.LineError.TheVariants.{Memory}
 use Rattle.im_octet.proofs.Common.{if-err}
 use Rattle.im_script.specs.declared.commands.Command.TheVariants.{Sql}
 use Rattle.im_session.proofs.ReadLemmas.{keys_length, later_thrice}
 use Rattle.im_session.proofs.StatementLemmas.{counted_on, counted_unanswered, read_history, read_kept, run_asks, run_said, seen_later, shown_answered, shown_other}
 use Rattle.im_session.specs.Answered.{IsUnanswered}
 use Rattle.im_session.specs.Statements.{HasCounted}
-use Rattle.im_session.specs.declared.errors.LineError.{LineError}
-use Rattle.im_session.specs.declared.errors.LineError.TheVariants.{Memory}
 use Rattle.im_sqlmodel.specs.declared.answers.SqlError.{SqlError}
 use Rattle.im_sqlmodel.specs.declared.answers.SqlOut.{SqlOut}
 use Rattle.im_sqlmodel.specs.declared.answers.SqlOut.TheVariants as out
@@ -48,6 +48,16 @@ commit_read-requires-clause-asks g c =
       run_asks c.keys_at.new.pass c.show.new.pass c.args.number c.in_ok-keys.keys c.args.stmt.now c.run-answer.result c.in-Ok-Write.prepared c.requires.formed
           c.in_ok-keys.ensures.keys c.show.ensures.later list.history kept c.run-answer.ensures is,
     )
+
+pub commit_read-requires-clause-law : goal.commit_read-requires-clause-law
+commit_read-requires-clause-law g c =
+    let list = c.show.ensures.list in
+    let found = c.requires.found in
+    let kept = c.a_list_is_kept.ensures g.N.TipName.found c.show.new.pass.view.seen list.goes_on found.marked list.history list.meets.law found.kept in
+    let is : c.run-answer.result ≡ Ok (out.Write c.in-Ok-Write.prepared) = cc (c.in-Ok-Write.is, c.in-Ok-Write.field-0-is) in
+    let asks = run_asks c.keys_at.new.pass c.show.new.pass c.args.number c.in_ok-keys.keys c.args.stmt.now c.run-answer.result c.in-Ok-Write.prepared c.requires.formed
+    c.in_ok-keys.ensures.keys c.show.ensures.later list.history kept c.run-answer.ensures is in
+    c.a_statement_may_be_placed.ensures c.show.new.pass.view.seen c.args.number c.args.stmt.now c.in-Ok-Write.prepared asks.seen asks.formed asks.asks
 
 pub returns-in-Ok-Write-clause-ok : goal.returns-in-Ok-Write-clause-ok
 returns-in-Ok-Write-clause-ok g c =

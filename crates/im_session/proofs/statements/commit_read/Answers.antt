@@ -1,23 +1,18 @@
 use Rattle.std.proofs.Common.{List, ℕ, ◌≡◌, length, take, sym, subst, arith, Ok}
 use Rattle.std.proofs.lemmas.Result.{IfErr-weaker, IfOk-weaker}
+use Rattle.im_dealing.specs.declared.errors.LineError.{LineError}
+use Rattle.im_dealing.specs.declared.errors.LineError.TheVariants.{Memory}
 use Rattle.im_octet.proofs.Common.{if-err}
 use Rattle.im_script.specs.declared.commands.Command.TheVariants.{Sql}
 use Rattle.im_session.proofs.CommitLemmas.{commit_unanswered, placed_unanswered}
 use Rattle.im_session.proofs.StatementLemmas.{asks_placed, of_statement, placed_answered, unplaced_answered}
 use Rattle.im_session.specs.Answered.{IsUnanswered}
 use Rattle.im_session.specs.Statements.{AsksBehind, HasCounted}
-use Rattle.im_session.specs.declared.errors.LineError.{LineError}
-use Rattle.im_session.specs.declared.errors.LineError.TheVariants.{Memory}
 use Rattle.im_sqlparse.specs.Statements.{statement_of}
 use Rattle.im_sqlparse.specs.declared.statements.Form.{Form}
 use Rattle.im_table.specs.Histories.{history_of}
 use Rattle.im_table.specs.Known.{KnownPass}
 use Rattle.im_session.proofs.statements.commit_read.Goals as goal
-
-pub commit-requires-clause-law : goal.commit-requires-clause-law
-commit-requires-clause-law g c =
-    let asks = c.requires.asks in
-    c.a_statement_may_be_placed.ensures c.args.pass.now.view.seen c.args.read asks.0 c.args.prepared asks.1.seen asks.1.formed asks.1.asks
 
 -- it was committed
 pub returns-in_err-reply-in-Ok-clause-err : goal.returns-in_err-reply-in-Ok-clause-err

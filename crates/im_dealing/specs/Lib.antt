@@ -1,0 +1,9 @@
+pub mod Lines
+pub mod Shown
+pub mod Found
+pub mod Runs
+pub mod Dealing
+pub mod Gathered
+pub mod Phases
+pub mod Written
+pub mod Scripts

@@ -1,0 +1,6 @@
+pub mod Damages
+pub mod Fates
+pub mod GeneratedLines
+pub mod Numbers
+pub mod Scripts
+pub mod Statuses
