@@ -31,12 +31,8 @@ use Rattle.im_machine.specs.Machines.{fresh, further, writes_due, Covers, Machin
 use Rattle.im_machine.specs.Steps.{Stages}
 use Rattle.im_machine.specs.declared.events.Event.TheVariants as on
 use Rattle.im_machine.specs.declared.outputs.Output.{Output}
-use Rattle.im_machine.proofs.StepLemmas.{done-behind}
+use Rattle.im_machine.proofs.StepLemmas.{done-behind, no_span}
 use Rattle.im_model.specs.declared.transactions.Transaction.{Transaction}
-
--- stands where a number is beyond the pieces
-abbrev no_span : Span
-no_span = record { file = 0; at = 0; octets = [] }
 
 -- the call of the next piece
 put-call : (k : Kept Recorded) → k.batch.written < length k.batch.pieces

@@ -21,6 +21,7 @@ use Rattle.im_machine.specs.declared.events.Event.TheVariants as on
 use Rattle.im_machine.specs.declared.outputs.Output.{Output}
 use Rattle.im_machine.specs.declared.questions.KeyQuestion.{KeyQuestion}
 use Rattle.im_machine.specs.declared.questions.KeyQuestion.TheVariants as reads
+use Rattle.im_machine.proofs.StepLemmas.{no_span}
 use Rattle.im_machine_laws.proofs.BatchLemmas.{records-there, HasRecords}
 use Rattle.im_machine_laws.proofs.ScanLemmas.{scan-there}
 use Rattle.im_machine_laws.proofs.Sound.{IsAsFar, IsHeld, IsSound}
@@ -41,10 +42,6 @@ placed-somehow hash m tx (Some why) = (_, _, (refl, refl))
 called-somehow : (call : Call) (fails : Bool) (m onward : Machine) → Answered (Calls call fails m onward)
 called-somehow call true m onward = (_, _, (refl, refl))
 called-somehow call false m onward = (_, _, (refl, refl))
-
--- stands where a number is beyond the writes
-abbrev no_span : Span
-no_span = record { file = 0; at = 0; octets = [] }
 
 written-somehow : (m : Machine) (fails : Bool) (p : Progress) → p.done < length (writes_due m p) → Answered (Writes m fails p)
 written-somehow m fails p less =
