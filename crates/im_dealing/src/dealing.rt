@@ -1,4 +1,5 @@
-// The lines of a phase are dealt to their sessions.
+//! The lines of a phase are dealt to their sessions.
+
 ghost use Rattle.std.specs.Prelude.{◌≡◌, ◌≢◌, ◌≤◌, AllPairs, [], length, map, IfOk, OnOk, true, vec_capacity};
 ghost use Rattle.std.specs.List.{All};
 ghost use Rattle.im_dealing.specs.Dealing.{AreDealt, AreNamed, IsAt};

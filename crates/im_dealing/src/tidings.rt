@@ -1,4 +1,4 @@
-// What the threads of a phase tell each other.
+//! What the threads of a phase tell each other.
 
 use std::sync::{Condvar, Mutex, Wait};
 

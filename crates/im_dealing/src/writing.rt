@@ -1,4 +1,5 @@
-// The replies of a phase are written, in the script's order.
+//! The replies of a phase are written, in the script's order.
+
 ghost use Rattle.std.specs.Prelude.{◌≡◌, ◌<◌, ◌≤◌, ◌+◌, ℕ, [], length, take, OnErr, OnOk, slice_index_or, List};
 ghost use Rattle.std.specs.List.{All, flat_map};
 ghost use Rattle.std.specs.Io.KnownBytes.{Appends};

@@ -1,8 +1,8 @@
 //! The timed index: the versions of a history's keys in sorted runs, which are merged as they grow, and snapshots that
 //! share them. A read finds its place in each run by halving, and the steps that it may take are said by clauses. The
-//! index and its snapshots are views of the history's keys; the same as one list is im_plain. A session
-//! reads the index itself; a snapshot is for a reader that goes on while transactions are taken, and tells all versions
-//! under a prefix too.
+//! index and its snapshots are views of the history's keys; the same as one list is im_plain. The book
+//! reads an index of its own, of keys alone, where it judges preconditions; all other reads go over a snapshot, which
+//! stays as it is while transactions are taken, and tells all versions under a prefix too.
 #![tactic(auto)]
 
 mod blocks;

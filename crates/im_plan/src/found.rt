@@ -76,7 +76,7 @@ fn keep_rows(scope: &[Nameable], condition: &Option<Boxed<Condition>>, rows: &mu
 }
 
 /// The rows of a table's history among the first `n` transactions that meet a condition, by rising primary key and
-/// number: by one `changes` of the table's rows, each judged once. Its only error is want of memory.
+/// number: what `history_of` reads, each row judged once. Its only error is want of memory.
 pub fn revisions_meeting<V: ChangesView>(
     alloc: Global,
     view: &V,

@@ -33,7 +33,7 @@ use std::alloc::{AllocError, Global};
 
 // ---- CREATE TABLE
 
-/// What CREATE TABLE answers where its line counts n transactions: it asks the view twice.
+/// What CREATE TABLE answers where its line counts n transactions: it asks the view at most twice.
 ///
 /// # Errors
 ///
@@ -186,7 +186,7 @@ fn table_written(alloc: Global, table: &Table) -> Result<Vec<Written>, AllocErro
 
 // ---- CREATE INDEX
 
-/// What CREATE INDEX answers where its line counts n transactions: it asks the view three times.
+/// What CREATE INDEX answers where its line counts n transactions: it asks the view at most three times.
 ///
 /// # Errors
 ///

@@ -32,8 +32,8 @@ use im_versions::errors::ViewError;
 use im_versions::view::KvView;
 use std::alloc::{AllocError, Global};
 
-/// What INSERT (`fresh`) or UPSERT answers where its line counts n transactions. For each row it asks the view once for
-/// the row of its key, and once for each unique index.
+/// What INSERT (`fresh`) or UPSERT answers where its line counts n transactions. For each row it asks the view at
+/// most once for the row of its key, and at most once for each unique index.
 ///
 /// # Errors
 ///

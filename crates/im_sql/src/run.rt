@@ -20,6 +20,14 @@ use std::alloc::Global;
 /// which preconditions; or that there is nothing to write. It changes nothing. What it gives to be placed is judged by
 /// its preconditions where it is placed: a `conflict` comes by these alone.
 ///
+/// # Steps
+///
+/// It asks the view for the table by one `get`, and for no more where that or the statement's names refuse it. All but a CREATE TABLE and
+/// a SELECT of a history then ask for the table's indexes by one `scan`. A SELECT and a DELETE look at what `im_plan` says: of rows
+/// `rows_meeting`, of a history `revisions_meeting`. An INSERT or UPSERT asks for each of its rows by at most one `get`, and for each
+/// unique index by at most one more. A CREATE TABLE asks for the number of tables by at most one `get`; a CREATE INDEX, before the
+/// indexes, for the table's rows by at most one `scan`.
+///
 /// # Errors
 ///
 /// The first in the order of docs/SQL.md, and `Memory` where memory runs out.

@@ -18,7 +18,7 @@ use im_sqlparse::statements::Stmt;
 use im_versions::changes::ChangesView;
 use std::alloc::Global;
 
-/// What answers statements of SQL over a view of a history's keys, and judges the keys of such a view. What an answer and a judgement cost is told where it is made.
+/// What answers statements of SQL over a view of a history's keys, and judges the keys of such a view. What answering and judging cost, each engine tells.
 pub trait SqlEngine {
     /// What a statement answers where its line counts n transactions: the rows of a SELECT; what is to be placed, and under
     /// which preconditions; or that there is nothing to write. It changes nothing. What it gives to be placed is judged by
