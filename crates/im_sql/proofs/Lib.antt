@@ -1,3 +1,4 @@
+pub mod MapLemmas
 pub mod AnswerLemmas
 pub mod WriteLemmas
 pub mod FitLemmas
@@ -11,11 +12,3 @@ pub mod ShortLemmas
 pub mod GoingLemmas
 pub mod CreateLemmas
 pub mod NameLemmas
-pub mod AmongLemmas
-pub mod GroupLemmas
-pub mod NumberLemmas
-pub mod EntryLemmas
-pub mod TurnLemmas
-pub mod UnderLemmas
-pub mod TestLemmas
-pub mod HangLemmas

@@ -2,4 +2,3 @@ pub mod Writing
 pub mod Working
 pub mod Entries
 pub mod Ranges
-pub mod Sounding

@@ -13,7 +13,7 @@ use std::alloc::Global;
 pub struct Engine;
 
 impl SqlEngine for Engine {
-    ghost use Rattle.im_sqlkept.proofs.StatementLemmas.{statement-kept};
+    ghost use Rattle.im_sqlsound.proofs.StatementLemmas.{statement-kept};
 
     fn run<V: ChangesView>(
         &self,

@@ -31,14 +31,14 @@ use Rattle.im_catalog.proofs.HistoryLemmas.{among-either}
 use Rattle.im_catalog.proofs.ThereLemmas.{no_version, rows-are, indexes-are}
 use Rattle.im_plan.proofs.BestLemmas.{at-any}
 use Rattle.im_plan.proofs.EntryLemmas.{zip-at, zip-length}
-use Rattle.im_sql.specs.Sounding.{kind_shown, under, said_by, entries_of, IsTableVersion, IsFound, IsFoundBy, AreFound, IsCountShown, AreNumbered, AreGapless, IsMarked, IsSoundAlone, IsMarkShown, AreEntered, IsAll, Hang, AreByNumber}
-use Rattle.im_sql.specs.declared.found.TableFound.{TableFound}
-use Rattle.im_sql.proofs.AmongLemmas.{among-map, map-among, among-flat, flat-among, among-sorted, sorted-among, sorted-rising, by_key, no-more, up_to, length-up_to, among-up_to}
+use Rattle.im_sqlsound.specs.Sounding.{kind_shown, under, said_by, entries_of, IsTableVersion, IsFound, IsFoundBy, AreFound, IsCountShown, AreNumbered, AreGapless, IsMarked, IsSoundAlone, IsMarkShown, AreEntered, IsAll, Hang, AreByNumber}
+use Rattle.im_sqlsound.specs.declared.found.TableFound.{TableFound}
+use Rattle.im_sqlsound.proofs.AmongLemmas.{among-map, map-among, among-flat, flat-among, among-sorted, sorted-among, sorted-rising, by_key, no-more, up_to, length-up_to, among-up_to}
 use Rattle.im_sql.proofs.CountLemmas.{few-by}
-use Rattle.im_sql.proofs.EntryLemmas.{entries-apart}
-use Rattle.im_sql.proofs.GroupLemmas.{AreTold, InGroup, groups, hits, apart-both, one-sizes, groups-few, hit-groups}
+use Rattle.im_sqlsound.proofs.EntryLemmas.{entries-apart}
+use Rattle.im_sqlsound.proofs.GroupLemmas.{AreTold, InGroup, groups, hits, apart-both, one-sizes, groups-few, hit-groups}
 use Rattle.im_sql.proofs.NextLemmas.{Apart, apart-from, pairs-from, all-of}
-use Rattle.im_sql.proofs.NumberLemmas.{index-less, at-place}
+use Rattle.im_sqlsound.proofs.NumberLemmas.{index-less, at-place}
 use Rattle.im_sql.proofs.ShortLemmas.{Below}
 use Rattle.im_sqlsound.proofs.ShownLemmas.{shown-live, under-shown, table-live, table-found, index-live, index-found, row-live, row-found, sum-groups}
 use Rattle.im_sqlsound.proofs.SoundLemmas.{tid_of, tids-mapped}

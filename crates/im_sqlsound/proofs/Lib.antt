@@ -1,3 +1,11 @@
+pub mod TestLemmas
+pub mod AmongLemmas
+pub mod GroupLemmas
+pub mod NumberLemmas
+pub mod EntryLemmas
+pub mod TurnLemmas
+pub mod UnderLemmas
+pub mod HangLemmas
 pub mod ShownLemmas
 pub mod SoundLemmas
 pub mod JudgedLemmas
@@ -6,3 +14,12 @@ pub mod LoopLemmas
 pub mod TablesLemmas
 pub mod StepLemmas
 pub mod OwnLemmas
+pub mod BehindLemmas
+pub mod GuardLemmas
+pub mod CreatedLemmas
+pub mod HeldLemmas
+pub mod WrittenLemmas
+pub mod StoodLemmas
+pub mod IndexedLemmas
+pub mod RowsKeptLemmas
+pub mod StatementLemmas

@@ -9,8 +9,8 @@ use Rattle.im_sqlmodel.specs.Kept.{IsSqlSound, IsSqlKept, IsFirstUnsound}
 use Rattle.im_sqlmodel.proofs.KeptLemmas.{nothing_kept}
 use Rattle.im_catalog.proofs.ThereLemmas.{no_version}
 use Rattle.im_plan.proofs.BestLemmas.{at-any}
-use Rattle.im_sql.specs.Sounding.{AreByNumber}
-use Rattle.im_sql.proofs.TurnLemmas.{IsQuiet, by_tx, changes-sorted, quiet-sound, quiet-between, all-within, upto-changes, sound-next, kept-whole, first-unsound}
+use Rattle.im_sqlsound.specs.Sounding.{AreByNumber}
+use Rattle.im_sqlsound.proofs.TurnLemmas.{IsQuiet, by_tx, changes-sorted, quiet-sound, quiet-between, all-within, upto-changes, sound-next, kept-whole, first-unsound}
 
 -- The keys are SQL's behind each transaction up to k; the versions before a place have numbers up to k, and those from it on above.
 pub record IsUpto (history : List Transaction) (all : List Version) (at k : ℕ) : Type 0 where

@@ -33,12 +33,12 @@ use Rattle.im_catalog.proofs.OneLemmas.{one-index-version}
 use Rattle.im_catalog.proofs.TableLemmas.{one-table, table-read}
 use Rattle.im_plan.proofs.EntryLemmas.{zip-among, zip-among-left}
 use Rattle.im_plan.proofs.EntryRowLemmas.{one-index, text-same}
-use Rattle.im_sql.specs.Sounding.{said_by, entries_of, IsMarked, IsMarkShown, AreByNumber}
+use Rattle.im_sqlsound.specs.Sounding.{said_by, entries_of, IsMarked, IsMarkShown, AreByNumber}
 use Rattle.im_sqlsound.specs.Stepping.{live_last, live_of, live_own, own_entries, IsPartBy, AreParts, AreOwnEntries, IsKnownKey, AreMarked, StoodOf, StandsOf}
-use Rattle.im_sql.specs.declared.found.TableFound.{TableFound}
-use Rattle.im_sql.proofs.AmongLemmas.{among-map, map-among, among-flat, flat-among, among-sorted, sorted-among, by_key}
+use Rattle.im_sqlsound.specs.declared.found.TableFound.{TableFound}
+use Rattle.im_sqlsound.proofs.AmongLemmas.{among-map, map-among, among-flat, flat-among, among-sorted, sorted-among, by_key}
 use Rattle.im_sqlmodel.proofs.CarriedLemmas.{entry-zero, versions-pushed}
-use Rattle.im_sql.proofs.EntryLemmas.{same-numbers, row-alone}
+use Rattle.im_sqlsound.proofs.EntryLemmas.{same-numbers, row-alone}
 use Rattle.im_sqlsound.proofs.StepLemmas.{IsLeft, IsNew, entry-told, last-new, either, table-still, table-back, index-still, index-back, step-sound}
 
 -- ---- what is live of the keys of versions

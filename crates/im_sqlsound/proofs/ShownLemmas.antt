@@ -23,9 +23,9 @@ use Rattle.im_catalog.proofs.OneLemmas.{one-index-version}
 use Rattle.im_catalog.proofs.TableLemmas.{one-table, table-read}
 use Rattle.im_plan.proofs.EntryLemmas.{zip-among, zip-among-left, zip-length}
 use Rattle.im_plan.proofs.EntryRowLemmas.{text-same}
-use Rattle.im_sql.specs.Sounding.{kind_shown, under, IsTableVersion, IsFound, AreFound}
-use Rattle.im_sql.specs.declared.found.TableFound.{TableFound}
-use Rattle.im_sql.proofs.GroupLemmas.{sizes, sizes-append, fronts, groups}
+use Rattle.im_sqlsound.specs.Sounding.{kind_shown, under, IsTableVersion, IsFound, AreFound}
+use Rattle.im_sqlsound.specs.declared.found.TableFound.{TableFound}
+use Rattle.im_sqlsound.proofs.GroupLemmas.{sizes, sizes-append, fronts, groups}
 use Rattle.im_sql.proofs.NextLemmas.{all-of}
 
 pub shown-live : (history : List Transaction) (shown : List Version) (v : Version) → IsScan history (0 ∷ []) shown → IsAmong shown v → (last_version history v.key ≡ Some v) × (v.deleted ≡ false)

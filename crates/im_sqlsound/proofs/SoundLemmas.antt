@@ -26,10 +26,10 @@ use Rattle.im_catalog.proofs.FrontLemmas.{among-kept, begins-from, begins-shorte
 use Rattle.im_catalog.proofs.HistoryLemmas.{among-either}
 use Rattle.im_plan.proofs.BestLemmas.{at-any}
 use Rattle.im_plan.proofs.EntryLemmas.{zip-among-left}
-use Rattle.im_sql.specs.Sounding.{kind_shown, under, said_by, entries_of, IsTableVersion, IsFound, AreFound, IsCountShown, IsMarked, IsSoundAlone, IsMarkShown, AreSettled, Hang, AreByNumber}
-use Rattle.im_sql.specs.declared.found.TableFound.{TableFound}
-use Rattle.im_sql.proofs.AmongLemmas.{among-map, map-among, among-flat, flat-among, among-sorted, sorted-among, by_key, none-out, one-of}
-use Rattle.im_sql.proofs.GroupLemmas.{AreTold, InGroup, groups, sizes-one, groups-few, groups-hit}
+use Rattle.im_sqlsound.specs.Sounding.{kind_shown, under, said_by, entries_of, IsTableVersion, IsFound, AreFound, IsCountShown, IsMarked, IsSoundAlone, IsMarkShown, AreSettled, Hang, AreByNumber}
+use Rattle.im_sqlsound.specs.declared.found.TableFound.{TableFound}
+use Rattle.im_sqlsound.proofs.AmongLemmas.{among-map, map-among, among-flat, flat-among, among-sorted, sorted-among, by_key, none-out, one-of}
+use Rattle.im_sqlsound.proofs.GroupLemmas.{AreTold, InGroup, groups, sizes-one, groups-few, groups-hit}
 use Rattle.im_sql.proofs.NextLemmas.{Apart, apart-from, pairs-from, all-of, find-none, find-some}
 use Rattle.im_sqlsound.proofs.ShownLemmas.{shown-live, live-shown, live-under, under-shown, table-live, table-found, index-live, index-found, row-live, row-found, sum-groups}
 

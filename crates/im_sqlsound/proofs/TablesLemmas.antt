@@ -7,8 +7,8 @@ use Rattle.im_sqlmodel.specs.Tables.{table_text}
 use Rattle.im_sqlmodel.specs.declared.tables.Table.{Table}
 use Rattle.im_catalog.specs.Parts.{HasParts}
 use Rattle.im_catalog.proofs.TableLemmas.{one-table, table-read}
-use Rattle.im_sql.specs.Sounding.{kind_shown, IsTableVersion, IsFound, IsFoundBy, AreFound}
-use Rattle.im_sql.specs.declared.found.TableFound.{TableFound}
+use Rattle.im_sqlsound.specs.Sounding.{kind_shown, IsTableVersion, IsFound, IsFoundBy, AreFound}
+use Rattle.im_sqlsound.specs.declared.found.TableFound.{TableFound}
 
 -- a version says one table
 pub one-version : (v : Version) (t u : Table) → IsTableVersion v t → IsTableVersion v u → t ≡ u

@@ -8,8 +8,8 @@ use Rattle.im_sqltype.specs.Orders.{octets_cmp}
 use Rattle.im_sqlmodel.specs.Keys.{table_prefix, rows_prefix}
 use Rattle.im_sqlmodel.specs.Rows.{IndexesAre, IsStoredRow}
 use Rattle.im_sqlmodel.specs.Sorts.{sorted}
-use Rattle.im_sql.specs.Sounding.{said_by, entries_of, IsTableVersion, IsMarked, IsMarkShown}
-use Rattle.im_sql.specs.declared.found.TableFound.{TableFound}
+use Rattle.im_sqlsound.specs.Sounding.{said_by, entries_of, IsTableVersion, IsMarked, IsMarkShown}
+use Rattle.im_sqlsound.specs.declared.found.TableFound.{TableFound}
 
 -- a last version that isn't a deletion
 abbrev pub live_last : Option Version → List Version

@@ -6,11 +6,11 @@ ghost use Rattle.im_versions.specs.Versions.{IsScan};
 ghost use Rattle.im_sqltype.specs.Orders.{octets_cmp};
 ghost use Rattle.im_sqlmodel.specs.Sorts.{sorted};
 ghost use Rattle.im_sqlmodel.specs.Writes as rules;
-ghost use Rattle.im_sql.specs.Sounding as spec;
+ghost use Rattle.im_sqlsound.specs.Sounding as spec;
 
+use crate::found::TableFound;
 use crate::said::under;
 use im_catalog::entries::entry_written;
-use im_sql::found::TableFound;
 use im_sqlmodel::tables::{SqlIndex, Table};
 use im_sqlmodel::written::Written;
 use im_sqltype::values::Value;

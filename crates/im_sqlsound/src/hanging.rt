@@ -4,15 +4,15 @@ ghost use Rattle.std.specs.Prelude.{◌≡◌, ◌↔◌, ◌≤◌, ◌<◌, �
 ghost use Rattle.im_model.specs.declared.transactions.Transaction.{Transaction};
 ghost use Rattle.im_versions.specs.Versions.{IsScan};
 ghost use Rattle.im_versions.specs.declared.versions.Version.{Version as TheVersion};
-ghost use Rattle.im_sql.specs.Sounding as spec;
-ghost use Rattle.im_sql.specs.declared.found.TableFound.{TableFound as Found};
+ghost use Rattle.im_sqlsound.specs.Sounding as spec;
+ghost use Rattle.im_sqlsound.specs.declared.found.TableFound.{TableFound as Found};
 
 use crate::entered::are_entered;
+use crate::found::TableFound;
 use crate::marked::{are_each_sound, are_marks};
 use crate::numbered::are_numbered;
 use crate::said::under;
 use im_catalog::keys::tables_key;
-use im_sql::found::TableFound;
 use im_versions::versions::Version;
 use std::alloc::{AllocError, Global};
 

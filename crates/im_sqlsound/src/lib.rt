@@ -1,10 +1,12 @@
-//! Whether the keys of a view that begin with octet 00 are SQL's, and after which transaction of a history they first aren't. Statements, which leave
-//! them so, are im_sql.
+//! Whether the keys of a view that begin with octet 00 are SQL's, and after which transaction of a history they first aren't; and the law that
+//! statements, which are im_sql, leave them so.
 #![tactic(auto)]
 
 mod entered;
+mod found;
 mod hanging;
 pub mod kept;
+pub mod laws;
 mod marked;
 mod numbered;
 mod own;

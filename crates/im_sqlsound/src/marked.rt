@@ -4,14 +4,14 @@ ghost use Rattle.std.specs.Prelude.{◌≡◌, ◌↔◌, ◌≤◌, All, AllPai
 ghost use Rattle.std.specs.List.{IsAmong};
 ghost use Rattle.im_versions.specs.declared.versions.Version.{Version as TheVersion};
 ghost use Rattle.im_sqlmodel.specs.Keys as keys;
-ghost use Rattle.im_sql.specs.Sounding as spec;
+ghost use Rattle.im_sqlsound.specs.Sounding as spec;
 ghost use Rattle.im_sqlsound.specs.Stepping.{AreMarked};
-ghost use Rattle.im_sql.specs.declared.found.TableFound.{TableFound as Found};
+ghost use Rattle.im_sqlsound.specs.declared.found.TableFound.{TableFound as Found};
 
+use crate::found::TableFound;
 use crate::numbered::are_gapless;
 use crate::said::are_same;
 use im_catalog::keys::mark_key;
-use im_sql::found::TableFound;
 use im_versions::versions::Version;
 use std::alloc::{AllocError, Global};
 

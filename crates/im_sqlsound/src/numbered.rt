@@ -5,13 +5,13 @@ ghost use Rattle.im_octet.specs.Fields.{field4};
 ghost use Rattle.im_model.specs.declared.transactions.Transaction.{Transaction};
 ghost use Rattle.im_versions.specs.Versions.{IsScan};
 ghost use Rattle.im_sqlmodel.specs.Keys as keys;
-ghost use Rattle.im_sql.specs.Sounding as spec;
-ghost use Rattle.im_sql.specs.declared.found.TableFound.{TableFound as Found};
+ghost use Rattle.im_sqlsound.specs.Sounding as spec;
+ghost use Rattle.im_sqlsound.specs.declared.found.TableFound.{TableFound as Found};
 
+use crate::found::TableFound;
 use crate::said::{are_same, under};
 use im_catalog::keys::tables_key;
 use im_octet::fields::four;
-use im_sql::found::TableFound;
 use im_sqlmodel::tables::SqlIndex;
 use im_versions::versions::Version;
 

@@ -10,11 +10,11 @@ ghost use Rattle.im_sqlmodel.specs.Kept.{IsTableOf, IsSqlSound};
 ghost use Rattle.im_sqlmodel.specs.Rows.{IsStoredRow};
 ghost use Rattle.im_sqlsound.specs.Stepping as spec;
 
+use crate::found::TableFound;
 use crate::own::push_own;
 use crate::said::{rows_said, table_said};
 use im_catalog::catalogue::indexes;
 use im_catalog::keys::rows_prefix;
-use im_sql::found::TableFound;
 use im_sqlmodel::rows::StoredRow;
 use im_sqlmodel::tables::Table;
 use im_versions::errors::ViewError;

@@ -10,15 +10,15 @@ ghost use Rattle.im_sqltype.specs.Orders.{octets_cmp};
 ghost use Rattle.im_sqlmodel.specs.Keys as keys;
 ghost use Rattle.im_sqlmodel.specs.Rows.{IsIndexVersion, IsStoredRow};
 ghost use Rattle.im_sqlmodel.specs.Tables as tables;
-ghost use Rattle.im_sql.specs.Sounding as spec;
+ghost use Rattle.im_sqlsound.specs.Sounding as spec;
 ghost use Rattle.im_sqlmodel.specs.declared.rows.StoredRow.{StoredRow as TheStoredRow};
-ghost use Rattle.im_sql.specs.declared.found.TableFound.{TableFound as Found};
+ghost use Rattle.im_sqlsound.specs.declared.found.TableFound.{TableFound as Found};
 
+use crate::found::TableFound;
 use im_catalog::keys::{index_prefix, rows_prefix};
 use im_catalog::reading::{read_index, read_table};
 use im_catalog::rows::{kinds_of, read_row_of};
 use im_octet::reader::Reader;
-use im_sql::found::TableFound;
 use im_sqlmodel::rows::StoredRow;
 use im_sqlmodel::tables::{SqlIndex, Table};
 use im_sqltype::kinds::ValueKind;

@@ -4,7 +4,7 @@ ghost use Rattle.std.specs.Prelude.{◌≡◌, ◌↔◌, ℕ, List, All, IsTrue
 ghost use Rattle.std.specs.List.{IsAmong};
 ghost use Rattle.im_model.specs.declared.transactions.Transaction.{Transaction};
 ghost use Rattle.im_versions.specs.Versions.{IsScan};
-ghost use Rattle.im_sql.specs.Sounding as spec;
+ghost use Rattle.im_sqlsound.specs.Sounding as spec;
 
 use crate::said::{is_before, under};
 use im_versions::versions::Version;

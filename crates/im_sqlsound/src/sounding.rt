@@ -4,7 +4,7 @@ ghost use Rattle.std.specs.Prelude.{◌≡◌, ◌↔◌, ◌≤◌, ◌<◌, �
 ghost use Rattle.im_model.specs.declared.transactions.Transaction.{Transaction};
 ghost use Rattle.im_versions.specs.Versions.{IsScan};
 ghost use Rattle.im_sqlmodel.specs.Kept.{IsSqlSound};
-ghost use Rattle.im_sql.specs.Sounding as spec;
+ghost use Rattle.im_sqlsound.specs.Sounding as spec;
 
 use crate::hanging::do_hang;
 use crate::said::tables_found;

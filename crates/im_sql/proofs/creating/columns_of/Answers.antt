@@ -3,7 +3,7 @@ use Rattle.std.proofs.lemmas.List.{take_all}
 use Rattle.im_sqlparse.specs.declared.statements.ColumnDefinition.{ColumnDefinition}
 use Rattle.im_sqlmodel.specs.Creations.{column_of}
 use Rattle.im_sqlmodel.specs.declared.tables.Column.{Column}
-use Rattle.im_sql.proofs.HangLemmas.{map-step}
+use Rattle.im_sql.proofs.MapLemmas.{map-step}
 use Rattle.im_sql.proofs.creating.columns_of.Goals as goal
 
 pub loop-definition-preserved : goal.loop-definition-preserved

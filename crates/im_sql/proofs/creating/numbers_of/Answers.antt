@@ -1,7 +1,7 @@
 use Rattle.std.proofs.Common.{Bor, ◌∷◌, [], ◌++◌, List, ℕ, map, ap, ◌∙◌, arith}
 use Rattle.std.proofs.lemmas.List.{take_all}
 use Rattle.im_sqlmodel.specs.Creations.{column_number}
-use Rattle.im_sql.proofs.HangLemmas.{map-step}
+use Rattle.im_sql.proofs.MapLemmas.{map-step}
 use Rattle.im_sql.proofs.creating.numbers_of.Goals as goal
 
 pub loop-name-preserved : goal.loop-name-preserved

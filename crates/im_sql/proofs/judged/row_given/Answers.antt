@@ -4,7 +4,7 @@ use Rattle.im_sqltype.specs.declared.values.Value.{Value}
 use Rattle.im_sqlmodel.specs.Conditions.{literal_value}
 use Rattle.im_sqlmodel.specs.Writes.{value_given}
 use Rattle.im_sqlmodel.specs.declared.tables.Column.{Column}
-use Rattle.im_sql.proofs.HangLemmas.{map-step}
+use Rattle.im_sql.proofs.MapLemmas.{map-step}
 use Rattle.im_sql.proofs.judged.row_given.Goals as goal
 
 pub loop-column-preserved : goal.loop-column-preserved

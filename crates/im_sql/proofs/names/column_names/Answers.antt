@@ -1,7 +1,7 @@
 use Rattle.std.proofs.Common.{Bor, ◌∷◌, [], ◌++◌, List, ℕ, map, ap, ◌∙◌, arith}
 use Rattle.std.proofs.lemmas.List.{map_push, take_all}
 use Rattle.im_sqlmodel.specs.declared.tables.Column.{Column}
-use Rattle.im_sql.proofs.HangLemmas.{map-step}
+use Rattle.im_sql.proofs.MapLemmas.{map-step}
 use Rattle.im_sql.proofs.names.column_names.Goals as goal
 
 abbrev octets : Bor (List ℕ) → List ℕ

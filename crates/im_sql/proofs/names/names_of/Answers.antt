@@ -1,6 +1,6 @@
 use Rattle.std.proofs.Common.{Bor, ◌∷◌, [], ◌++◌, List, ℕ, map, ap, ◌∙◌, arith}
 use Rattle.std.proofs.lemmas.List.{map_push, map-id, take_all}
-use Rattle.im_sql.proofs.HangLemmas.{map-step}
+use Rattle.im_sql.proofs.MapLemmas.{map-step}
 use Rattle.im_sql.proofs.names.names_of.Goals as goal
 
 abbrev octets : Bor (List ℕ) → List ℕ

@@ -1,6 +1,6 @@
 use Rattle.std.proofs.Common.{sym, ◌∙◌, arith}
-use Rattle.im_sql.proofs.HangLemmas.{both-said, said-both}
-use Rattle.im_sql.proofs.TestLemmas.{test-fails, test-not}
+use Rattle.im_sqlsound.proofs.HangLemmas.{both-said, said-both}
+use Rattle.im_sqlsound.proofs.TestLemmas.{test-fails, test-not}
 use Rattle.im_sqlsound.proofs.entered.are_both_said.Goals as goal
 
 pub returns-then-entries-plain : goal.returns-then-entries-plain

@@ -1,8 +1,8 @@
 use Rattle.std.proofs.Common.{◌++◌, ap, map, ◌∙◌}
 use Rattle.im_sqlmodel.specs.Sorts.{sorted}
-use Rattle.im_sql.specs.Sounding.{said_by}
-use Rattle.im_sql.proofs.AmongLemmas.{by_key}
-use Rattle.im_sql.proofs.HangLemmas.{iff-same}
+use Rattle.im_sqlsound.specs.Sounding.{said_by}
+use Rattle.im_sqlsound.proofs.AmongLemmas.{by_key}
+use Rattle.im_sqlsound.proofs.HangLemmas.{iff-same}
 use Rattle.im_sqlsound.proofs.entered.are_entered.Goals as goal
 
 pub returns : goal.returns

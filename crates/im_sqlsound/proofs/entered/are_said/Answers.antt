@@ -1,6 +1,6 @@
 use Rattle.std.proofs.Common.{arith}
-use Rattle.im_sql.proofs.HangLemmas.{said-step, said-fails, said-end, said-long}
-use Rattle.im_sql.proofs.TestLemmas.{test-fails, test-holds, test-not}
+use Rattle.im_sqlsound.proofs.HangLemmas.{said-step, said-fails, said-end, said-long}
+use Rattle.im_sqlsound.proofs.TestLemmas.{test-fails, test-holds, test-not}
 use Rattle.im_sqlsound.proofs.entered.are_said.Goals as goal
 
 pub loop-at-preserved : goal.loop-at-preserved

@@ -1,5 +1,5 @@
 use Rattle.std.proofs.Common.{◌≡◌, map, take}
-use Rattle.im_sql.specs.Sounding.{said_by}
+use Rattle.im_sqlsound.specs.Sounding.{said_by}
 use Rattle.im_sqlsound.proofs.entered.are_said.Given as goal
 
 -- those so far are

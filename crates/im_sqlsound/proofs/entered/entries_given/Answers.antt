@@ -1,7 +1,7 @@
 use Rattle.std.proofs.Common.{flat_map, [], ap, ◌∙◌}
 use Rattle.std.proofs.lemmas.List.{take_all}
-use Rattle.im_sql.specs.Sounding.{entries_of}
-use Rattle.im_sql.proofs.HangLemmas.{flat-step}
+use Rattle.im_sqlsound.specs.Sounding.{entries_of}
+use Rattle.im_sqlsound.proofs.HangLemmas.{flat-step}
 use Rattle.im_sqlsound.proofs.entered.entries_given.Goals as goal
 
 pub loop-found-preserved : goal.loop-found-preserved

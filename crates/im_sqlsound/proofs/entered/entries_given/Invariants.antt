@@ -1,5 +1,5 @@
 use Rattle.std.proofs.Common.{◌≡◌, flat_map, take}
-use Rattle.im_sql.specs.Sounding.{entries_of}
+use Rattle.im_sqlsound.specs.Sounding.{entries_of}
 use Rattle.im_sqlsound.proofs.entered.entries_given.Given as goal
 
 abbrev pub invariant-loop-found : goal.invariant-loop-found

@@ -5,7 +5,7 @@ use Rattle.im_sqlmodel.specs.Writes.{entry_written}
 use Rattle.im_sqlmodel.specs.declared.rows.StoredRow.{StoredRow}
 use Rattle.im_sqlmodel.specs.declared.tables.SqlIndex.{SqlIndex}
 use Rattle.im_sqlmodel.specs.declared.written.Written.{Written}
-use Rattle.im_sql.proofs.HangLemmas.{flat-step}
+use Rattle.im_sqlsound.proofs.HangLemmas.{flat-step}
 use Rattle.im_sqlsound.proofs.entered.push_entries.Goals as goal
 
 pub loop-stored-preserved : goal.loop-stored-preserved

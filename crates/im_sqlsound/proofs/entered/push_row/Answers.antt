@@ -1,7 +1,7 @@
 use Rattle.std.proofs.Common.{◌∷◌, [], ◌++◌, ap, ◌∙◌}
 use Rattle.im_sqlmodel.specs.Writes.{entry_written}
 use Rattle.im_sqlmodel.specs.declared.written.Written.{Written}
-use Rattle.im_sql.proofs.HangLemmas.{map-step}
+use Rattle.im_sql.proofs.MapLemmas.{map-step}
 use Rattle.im_sqlsound.proofs.entered.push_row.Goals as goal
 
 pub loop-index-preserved : goal.loop-index-preserved

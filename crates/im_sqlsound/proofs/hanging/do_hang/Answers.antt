@@ -1,7 +1,7 @@
 use Rattle.std.proofs.Common.{◌≡◌, ◌↔◌, Bool, true, All, subst, sym}
 use Rattle.im_catalog.proofs.FoundLemmas.{if-ok}
-use Rattle.im_sql.specs.Sounding.{Hang, IsMarkShown, AreEntered}
-use Rattle.im_sql.proofs.TestLemmas.{test-fails, test-not}
+use Rattle.im_sqlsound.specs.Sounding.{Hang, IsMarkShown, AreEntered}
+use Rattle.im_sqlsound.proofs.TestLemmas.{test-fails, test-not}
 use Rattle.im_sqlsound.proofs.hanging.do_hang.Goals as goal
 
 pub returns-then-not-are_numbered : goal.returns-then-not-are_numbered

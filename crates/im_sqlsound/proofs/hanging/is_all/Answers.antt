@@ -1,7 +1,7 @@
 use Rattle.std.proofs.Common.{◌≡◌, ℕ, List, length, ap, ◌∙◌, arith}
 use Rattle.std.proofs.lemmas.Bool.{eq-eqb, eqb-true}
-use Rattle.im_sql.specs.Sounding.{under}
-use Rattle.im_sql.proofs.TestLemmas.{test-fails}
+use Rattle.im_sqlsound.specs.Sounding.{under}
+use Rattle.im_sqlsound.proofs.TestLemmas.{test-fails}
 use Rattle.im_sqlsound.proofs.hanging.is_all.Goals as goal
 
 -- Names are guesses: under to under-4 in the order of the list, in-Some-2, returns-in-Some-left_of.

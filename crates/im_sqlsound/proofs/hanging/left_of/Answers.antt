@@ -1,6 +1,6 @@
 use Rattle.std.proofs.Common.{ℕ, length, arith}
-use Rattle.im_sql.specs.declared.found.TableFound.{TableFound}
-use Rattle.im_sql.proofs.HangLemmas.{sum-step, sum-upto, sum-end}
+use Rattle.im_sqlsound.specs.declared.found.TableFound.{TableFound}
+use Rattle.im_sqlsound.proofs.HangLemmas.{sum-step, sum-upto, sum-end}
 use Rattle.im_sqlsound.proofs.hanging.left_of.Goals as goal
 
 abbrev indexes_in : TableFound → ℕ

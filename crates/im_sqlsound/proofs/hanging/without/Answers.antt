@@ -1,6 +1,6 @@
 use Rattle.std.proofs.Common.{ℕ, get_or, arith}
 use Rattle.im_plan.proofs.BestLemmas.{at-any}
-use Rattle.im_sql.proofs.HangLemmas.{sum-step, sum-upto, sum-end}
+use Rattle.im_sqlsound.proofs.HangLemmas.{sum-step, sum-upto, sum-end}
 use Rattle.im_sqlsound.proofs.hanging.without.Goals as goal
 
 -- the number itself

@@ -2,7 +2,7 @@ use Rattle.std.proofs.Common.{◌≡◌, ◌<◌, inl, inr, ℕ, List, length, g
 use Rattle.std.proofs.lemmas.Bool.{cases_lt}
 use Rattle.std.proofs.lemmas.List.{get_or_read}
 use Rattle.im_versions.specs.declared.versions.Version.{Version}
-use Rattle.im_sql.proofs.TestLemmas.{test-not}
+use Rattle.im_sqlsound.proofs.TestLemmas.{test-not}
 use Rattle.im_sqlsound.proofs.kept.end_of.Goals as goal
 
 -- a version at one place has the number of the one at another

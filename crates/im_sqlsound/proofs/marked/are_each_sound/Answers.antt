@@ -1,5 +1,5 @@
-use Rattle.im_sql.specs.Sounding.{IsSoundAlone}
-use Rattle.im_sql.proofs.TestLemmas.{test-fails, test-holds, test-not, all-step, all-fails, all-end}
+use Rattle.im_sqlsound.specs.Sounding.{IsSoundAlone}
+use Rattle.im_sqlsound.proofs.TestLemmas.{test-fails, test-holds, test-not, all-step, all-fails, all-end}
 use Rattle.im_sqlsound.proofs.marked.are_each_sound.Goals as goal
 
 pub loop-found-preserved : goal.loop-found-preserved

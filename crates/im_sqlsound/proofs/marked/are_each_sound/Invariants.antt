@@ -1,5 +1,5 @@
 use Rattle.std.proofs.Common.{All, take}
-use Rattle.im_sql.specs.Sounding.{IsSoundAlone}
+use Rattle.im_sqlsound.specs.Sounding.{IsSoundAlone}
 use Rattle.im_sqlsound.proofs.marked.are_each_sound.Given as goal
 
 -- each so far does

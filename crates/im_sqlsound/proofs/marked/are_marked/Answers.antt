@@ -1,6 +1,6 @@
 use Rattle.std.proofs.Common.{All, subst, sym, ◌∙◌}
-use Rattle.im_sql.specs.Sounding.{IsMarked}
-use Rattle.im_sql.proofs.TestLemmas.{test-fails, test-holds, test-not, all-step, all-fails, all-end}
+use Rattle.im_sqlsound.specs.Sounding.{IsMarked}
+use Rattle.im_sqlsound.proofs.TestLemmas.{test-fails, test-holds, test-not, all-step, all-fails, all-end}
 use Rattle.im_sqlsound.proofs.marked.are_marked.Goals as goal
 
 pub loop-row-preserved : goal.loop-row-preserved

@@ -1,5 +1,5 @@
 use Rattle.std.proofs.Common.{All, take}
-use Rattle.im_sql.specs.Sounding.{IsMarked}
+use Rattle.im_sqlsound.specs.Sounding.{IsMarked}
 use Rattle.im_sqlsound.proofs.marked.are_marked.Given as goal
 
 -- each so far is

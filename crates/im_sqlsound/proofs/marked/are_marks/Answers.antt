@@ -1,5 +1,5 @@
-use Rattle.im_sql.specs.Sounding.{IsMarkShown}
-use Rattle.im_sql.proofs.TestLemmas.{test-fails, test-holds, test-not, all-step, all-fails, all-end}
+use Rattle.im_sqlsound.specs.Sounding.{IsMarkShown}
+use Rattle.im_sqlsound.proofs.TestLemmas.{test-fails, test-holds, test-not, all-step, all-fails, all-end}
 use Rattle.im_sqlsound.proofs.marked.are_marks.Goals as goal
 
 pub loop-mark-preserved : goal.loop-mark-preserved

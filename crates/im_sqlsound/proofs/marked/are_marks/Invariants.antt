@@ -1,5 +1,5 @@
 use Rattle.std.proofs.Common.{All, take}
-use Rattle.im_sql.specs.Sounding.{IsMarkShown}
+use Rattle.im_sqlsound.specs.Sounding.{IsMarkShown}
 use Rattle.im_sqlsound.proofs.marked.are_marks.Given as goal
 
 abbrev pub invariant-loop-mark : goal.invariant-loop-mark

@@ -1,8 +1,8 @@
 use Rattle.std.proofs.Common.{◌≢◌, ℕ, List, sym, ◌∙◌}
 use Rattle.im_versions.specs.declared.versions.Version.{Version}
 use Rattle.im_versions.proofs.ListLemmas.{All-among}
-use Rattle.im_sql.proofs.HangLemmas.{at-among}
-use Rattle.im_sql.proofs.TestLemmas.{test-fails, test-holds, test-not, all-step, all-end}
+use Rattle.im_sqlsound.proofs.HangLemmas.{at-among}
+use Rattle.im_sqlsound.proofs.TestLemmas.{test-fails, test-holds, test-not, all-step, all-end}
 use Rattle.im_sqlsound.proofs.marked.has_key.Goals as goal
 
 abbrev differs : List ℕ → Version → Type 0

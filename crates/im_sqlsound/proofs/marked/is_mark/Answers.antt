@@ -4,9 +4,9 @@ use Rattle.std.specs.List.{IsAmong}
 use Rattle.im_octet.proofs.Common.{no-octets}
 use Rattle.im_catalog.proofs.FoundLemmas.{if-ok}
 use Rattle.im_sqlmodel.specs.Keys.{mark_key}
-use Rattle.im_sql.specs.Sounding.{IsMarkShown}
-use Rattle.im_sql.specs.declared.found.TableFound.{TableFound}
-use Rattle.im_sql.proofs.TestLemmas.{test-fails}
+use Rattle.im_sqlsound.specs.Sounding.{IsMarkShown}
+use Rattle.im_sqlsound.specs.declared.found.TableFound.{TableFound}
+use Rattle.im_sqlsound.proofs.TestLemmas.{test-fails}
 use Rattle.im_sqlsound.proofs.marked.is_mark.Goals as goal
 
 pub returns-then-not-is_empty : goal.returns-then-not-is_empty

@@ -1,9 +1,9 @@
 use Rattle.std.proofs.Common.{◌≢◌, ℕ, List, sym, ◌∙◌}
 use Rattle.im_versions.proofs.ListLemmas.{All-among}
 use Rattle.im_sqlmodel.specs.Keys.{mark_key}
-use Rattle.im_sql.specs.declared.found.TableFound.{TableFound}
-use Rattle.im_sql.proofs.HangLemmas.{at-among}
-use Rattle.im_sql.proofs.TestLemmas.{test-fails, test-holds, test-not, all-step, all-end}
+use Rattle.im_sqlsound.specs.declared.found.TableFound.{TableFound}
+use Rattle.im_sqlsound.proofs.HangLemmas.{at-among}
+use Rattle.im_sqlsound.proofs.TestLemmas.{test-fails, test-holds, test-not, all-step, all-end}
 use Rattle.im_sqlsound.proofs.marked.is_mark_of_one.Goals as goal
 
 abbrev differs : List ℕ → TableFound → Type 0

@@ -1,6 +1,6 @@
 use Rattle.std.proofs.Common.{◌≢◌, All, take}
 use Rattle.im_sqlmodel.specs.Keys.{mark_key}
-use Rattle.im_sql.specs.declared.found.TableFound.{TableFound}
+use Rattle.im_sqlsound.specs.declared.found.TableFound.{TableFound}
 use Rattle.im_sqlsound.proofs.marked.is_mark_of_one.Given as goal
 
 -- it is none's so far

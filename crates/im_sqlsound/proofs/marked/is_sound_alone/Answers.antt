@@ -1,7 +1,7 @@
 use Rattle.std.proofs.Common.{◌≡◌, ◌↔◌, Bool, true, All, subst, sym}
 use Rattle.im_catalog.proofs.FoundLemmas.{if-ok}
-use Rattle.im_sql.specs.Sounding.{AreGapless, IsMarked, IsSoundAlone}
-use Rattle.im_sql.proofs.TestLemmas.{test-fails, test-not}
+use Rattle.im_sqlsound.specs.Sounding.{AreGapless, IsMarked, IsSoundAlone}
+use Rattle.im_sqlsound.proofs.TestLemmas.{test-fails, test-not}
 use Rattle.im_sqlsound.proofs.marked.is_sound_alone.Goals as goal
 
 pub returns-then-not-are_gapless : goal.returns-then-not-are_gapless

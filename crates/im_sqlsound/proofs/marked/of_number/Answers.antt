@@ -1,6 +1,6 @@
 use Rattle.std.proofs.Common.{◌-◌, length, take, drop, rules}
 use Rattle.std.proofs.lemmas.List.Sorted.{IsPartitionPoint-from_clause}
-use Rattle.im_sql.proofs.HangLemmas.{is_earlier, is_upto, parted-earlier, number-rest}
+use Rattle.im_sqlsound.proofs.HangLemmas.{is_earlier, is_upto, parted-earlier, number-rest}
 use Rattle.im_sqlsound.proofs.SayLemmas.{behind-all}
 use Rattle.im_sqlsound.proofs.marked.of_number.Goals as goal
 

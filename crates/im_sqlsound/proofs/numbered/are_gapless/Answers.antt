@@ -1,5 +1,5 @@
-use Rattle.im_sql.proofs.HangLemmas.{gapless-step, gapless-fails, gapless-end}
-use Rattle.im_sql.proofs.TestLemmas.{test-fails, test-holds, test-not}
+use Rattle.im_sqlsound.proofs.HangLemmas.{gapless-step, gapless-fails, gapless-end}
+use Rattle.im_sqlsound.proofs.TestLemmas.{test-fails, test-holds, test-not}
 use Rattle.im_sqlsound.proofs.numbered.are_gapless.Goals as goal
 
 pub loop-at-preserved : goal.loop-at-preserved

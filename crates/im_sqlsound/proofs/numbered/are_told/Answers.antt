@@ -1,6 +1,6 @@
 use Rattle.std.proofs.Common.{◌-◌, true, length}
-use Rattle.im_sql.proofs.HangLemmas.{told-step, told-fails, told-end}
-use Rattle.im_sql.proofs.TestLemmas.{test-fails, test-holds, test-not}
+use Rattle.im_sqlsound.proofs.HangLemmas.{told-step, told-fails, told-end}
+use Rattle.im_sqlsound.proofs.TestLemmas.{test-fails, test-holds, test-not}
 use Rattle.im_sqlsound.proofs.numbered.are_told.Goals as goal
 
 pub loop-at-preserved : goal.loop-at-preserved

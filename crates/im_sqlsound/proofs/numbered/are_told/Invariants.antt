@@ -1,5 +1,5 @@
 use Rattle.std.proofs.Common.{take, length}
-use Rattle.im_sql.specs.Sounding.{AreUpTo}
+use Rattle.im_sqlsound.specs.Sounding.{AreUpTo}
 use Rattle.im_sqlsound.proofs.numbered.are_told.Given as goal
 
 -- those so far are

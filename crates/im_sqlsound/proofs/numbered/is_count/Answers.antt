@@ -1,7 +1,7 @@
 use Rattle.std.proofs.Common.{◌≡◌, ◌≤◌, ℕ, List, length, sym, ap, ◌∙◌, arith}
-use Rattle.im_sql.specs.Sounding.{under}
-use Rattle.im_sql.proofs.HangLemmas.{count-none, count-long, count-one, nothing-of, some-of, only-one}
-use Rattle.im_sql.proofs.TestLemmas.{test-fails}
+use Rattle.im_sqlsound.specs.Sounding.{under}
+use Rattle.im_sqlsound.proofs.HangLemmas.{count-none, count-long, count-one, nothing-of, some-of, only-one}
+use Rattle.im_sqlsound.proofs.TestLemmas.{test-fails}
 use Rattle.im_sqlsound.proofs.numbered.is_count.Goals as goal
 
 pub returns-then-is_empty : goal.returns-then-is_empty

@@ -1,5 +1,5 @@
-use Rattle.im_sql.proofs.HangLemmas.{Apart_from}
-use Rattle.im_sql.proofs.TestLemmas.{test-fails, test-holds, test-not, all-step, all-fails, all-end}
+use Rattle.im_sqlsound.proofs.HangLemmas.{Apart_from}
+use Rattle.im_sqlsound.proofs.TestLemmas.{test-fails, test-holds, test-not, all-step, all-fails, all-end}
 use Rattle.im_sqlsound.proofs.numbered.is_free.Goals as goal
 
 pub loop-found-preserved : goal.loop-found-preserved

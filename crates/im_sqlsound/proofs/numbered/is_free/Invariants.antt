@@ -1,5 +1,5 @@
 use Rattle.std.proofs.Common.{◌≢◌, All, take}
-use Rattle.im_sql.specs.declared.found.TableFound.{TableFound}
+use Rattle.im_sqlsound.specs.declared.found.TableFound.{TableFound}
 use Rattle.im_sqlsound.proofs.numbered.is_free.Given as goal
 
 -- none so far has it

@@ -2,7 +2,7 @@ use Rattle.std.proofs.Common.{◌++◌, List, take, flat_map, ap, ◌∙◌}
 use Rattle.std.proofs.lemmas.List.{take_all}
 use Rattle.im_versions.specs.declared.versions.Version.{Version}
 use Rattle.im_sqlsound.specs.Stepping.{live_of}
-use Rattle.im_sql.proofs.HangLemmas.{flat-step}
+use Rattle.im_sqlsound.proofs.HangLemmas.{flat-step}
 use Rattle.im_sqlsound.proofs.own.push_own.Goals as goal
 
 pub loop-version-preserved : goal.loop-version-preserved

@@ -2,9 +2,9 @@ use Rattle.std.proofs.Common.{◌++◌, List, IfSome, take, ap, subst, ◌∙◌
 use Rattle.std.specs.List.{AllZip}
 use Rattle.im_versions.specs.declared.versions.Version.{Version}
 use Rattle.im_sqlmodel.specs.Rows.{IsStoredRow}
-use Rattle.im_sql.specs.Sounding.{NoneAreSaid}
+use Rattle.im_sqlsound.specs.Sounding.{NoneAreSaid}
 use Rattle.im_sqlsound.specs.Stepping.{live_own}
-use Rattle.im_sql.proofs.TestLemmas.{match-some}
+use Rattle.im_sqlsound.proofs.TestLemmas.{match-some}
 use Rattle.im_sqlsound.proofs.parts.own_rows.Goals as goal
 
 pub returns : goal.returns

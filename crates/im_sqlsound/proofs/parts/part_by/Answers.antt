@@ -5,10 +5,10 @@ use Rattle.im_versions.specs.declared.versions.Version.{Version}
 use Rattle.im_catalog.proofs.FoundLemmas.{if-ok}
 use Rattle.im_sqlmodel.specs.Kept.{IsTableOf}
 use Rattle.im_sqlmodel.specs.declared.tables.Table.{Table}
-use Rattle.im_sql.specs.Sounding.{SaysNoTable, IsTableVersion}
+use Rattle.im_sqlsound.specs.Sounding.{SaysNoTable, IsTableVersion}
 use Rattle.im_sqlsound.specs.Stepping.{IsPart, IsPartBy}
-use Rattle.im_sql.specs.declared.found.TableFound.{TableFound}
-use Rattle.im_sql.proofs.TestLemmas.{some-weaker}
+use Rattle.im_sqlsound.specs.declared.found.TableFound.{TableFound}
+use Rattle.im_sqlsound.proofs.TestLemmas.{some-weaker}
 use Rattle.im_sqlsound.proofs.parts.part_by.Goals as goal
 
 table-by : (history : List Transaction) (v : Version) (t : Table) → last_version history v.key ≡ Some v → v.deleted ≡ false → IsTableVersion v t → IsTableOf history t

@@ -4,8 +4,8 @@ use Rattle.im_versions.specs.Versions.{last_version, begins_with}
 use Rattle.im_versions.specs.declared.versions.Version.{Version}
 use Rattle.im_sqlmodel.specs.Keys.{table_prefix}
 use Rattle.im_sqlsound.specs.Stepping.{IsPartBy, AreParts}
-use Rattle.im_sql.specs.declared.found.TableFound.{TableFound}
-use Rattle.im_sql.proofs.TestLemmas.{some-weaker}
+use Rattle.im_sqlsound.specs.declared.found.TableFound.{TableFound}
+use Rattle.im_sqlsound.proofs.TestLemmas.{some-weaker}
 use Rattle.im_sqlsound.proofs.parts.parts_at.Goals as goal
 
 pub parts_said-requires-clause-front : goal.parts_said-requires-clause-front

@@ -5,7 +5,7 @@ use Rattle.im_versions.specs.declared.versions.Version.{Version}
 use Rattle.im_sqlmodel.specs.Keys.{table_prefix}
 use Rattle.im_catalog.proofs.ZipLemmas.{zip-more}
 use Rattle.im_sqlsound.specs.Stepping.{IsPartBy}
-use Rattle.im_sql.specs.declared.found.TableFound.{TableFound}
+use Rattle.im_sqlsound.specs.declared.found.TableFound.{TableFound}
 use Rattle.im_sqlsound.proofs.SayLemmas.{zip-whole}
 use Rattle.im_sqlsound.proofs.parts.parts_said.Goals as goal
 

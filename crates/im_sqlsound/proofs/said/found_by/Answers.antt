@@ -1,10 +1,10 @@
 use Rattle.std.proofs.Common.{◌≡◌, Option, MatchOption, sym, subst}
 use Rattle.im_catalog.proofs.FoundLemmas.{if-ok}
 use Rattle.im_sqlmodel.specs.declared.tables.Table.{Table}
-use Rattle.im_sql.specs.Sounding.{SaysNoTable, IsTableVersion, IsFound, IsFoundBy}
-use Rattle.im_sql.specs.declared.found.TableFound.{TableFound}
+use Rattle.im_sqlsound.specs.Sounding.{SaysNoTable, IsTableVersion, IsFound, IsFoundBy}
+use Rattle.im_sqlsound.specs.declared.found.TableFound.{TableFound}
 use Rattle.im_sqlsound.proofs.TablesLemmas.{one-version}
-use Rattle.im_sql.proofs.TestLemmas.{match-weaker}
+use Rattle.im_sqlsound.proofs.TestLemmas.{match-weaker}
 use Rattle.im_sqlsound.proofs.said.found_by.Goals as goal
 
 pub found_of-requires-clause-table : goal.found_of-requires-clause-table

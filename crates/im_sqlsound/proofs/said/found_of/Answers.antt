@@ -5,7 +5,7 @@ use Rattle.im_sqlmodel.specs.Rows.{IsIndexVersion, IsStoredRow}
 use Rattle.im_sqlmodel.specs.declared.rows.StoredRow.{StoredRow}
 use Rattle.im_sqlmodel.specs.declared.tables.SqlIndex.{SqlIndex}
 use Rattle.im_sqlmodel.specs.declared.tables.Table.{Table}
-use Rattle.im_sql.specs.Sounding.{under, NoneAreSaid}
+use Rattle.im_sqlsound.specs.Sounding.{under, NoneAreSaid}
 use Rattle.im_sqlsound.proofs.said.found_of.Goals as goal
 
 pub returns-in_default : goal.returns-in_default

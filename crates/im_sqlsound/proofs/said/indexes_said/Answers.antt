@@ -6,7 +6,7 @@ use Rattle.im_sqlmodel.specs.Keys.{index_prefix}
 use Rattle.im_sqlmodel.specs.Rows.{IsIndexVersion}
 use Rattle.im_sqlmodel.specs.declared.tables.SqlIndex.{SqlIndex}
 use Rattle.im_catalog.proofs.ZipLemmas.{zip-more}
-use Rattle.im_sql.specs.Sounding.{SaysNoIndex}
+use Rattle.im_sqlsound.specs.Sounding.{SaysNoIndex}
 use Rattle.im_sqlsound.proofs.SayLemmas.{zip-whole, zip-nothing}
 use Rattle.im_sqlsound.proofs.said.indexes_said.Goals as goal
 

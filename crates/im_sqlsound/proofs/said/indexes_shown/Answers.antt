@@ -7,7 +7,7 @@ use Rattle.im_catalog.proofs.FoundLemmas.{if-ok}
 use Rattle.im_sqlmodel.specs.Keys.{index_prefix}
 use Rattle.im_sqlmodel.specs.Rows.{IsIndexVersion}
 use Rattle.im_sqlmodel.specs.declared.tables.SqlIndex.{SqlIndex}
-use Rattle.im_sql.specs.Sounding.{under, NoneAreSaid}
+use Rattle.im_sqlsound.specs.Sounding.{under, NoneAreSaid}
 use Rattle.im_sqlsound.proofs.said.indexes_shown.Goals as goal
 
 pub indexes_said-requires-clause-front : goal.indexes_said-requires-clause-front

@@ -5,7 +5,7 @@ use Rattle.im_catalog.proofs.FoundLemmas.{if-ok}
 use Rattle.im_sqlmodel.specs.Keys.{rows_prefix}
 use Rattle.im_sqlmodel.specs.Rows.{IsStoredRow}
 use Rattle.im_sqlmodel.specs.declared.rows.StoredRow.{StoredRow}
-use Rattle.im_sql.specs.Sounding.{under, NoneAreSaid}
+use Rattle.im_sqlsound.specs.Sounding.{under, NoneAreSaid}
 use Rattle.im_sqlsound.proofs.said.rows_shown.Goals as goal
 
 pub returns : goal.returns

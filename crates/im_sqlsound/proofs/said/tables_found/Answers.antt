@@ -4,8 +4,8 @@ use Rattle.std.specs.List.{AllZip}
 use Rattle.im_versions.specs.Versions.{begins_with}
 use Rattle.im_versions.specs.declared.versions.Version.{Version}
 use Rattle.im_catalog.proofs.ZipLemmas.{zip-more}
-use Rattle.im_sql.specs.Sounding.{IsFoundBy}
-use Rattle.im_sql.specs.declared.found.TableFound.{TableFound}
+use Rattle.im_sqlsound.specs.Sounding.{IsFoundBy}
+use Rattle.im_sqlsound.specs.declared.found.TableFound.{TableFound}
 use Rattle.im_sqlsound.proofs.SayLemmas.{zip-whole, zip-nothing}
 use Rattle.im_sqlsound.proofs.TablesLemmas.{found-whole, found-zip}
 use Rattle.im_sqlsound.proofs.said.tables_found.Goals as goal

@@ -1,6 +1,6 @@
 use Rattle.std.proofs.Common.{take}
 use Rattle.std.specs.List.{AllZip}
-use Rattle.im_sql.specs.Sounding.{IsFoundBy}
+use Rattle.im_sqlsound.specs.Sounding.{IsFoundBy}
 use Rattle.im_sqlsound.proofs.said.tables_found.Given as goal
 
 -- the tables of the versions so far

@@ -1,7 +1,7 @@
 use Rattle.std.proofs.Common.{◌-◌, length, take, drop, rules}
 use Rattle.std.proofs.lemmas.List.Sorted.{IsPartitionPoint-from_clause}
 use Rattle.im_sqlsound.proofs.SayLemmas.{behind-all}
-use Rattle.im_sql.proofs.UnderLemmas.{is_before, is_under, parted-before, under-rest}
+use Rattle.im_sqlsound.proofs.UnderLemmas.{is_before, is_under, parted-before, under-rest}
 use Rattle.im_sqlsound.proofs.said.under.Goals as goal
 
 pub returns : goal.returns

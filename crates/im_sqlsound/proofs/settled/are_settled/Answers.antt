@@ -1,5 +1,5 @@
 use Rattle.std.specs.List.{IsAmong}
-use Rattle.im_sql.proofs.TestLemmas.{test-fails, test-holds, test-not, all-step, all-fails, all-end}
+use Rattle.im_sqlsound.proofs.TestLemmas.{test-fails, test-holds, test-not, all-step, all-fails, all-end}
 use Rattle.im_sqlsound.proofs.settled.are_settled.Goals as goal
 
 pub loop-version-preserved : goal.loop-version-preserved

@@ -3,9 +3,9 @@ use Rattle.std.proofs.lemmas.List.Sorted.{IsPartitionPoint-from_clause}
 use Rattle.std.specs.List.Sorted.{IsPartitionPoint}
 use Rattle.im_versions.specs.declared.versions.Version.{Version}
 use Rattle.im_plan.proofs.BestLemmas.{at-any}
-use Rattle.im_sql.proofs.HangLemmas.{among-at}
-use Rattle.im_sql.proofs.TestLemmas.{test-fails}
-use Rattle.im_sql.proofs.UnderLemmas.{is_before, parted-before}
+use Rattle.im_sqlsound.proofs.HangLemmas.{among-at}
+use Rattle.im_sqlsound.proofs.TestLemmas.{test-fails}
+use Rattle.im_sqlsound.proofs.UnderLemmas.{is_before, parted-before}
 use Rattle.im_sqlsound.proofs.settled.is_among.Goals as goal
 
 pub returns-then-at-shown : goal.returns-then-at-shown

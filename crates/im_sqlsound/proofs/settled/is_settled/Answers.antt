@@ -1,6 +1,6 @@
 use Rattle.std.proofs.Common.{All, sym, subst}
 use Rattle.std.specs.List.{IsAmong}
-use Rattle.im_sql.proofs.TestLemmas.{test-fails, test-not}
+use Rattle.im_sqlsound.proofs.TestLemmas.{test-fails, test-not}
 use Rattle.im_sqlsound.proofs.settled.is_settled.Goals as goal
 
 pub returns-then-not-are_settled : goal.returns-then-not-are_settled

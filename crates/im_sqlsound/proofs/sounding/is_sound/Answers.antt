@@ -2,8 +2,8 @@ use Rattle.std.proofs.Common.{◌≡◌, ◌+◌, ◌∷◌, [], true, Vec, Glob
 use Rattle.std.proofs.lemmas.Bool.{true≢false}
 use Rattle.im_sqlmodel.specs.Kept.{IsSqlSound}
 use Rattle.im_catalog.proofs.FoundLemmas.{if-ok}
-use Rattle.im_sql.specs.Sounding.{AreFound, NoneAreFound, Hang}
-use Rattle.im_sql.specs.declared.found.TableFound.{TableFound}
+use Rattle.im_sqlsound.specs.Sounding.{AreFound, NoneAreFound, Hang}
+use Rattle.im_sqlsound.specs.declared.found.TableFound.{TableFound}
 use Rattle.im_sqlsound.proofs.SoundLemmas.{settled-behind, judged-sound}
 use Rattle.im_sqlsound.proofs.JudgedLemmas.{sound-settled, sound-found, sound-hangs}
 use Rattle.im_sqlsound.proofs.sounding.is_sound.Goals as goal

@@ -1,4 +1,4 @@
-use Rattle.im_sql.proofs.TestLemmas.{test-holds}
+use Rattle.im_sqlsound.proofs.TestLemmas.{test-holds}
 use Rattle.im_sqlsound.proofs.sounding.is_sound_behind.Goals as goal
 
 pub returns-then-step : goal.returns-then-step

@@ -1,7 +1,7 @@
 use Rattle.std.proofs.Common.{◌≡◌, ◌<◌, ◌+◌, ◌-◌, ◌↔◌, ℕ, true, [], ◌∷◌, length, take, sym, subst, arith}
 use Rattle.im_versions.specs.Versions.{IsScan}
 use Rattle.im_sqlmodel.specs.Kept.{IsSqlSound}
-use Rattle.im_sql.specs.Sounding.{AreByNumber}
+use Rattle.im_sqlsound.specs.Sounding.{AreByNumber}
 use Rattle.im_sqlsound.proofs.sounding.is_sound_whole.Goals as goal
 
 pub returns : goal.returns

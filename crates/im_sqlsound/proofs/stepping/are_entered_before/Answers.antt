@@ -2,7 +2,7 @@ use Rattle.std.proofs.Common.{◌≡◌, ◌↔◌, true, Bool, All, take}
 use Rattle.im_catalog.proofs.FoundLemmas.{if-ok}
 use Rattle.im_versions.specs.declared.versions.Version.{Version}
 use Rattle.im_sqlsound.specs.Stepping.{AreOwnEntries, IsKnownKey}
-use Rattle.im_sql.proofs.TestLemmas.{test-none}
+use Rattle.im_sqlsound.proofs.TestLemmas.{test-none}
 use Rattle.im_sqlsound.proofs.stepping.are_entered_before.Goals as goal
 
 pub returns-then-not-known : goal.returns-then-not-known

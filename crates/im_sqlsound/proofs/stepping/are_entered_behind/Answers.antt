@@ -1,8 +1,8 @@
 use Rattle.std.proofs.Common.{◌≡◌, ◌↔◌, [], ◌∷◌, true, Bool, All, take}
 use Rattle.im_catalog.proofs.FoundLemmas.{if-ok}
-use Rattle.im_sql.specs.Sounding.{IsMarkShown}
+use Rattle.im_sqlsound.specs.Sounding.{IsMarkShown}
 use Rattle.im_sqlsound.specs.Stepping.{live_own, AreOwnEntries, AreMarked}
-use Rattle.im_sql.proofs.TestLemmas.{test-none}
+use Rattle.im_sqlsound.proofs.TestLemmas.{test-none}
 use Rattle.im_sqlsound.proofs.stepping.are_entered_behind.Goals as goal
 
 pub returns-then-not-marks : goal.returns-then-not-marks

@@ -1,8 +1,8 @@
 use Rattle.std.proofs.Common.{List, sym, subst}
 use Rattle.im_versions.specs.declared.versions.Version.{Version}
 use Rattle.im_sqlsound.specs.Stepping.{IsKnownKey}
-use Rattle.im_sql.specs.declared.found.TableFound.{TableFound}
-use Rattle.im_sql.proofs.TestLemmas.{test-fails, test-holds, test-not, all-step, all-fails, all-end}
+use Rattle.im_sqlsound.specs.declared.found.TableFound.{TableFound}
+use Rattle.im_sqlsound.proofs.TestLemmas.{test-fails, test-holds, test-not, all-step, all-fails, all-end}
 use Rattle.im_sqlsound.proofs.stepping.are_known.Goals as goal
 
 abbrev known : List TableFound → Version → Type 0

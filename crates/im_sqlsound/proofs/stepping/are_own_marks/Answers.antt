@@ -1,6 +1,6 @@
 use Rattle.std.proofs.Common.{◌≡◌, ◌↔◌, ◌++◌, [], ◌∷◌, true, List, All, take, ap, subst, ◌∙◌}
 use Rattle.im_versions.specs.declared.versions.Version.{Version}
-use Rattle.im_sql.specs.Sounding.{IsMarkShown}
+use Rattle.im_sqlsound.specs.Sounding.{IsMarkShown}
 use Rattle.im_sqlsound.specs.Stepping.{live_own}
 use Rattle.im_sqlsound.proofs.stepping.are_own_marks.Goals as goal
 

@@ -1,7 +1,7 @@
 use Rattle.std.proofs.Common.{Option, IfSome, Vec, Global, take, sym, subst}
 use Rattle.im_sqlsound.specs.Stepping.{AreParts}
-use Rattle.im_sql.specs.declared.found.TableFound.{TableFound}
-use Rattle.im_sql.proofs.TestLemmas.{test-none}
+use Rattle.im_sqlsound.specs.declared.found.TableFound.{TableFound}
+use Rattle.im_sqlsound.proofs.TestLemmas.{test-none}
 use Rattle.im_sqlsound.proofs.stepping.do_stand_behind.Goals as goal
 
 pub returns-in_default : goal.returns-in_default

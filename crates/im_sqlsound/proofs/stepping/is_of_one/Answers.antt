@@ -3,9 +3,9 @@ use Rattle.std.proofs.lemmas.Bool.{true≢false}
 use Rattle.im_versions.specs.Versions.{begins_with}
 use Rattle.im_versions.proofs.ListLemmas.{All-among}
 use Rattle.im_sqlmodel.specs.Keys.{rows_prefix}
-use Rattle.im_sql.specs.declared.found.TableFound.{TableFound}
-use Rattle.im_sql.proofs.HangLemmas.{at-among}
-use Rattle.im_sql.proofs.TestLemmas.{test-fails, test-holds, all-step, all-end}
+use Rattle.im_sqlsound.specs.declared.found.TableFound.{TableFound}
+use Rattle.im_sqlsound.proofs.HangLemmas.{at-among}
+use Rattle.im_sqlsound.proofs.TestLemmas.{test-fails, test-holds, all-step, all-end}
 use Rattle.im_sqlsound.proofs.stepping.is_of_one.Goals as goal
 
 abbrev differs : List ℕ → TableFound → Type 0

@@ -1,7 +1,7 @@
 use Rattle.std.proofs.Common.{◌≡◌, false, All, take}
 use Rattle.im_versions.specs.Versions.{begins_with}
 use Rattle.im_sqlmodel.specs.Keys.{rows_prefix}
-use Rattle.im_sql.specs.declared.found.TableFound.{TableFound}
+use Rattle.im_sqlsound.specs.declared.found.TableFound.{TableFound}
 use Rattle.im_sqlsound.proofs.stepping.is_of_one.Given as goal
 
 -- it is none's so far

@@ -3,7 +3,7 @@ use Rattle.im_catalog.proofs.FoundLemmas.{if-ok}
 use Rattle.im_sqlmodel.specs.Kept.{IsSqlSound}
 use Rattle.im_sqlsound.specs.Stepping.{StandsOf}
 use Rattle.im_sqlsound.proofs.OwnLemmas.{number-sound}
-use Rattle.im_sql.proofs.TestLemmas.{test-none}
+use Rattle.im_sqlsound.proofs.TestLemmas.{test-none}
 use Rattle.im_sqlsound.proofs.stepping.is_step.Goals as goal
 
 pub of_number-own-requires : goal.of_number-own-requires

@@ -22,10 +22,10 @@ use Rattle.im_plan.specs.Plans.{entry_kinds, IsEntryOfRow}
 use Rattle.im_plan.proofs.EntryRowLemmas.{one-index, prefix-cut}
 use Rattle.im_plan.proofs.KeyBehindLemmas.{plain-key, behind-front, primary-behind, plain-key-behind}
 use Rattle.im_plan.proofs.ReachLemmas.{entry-parts}
-use Rattle.im_sql.specs.Sounding.{entries_of}
-use Rattle.im_sql.specs.declared.found.TableFound.{TableFound}
-use Rattle.im_sql.proofs.AmongLemmas.{Differ, map-among, flat-among}
-use Rattle.im_sql.proofs.GroupLemmas.{all-both, apart-both}
+use Rattle.im_sqlsound.specs.Sounding.{entries_of}
+use Rattle.im_sqlsound.specs.declared.found.TableFound.{TableFound}
+use Rattle.im_sqlsound.proofs.AmongLemmas.{Differ, map-among, flat-among}
+use Rattle.im_sqlsound.proofs.GroupLemmas.{all-both, apart-both}
 use Rattle.im_sql.proofs.NextLemmas.{Apart, all-of}
 use Rattle.im_sql.proofs.WorkLemmas.{entry-alone}
 

@@ -33,16 +33,16 @@ use Rattle.im_plan.proofs.ReachLemmas.{entry-parts}
 use Rattle.im_sql.specs.Working.{holder}
 use Rattle.im_sql.specs.Writing.{written_at}
 use Rattle.im_sqlmodel.proofs.CarriedLemmas.{taken-front, push-grows}
-use Rattle.im_sql.proofs.EntryLemmas.{same-numbers, row-alone}
+use Rattle.im_sqlsound.proofs.EntryLemmas.{same-numbers, row-alone}
 use Rattle.im_sql.proofs.NextLemmas.{apart-from, apart-one, key_in, find-some}
 use Rattle.im_sql.proofs.PutLemmas.{either, put-at}
 use Rattle.im_sql.proofs.RowsLemmas.{Over as RowOver}
 use Rattle.im_sql.proofs.WorkLemmas.{index-of}
-use Rattle.im_sqlkept.proofs.BehindLemmas.{Once, version_by, last_behind, last-pushed, live-still, live-new, live-by, IsLiveBy}
-use Rattle.im_sqlkept.proofs.GuardLemmas.{guarded-same}
-use Rattle.im_sqlkept.proofs.HeldLemmas.{value_in, value-told, HeldOver, KeysApart, EntriesApart, IsRewritten, IsRowOfKinds, rewritten-first}
-use Rattle.im_sqlkept.proofs.StoodLemmas.{find-told, find-alone, find-other, none-some, second-of, stood-number, stood-row, row-stood, here, iid-at, none-behind}
-use Rattle.im_sqlkept.proofs.WrittenLemmas.{IsKeyOf, HasKey}
+use Rattle.im_sqlsound.proofs.BehindLemmas.{Once, version_by, last_behind, last-pushed, live-still, live-new, live-by, IsLiveBy}
+use Rattle.im_sqlsound.proofs.GuardLemmas.{guarded-same}
+use Rattle.im_sqlsound.proofs.HeldLemmas.{value_in, value-told, HeldOver, KeysApart, EntriesApart, IsRewritten, IsRowOfKinds, rewritten-first}
+use Rattle.im_sqlsound.proofs.StoodLemmas.{find-told, find-alone, find-other, none-some, second-of, stood-number, stood-row, row-stood, here, iid-at, none-behind}
+use Rattle.im_sqlsound.proofs.WrittenLemmas.{IsKeyOf, HasKey}
 
 -- ---- numbers, keys, values
 

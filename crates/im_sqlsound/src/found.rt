@@ -4,11 +4,11 @@ use sqlite_items::Items;
 
 /// A table with its indexes, by rising number, and its rows, by rising key.
 #[derive(Drop)]
-pub struct TableFound {
+pub(crate) struct TableFound {
     /// The table.
-    pub table: Table,
+    pub(crate) table: Table,
     /// Its indexes.
-    pub indexes: Items<SqlIndex>,
+    pub(crate) indexes: Items<SqlIndex>,
     /// Its rows.
-    pub rows: Items<StoredRow>,
+    pub(crate) rows: Items<StoredRow>,
 }

@@ -21,9 +21,9 @@ use Rattle.im_sqlmodel.specs.Kept.{IsSqlSound, IsSqlKept, IsFirstUnsound}
 use Rattle.im_sqlmodel.specs.Sorts.{put_sorted, sorted}
 use Rattle.im_sqlmodel.proofs.SortLemmas.{sorted-all}
 use Rattle.im_catalog.proofs.FrontLemmas.{among-kept, begins-from}
-use Rattle.im_sql.specs.Sounding.{AreByNumber}
+use Rattle.im_sqlsound.specs.Sounding.{AreByNumber}
 use Rattle.im_sqlmodel.proofs.CarriedLemmas.{SameLast, carried, begins-zero}
-use Rattle.im_sql.proofs.GroupLemmas.{apart-both}
+use Rattle.im_sqlsound.proofs.GroupLemmas.{apart-both}
 use Rattle.im_sql.proofs.NextLemmas.{Apart, all-of, all-put, all-kept, kept-apart, pairs-from}
 
 -- ---- filters

@@ -47,22 +47,22 @@ use Rattle.im_catalog.proofs.OneLemmas.{Answer}
 use Rattle.im_catalog.proofs.FrontLemmas.{among-kept}
 use Rattle.im_sql.proofs.AnswerLemmas.{refused}
 use Rattle.im_sql.specs.Writing.{written_at}
-use Rattle.im_sql.proofs.AmongLemmas.{among-map}
+use Rattle.im_sqlsound.proofs.AmongLemmas.{among-map}
 use Rattle.im_sqlmodel.proofs.CarriedLemmas.{taken-front, kept-push}
 use Rattle.im_sql.proofs.CountLemmas.{count-few, indexes-few}
 use Rattle.im_sql.proofs.CreateLemmas.{table-made, index-made}
-use Rattle.im_sql.proofs.HangLemmas.{nothing-of}
+use Rattle.im_sqlsound.proofs.HangLemmas.{nothing-of}
 use Rattle.im_sql.proofs.NextLemmas.{Apart, numbered-of}
 use Rattle.im_sql.proofs.ShortLemmas.{Below, put-rises}
 use Rattle.im_sql.proofs.WorkLemmas.{index-of}
-use Rattle.im_sqlkept.proofs.BehindLemmas.{Once}
-use Rattle.im_sqlkept.proofs.CreatedLemmas.{created-sound}
-use Rattle.im_sqlkept.proofs.GuardLemmas.{guarded-same}
-use Rattle.im_sqlkept.proofs.HeldLemmas.{rewritten-first}
-use Rattle.im_sqlkept.proofs.IndexedLemmas.{indexed-sound}
-use Rattle.im_sqlkept.proofs.RowsKeptLemmas.{rows-sound}
-use Rattle.im_sqlkept.proofs.StoodLemmas.{find-told}
-use Rattle.im_sqlkept.proofs.WrittenLemmas.{AreTaken, rows-given, rows-taken, rows-gone}
+use Rattle.im_sqlsound.proofs.BehindLemmas.{Once}
+use Rattle.im_sqlsound.proofs.CreatedLemmas.{created-sound}
+use Rattle.im_sqlsound.proofs.GuardLemmas.{guarded-same}
+use Rattle.im_sqlsound.proofs.HeldLemmas.{rewritten-first}
+use Rattle.im_sqlsound.proofs.IndexedLemmas.{indexed-sound}
+use Rattle.im_sqlsound.proofs.RowsKeptLemmas.{rows-sound}
+use Rattle.im_sqlsound.proofs.StoodLemmas.{find-told}
+use Rattle.im_sqlsound.proofs.WrittenLemmas.{AreTaken, rows-given, rows-taken, rows-gone}
 
 -- ---- answers
 

@@ -15,8 +15,8 @@ use Rattle.im_versions.proofs.ScanLemmas.{below-trans}
 use Rattle.im_sqltype.specs.Orders.{octets_cmp}
 use Rattle.im_catalog.proofs.FoundLemmas.{begins-is}
 use Rattle.im_catalog.proofs.FrontLemmas.{begins-from}
-use Rattle.im_sql.specs.Sounding.{under}
-use Rattle.im_sql.proofs.TurnLemmas.{take-filter}
+use Rattle.im_sqlsound.specs.Sounding.{under}
+use Rattle.im_sqlsound.proofs.TurnLemmas.{take-filter}
 
 pub is-less : (o : Ordering) → is_lt o ≡ true → o ≡ Less
 is-less Less e = refl

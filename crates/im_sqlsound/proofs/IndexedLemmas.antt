@@ -29,9 +29,9 @@ use Rattle.im_catalog.proofs.TableLemmas.{tid-cut}
 use Rattle.im_sql.specs.Writing.{written_at}
 use Rattle.im_sqlmodel.proofs.CarriedLemmas.{taken-front, push-grows}
 use Rattle.im_sql.proofs.WorkLemmas.{index-of}
-use Rattle.im_sqlkept.proofs.BehindLemmas.{Once, last_behind, last-pushed, live-still, live-new, live-by, IsLiveBy}
-use Rattle.im_sqlkept.proofs.GuardLemmas.{guarded-same}
-use Rattle.im_sqlkept.proofs.StoodLemmas.{among-low, row-stood, here, iid-at, none-behind}
+use Rattle.im_sqlsound.proofs.BehindLemmas.{Once, last_behind, last-pushed, live-still, live-new, live-by, IsLiveBy}
+use Rattle.im_sqlsound.proofs.GuardLemmas.{guarded-same}
+use Rattle.im_sqlsound.proofs.StoodLemmas.{among-low, row-stood, here, iid-at, none-behind}
 
 pub indexed-once : (t : Table) (i : SqlIndex) → Once (index_written t i)
 indexed-once t i = (tt, tt)

@@ -8,7 +8,7 @@ use Rattle.im_versions.specs.declared.versions.Version.{Version}
 use Rattle.im_versions.proofs.ListLemmas.{among-cons, among-first, among-rest}
 use Rattle.im_catalog.proofs.FoundLemmas.{begins-is}
 use Rattle.im_catalog.proofs.TableLemmas.{tid-cut}
-use Rattle.im_sql.specs.declared.found.TableFound.{TableFound}
+use Rattle.im_sqlsound.specs.declared.found.TableFound.{TableFound}
 use Rattle.im_sql.proofs.NextLemmas.{Apart, all-of}
 use Rattle.im_catalog.proofs.NumberLemmas.{unit_of}
 

@@ -30,13 +30,13 @@ use Rattle.im_sql.specs.Ranges.{IsInRange}
 use Rattle.im_sql.specs.Working.{holder, IsWrittenRow}
 use Rattle.im_sql.specs.Writing.{written_at}
 use Rattle.im_plan.proofs.EntryRowLemmas.{bytes-flip}
-use Rattle.im_sql.proofs.EntryLemmas.{plain-alone}
-use Rattle.im_sql.proofs.GroupLemmas.{all-both}
+use Rattle.im_sqlsound.proofs.EntryLemmas.{plain-alone}
+use Rattle.im_sqlsound.proofs.GroupLemmas.{all-both}
 use Rattle.im_sql.proofs.NextLemmas.{Apart, apart-from, pairs-from, all-kept, kept-apart, none-found, find-some, AreNumbered, key_in, any-false, any-own, entry-no-row, or-none, map-none, free-from}
 use Rattle.im_sql.proofs.PutLemmas.{either, put-at}
 use Rattle.im_sql.proofs.RowsLemmas.{Over as RowOver}
 use Rattle.im_sql.proofs.ShortLemmas.{Below, faultless, put-each, put-rises, work-is}
-use Rattle.im_sqlkept.proofs.HeldLemmas.{HeldOver, IsHeld, KeysApart, EntriesApart, IsRewritten, IsRowOfKinds, plain-free, rewritten-next}
+use Rattle.im_sqlsound.proofs.HeldLemmas.{HeldOver, IsHeld, KeysApart, EntriesApart, IsRewritten, IsRowOfKinds, plain-free, rewritten-next}
 
 -- ---- keys, in rising order
 

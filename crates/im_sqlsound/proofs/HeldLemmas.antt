@@ -20,7 +20,7 @@ use Rattle.im_sqlmodel.specs.declared.tables.Table.{Table}
 use Rattle.im_sqlmodel.specs.declared.written.Written.{Written}
 use Rattle.im_sql.specs.Working.{holder, IsRowOver}
 use Rattle.im_sql.specs.Writing.{written_at}
-use Rattle.im_sql.proofs.EntryLemmas.{plain-alone, row-alone}
+use Rattle.im_sqlsound.proofs.EntryLemmas.{plain-alone, row-alone}
 use Rattle.im_sql.proofs.NextLemmas.{AreNumbered, key_in, IsFree, all-put, all-kept, none-found, find-some, at-written, at-dropped, keys-apart, entries-apart, holder-own, holder-past, left-all, left-old, gone-old}
 use Rattle.im_sql.proofs.PutLemmas.{either, row-put}
 use Rattle.im_sql.proofs.RowsLemmas.{row-over}

@@ -25,7 +25,7 @@ use Rattle.im_sqlmodel.proofs.OnceLemmas.{value-live, one-count}
 use Rattle.im_catalog.specs.Parts.{HasParts}
 use Rattle.im_catalog.proofs.FoundLemmas.{entry-is}
 use Rattle.im_catalog.proofs.TableLemmas.{one-table, table-read, tid-cut}
-use Rattle.im_sqlkept.proofs.BehindLemmas.{written_at, Once, last_behind, last-pushed, live-still, live-new, live-by, IsLiveBy}
+use Rattle.im_sqlsound.proofs.BehindLemmas.{written_at, Once, last_behind, last-pushed, live-still, live-new, live-by, IsLiveBy}
 use Rattle.im_sql.specs.Writing.{table_entries}
 use Rattle.im_sqlmodel.proofs.CarriedLemmas.{taken-front, push-grows}
 

@@ -16,7 +16,7 @@ use Rattle.im_sqlmodel.specs.declared.rows.StoredRow.{StoredRow}
 use Rattle.im_sqlmodel.specs.declared.tables.SqlIndex.{SqlIndex}
 use Rattle.im_sqlmodel.specs.declared.tables.Table.{Table}
 use Rattle.im_sqlmodel.specs.declared.written.Written.{Written}
-use Rattle.im_sql.specs.declared.found.TableFound.{TableFound}
+use Rattle.im_sqlsound.specs.declared.found.TableFound.{TableFound}
 
 -- the versions whose keys have this octet behind 00
 abbrev pub kind_shown : ℕ → List Version → List Version

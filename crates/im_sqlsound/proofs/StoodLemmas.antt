@@ -31,8 +31,8 @@ use Rattle.im_plan.proofs.EntryRowLemmas.{text-same}
 use Rattle.im_sql.specs.Writing.{written_at}
 use Rattle.im_sql.proofs.LookLemmas.{number-some}
 use Rattle.im_sql.proofs.NextLemmas.{Apart, kept-apart, find-none, find-some}
-use Rattle.im_sql.proofs.NumberLemmas.{index-less, at-place}
-use Rattle.im_sql.proofs.TurnLemmas.{Rises, from-rises}
+use Rattle.im_sqlsound.proofs.NumberLemmas.{index-less, at-place}
+use Rattle.im_sqlsound.proofs.TurnLemmas.{Rises, from-rises}
 use Rattle.im_sql.proofs.WorkLemmas.{index-of, row-of}
 
 -- ---- what is found in a list

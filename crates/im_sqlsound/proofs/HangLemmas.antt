@@ -16,10 +16,10 @@ use Rattle.im_sqlmodel.specs.Keys.{tables_key}
 use Rattle.im_sqlmodel.specs.declared.tables.SqlIndex.{SqlIndex}
 use Rattle.im_sqlmodel.specs.declared.written.Written.{Written}
 use Rattle.im_plan.proofs.BestLemmas.{at-any}
-use Rattle.im_sql.specs.Sounding.{under, IsCountShown, AreGapless, AreUpTo, said_by}
-use Rattle.im_sql.specs.declared.found.TableFound.{TableFound}
-use Rattle.im_sql.proofs.TestLemmas.{all-step}
-use Rattle.im_sql.proofs.UnderLemmas.{is_before, is-less}
+use Rattle.im_sqlsound.specs.Sounding.{under, IsCountShown, AreGapless, AreUpTo, said_by}
+use Rattle.im_sqlsound.specs.declared.found.TableFound.{TableFound}
+use Rattle.im_sqlsound.proofs.TestLemmas.{all-step}
+use Rattle.im_sqlsound.proofs.UnderLemmas.{is_before, is-less}
 
 -- ---- a version among those of rising keys
 
@@ -236,13 +236,6 @@ module _ (tx : ℕ) where
       (λ m. number-among vs from count few point inner v m, λ m. among-number vs from count few point inner v m.0 m.1))
 
 -- ---- what is put behind
-
-pub map-step : {A B : Type 0} (f : A → B) (xs : List A) (i : ℕ) (x : A) (old now new : List B) → i < length xs → x ≡ get_or xs i x → now ≡ old ++ map f (take i xs) → new ≡ now ++ f x ∷ []
-    → new ≡ old ++ map f (take (i + 1) xs)
-map-step {A} {B} f xs i x old now new l is before after =
-    after ∙ ap (λ (ys : List B). ys ++ f x ∷ []) before ∙ append_assoc old (map f (take i xs)) (f x ∷ [])
-    ∙ ap (λ (ys : List B). old ++ ys)
-    (sym (ap (map f) (take_more xs i x l) ∙ map-append f (take i xs) (get_or xs i x ∷ []) ∙ ap (λ (y : A). map f (take i xs) ++ f y ∷ []) (sym is)))
 
 pub flat-step : {A B : Type 0} (f : A → List B) (xs : List A) (i : ℕ) (x : A) (old now new : List B) → i < length xs → x ≡ get_or xs i x → now ≡ old ++ flat_map f (take i xs) → new ≡ now ++ f x
     → new ≡ old ++ flat_map f (take (i + 1) xs)

@@ -1,9 +1,0 @@
-pub mod BehindLemmas
-pub mod GuardLemmas
-pub mod CreatedLemmas
-pub mod HeldLemmas
-pub mod WrittenLemmas
-pub mod StoodLemmas
-pub mod IndexedLemmas
-pub mod RowsKeptLemmas
-pub mod StatementLemmas
